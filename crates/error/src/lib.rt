@@ -1,0 +1,103 @@
+// Error words: `Error::mux` and `Error::demux` (syscall/src/error.rs, lines 15 to 29).
+ghost use mathlib.Core.Path.{_≡_};
+ghost use Prim.Native.Nat.{_%_};
+ghost use Rattle.error.specs.Reference.{asI32, asUsize, negI32};
+ghost use Rattle.error.specs.Errors.{demuxOf, muxOf, resultAnswer};
+
+// Line 81.
+pub const EINVAL: u64 = 22;
+
+pub struct Error {
+    pub errno: i32,
+}
+
+// The Rust's `Result<usize>`.
+pub enum Result {
+    Ok(u64),
+    Err(Error),
+}
+
+// `STR_ERROR.len()`: line 193.
+const STR_ERROR_LEN: i32 = 133;
+
+// `word as i32`.
+fn as_i32(word: u64) -> i32
+    ensures { λ r. ⌜ r ≡ asI32 word ⌝ }
+{
+    let low = (word % 0x1_0000_0000) as u32;
+    if low < 0x8000_0000 {
+        return low as i32;
+    }
+    let k = (0xffff_ffff - low) as i32;
+    -1 - k
+}
+
+// `-n`, with the lowest value apart: it has no counterpart and stays what it is.
+fn negated(n: i32) -> i32
+    ensures { λ r. ⌜ r ≡ negI32 n ⌝ }
+{
+    if n == -0x8000_0000 {
+        return n;
+    }
+    -n
+}
+
+// `n as usize`: the sign is extended.
+fn as_usize(n: i32) -> u64
+    ensures { λ r. ⌜ r ≡ asUsize n ⌝ }
+{
+    if 0 <= n {
+        return n as u64;
+    }
+    let k = -1 - n;
+    0xffff_ffff_ffff_ffff - (k as u64)
+}
+
+impl Result {
+    // 01's number: 0 for a success, else the errno.
+    pub fn number(self) -> u64
+        ensures { λ r. ⌜ r ≡ resultAnswer self .number ⌝ }
+    {
+        match self {
+            Result::Ok(_) => 0,
+            Result::Err(error) => error.number(),
+        }
+    }
+}
+
+impl Error {
+    fn number(self) -> u64
+        ensures { λ r. ⌜ r ≡ asUsize (self .errno) ⌝ }
+    {
+        as_usize(self.errno)
+    }
+
+    // `-errno as usize`.
+    fn word(self) -> u64
+        ensures { λ r. ⌜ r ≡ asUsize (negI32 (self .errno)) ⌝ }
+    {
+        as_usize(negated(self.errno))
+    }
+
+    pub fn mux(result: Result) -> u64
+        ensures { λ r. ⌜ r ≡ muxOf result ⌝ }
+    {
+        match result {
+            Result::Ok(value) => value,
+            Result::Err(error) => error.word(),
+        }
+    }
+
+    pub fn demux(value: u64) -> Result
+        ensures { λ r. ⌜ r ≡ demuxOf value ⌝ }
+    {
+        let errno = negated(as_i32(value));
+        if errno < 1 {
+            return Result::Ok(value);
+        }
+        if STR_ERROR_LEN <= errno {
+            return Result::Ok(value);
+        }
+        Result::Err(Error { errno })
+    }
+}

@@ -1,0 +1,21 @@
+-- Flag bits and masks of the commit, and when bits lie within a mask.
+use mathlib.Core.Bool.{Bool}
+use Prim.Native.Nat.{ℕ, _+_}
+use lib.Bits.{bitAnd}
+use lib.Dec.{eqb}
+
+-- `from_bits` of the bitflags crate: no bit of x lies outside the mask
+abbrev pub within : ℕ → ℕ → Bool
+within mask x = eqb (bitAnd mask x) x
+
+-- `EventFlags`: syscall/src/flag.rs, lines 46 to 53
+abbrev pub eventFlags : ℕ
+eventFlags = 1 + 2 + 4 + 8 + 16
+
+-- `FobtainFdFlags`: syscall/src/flag.rs, lines 83 to 97
+abbrev pub fobtainFdFlags : ℕ
+fobtainFdFlags = 1 + 2 + 4 + 8
+
+-- `NewFdFlags`: syscall/src/schemev2.rs, lines 79 to 81
+abbrev pub newFdFlags : ℕ
+newFdFlags = 1

@@ -1,0 +1,58 @@
+// Flag bits and masks of the commit. A set of bits is known where no bit lies outside its mask, as `from_bits` has it.
+ghost use mathlib.Core.Path.{_≡_};
+ghost use Rattle.flag.specs.Flags.{within, eventFlags, fobtainFdFlags, newFdFlags};
+
+// `EventFlags`: syscall/src/flag.rs, lines 46 to 53.
+pub const EVENT_READ: u64 = 1;
+
+pub const EVENT_WRITE: u64 = 2;
+
+pub const EVENT_HUP: u64 = 4;
+
+pub const EVENT_ERR: u64 = 8;
+
+pub const EVENT_NVAL: u64 = 16;
+
+const EVENT_FLAGS: u64 = EVENT_READ | EVENT_WRITE | EVENT_HUP | EVENT_ERR | EVENT_NVAL;
+
+pub fn event_flags_known(bits: u64) -> bool
+    ensures { λ r. ⌜ r ≡ within eventFlags bits ⌝ }
+{
+    EVENT_FLAGS & bits == bits
+}
+
+// `FobtainFdFlags`: syscall/src/flag.rs, lines 83 to 97.
+pub const FOBTAIN_MANUAL_FD: u64 = 1;
+
+pub const FOBTAIN_EXCLUSIVE: u64 = 2;
+
+pub const FOBTAIN_UPPER_TBL: u64 = 4;
+
+pub const FOBTAIN_CLOEXEC: u64 = 8;
+
+const FOBTAIN_FD_FLAGS: u64 = FOBTAIN_MANUAL_FD
+    | FOBTAIN_EXCLUSIVE
+    | FOBTAIN_UPPER_TBL
+    | FOBTAIN_CLOEXEC;
+
+pub fn fobtain_fd_flags_known(bits: u64) -> bool
+    ensures { λ r. ⌜ r ≡ within fobtainFdFlags bits ⌝ }
+{
+    FOBTAIN_FD_FLAGS & bits == bits
+}
+
+// `NewFdFlags`: syscall/src/schemev2.rs, lines 79 to 81.
+pub const NEW_FD_POSITIONED: u64 = 1;
+
+const NEW_FD_FLAGS: u64 = NEW_FD_POSITIONED;
+
+pub fn new_fd_flags_known(bits: u64) -> bool
+    ensures { λ r. ⌜ r ≡ within newFdFlags bits ⌝ }
+{
+    NEW_FD_FLAGS & bits == bits
+}
+
+// `SqeFlags`: syscall/src/schemev2.rs, lines 45 to 53.
+pub const SQE_ONEWAY: u8 = 1;
+
+pub const SQE_MULTIPLE_IDS: u8 = 2;
