@@ -1,13 +1,16 @@
--- 01's number and values of an answer: 0 and its values for a success, the refusal's number and no value else.
-use mathlib.Core.List.{List, [], _∷_}
+-- 01's number and values of an answer: a success has its values, a refusal its number.
+use mathlib.Core.List.{List, []}
 use Prim.Native.Nat.{ℕ}
 
-pub record Answer : Type 0 where
-  pub number : ℕ
-  pub values : List ℕ
+pub data Answer : Type 0 where
+  success : List ℕ → Answer
+  refused : ℕ → Answer
 
-abbrev pub success : List ℕ → Answer
-success vs = record { number = 0; values = vs }
+-- the refusal's number, 0 for a success
+abbrev pub numberOf : Answer → ℕ
+numberOf (success vs) = 0
+numberOf (refused n) = n
 
-abbrev pub refused : ℕ → Answer
-refused n = record { number = n; values = [] }
+abbrev pub valuesOf : Answer → List ℕ
+valuesOf (success vs) = vs
+valuesOf (refused n) = []

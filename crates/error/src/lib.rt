@@ -1,6 +1,7 @@
 // Error words: `Error::mux` and `Error::demux` (syscall/src/error.rs, lines 15 to 29).
 ghost use mathlib.Core.Path.{_≡_};
 ghost use Prim.Native.Nat.{_%_};
+ghost use Rattle.answer.specs.Answer.{numberOf};
 ghost use Rattle.error.specs.Reference.{asI32, asUsize, negI32};
 ghost use Rattle.error.specs.Errors.{demuxOf, muxOf, resultAnswer};
 
@@ -56,7 +57,7 @@ fn as_usize(n: i32) -> u64
 impl Result {
     // 01's number: 0 for a success, else the errno.
     pub fn number(self) -> u64
-        ensures { λ r. ⌜ r ≡ resultAnswer self .number ⌝ }
+        ensures { λ r. ⌜ r ≡ numberOf (resultAnswer self) ⌝ }
     {
         match self {
             Result::Ok(_) => 0,

@@ -19,3 +19,10 @@ fobtainFdFlags = 1 + 2 + 4 + 8
 -- `NewFdFlags`: syscall/src/schemev2.rs, lines 79 to 81
 abbrev pub newFdFlags : ℕ
 newFdFlags = 1
+
+-- `SqeFlags`: syscall/src/schemev2.rs, lines 45 to 53
+abbrev pub sqeOneway : ℕ
+sqeOneway = 1
+
+abbrev pub sqeMultipleIds : ℕ
+sqeMultipleIds = 2

@@ -1,6 +1,7 @@
 -- Each way through the code gives the definition's case. Assumes nothing.
 use mathlib.Core.Path.{_≡_, sym, ap, _∙_}
 use Prim.Native.Nat.{ℕ}
+use Rattle.answer.specs.Answer.{numberOf}
 use Rattle.error.specs.declared.Error.{Error}
 use Rattle.error.specs.declared.Result.{Result}
 use Rattle.error.specs.declared.Result.the-variants as result
@@ -19,11 +20,11 @@ result-is r q x p e = p ∙ ap shownResult (sym e)
 
 pub err-is :
     (r : Result) (e : Error) (n : ℕ)
-    → n ≡ resultAnswer r .number → r ≡ result.Err e
+    → n ≡ numberOf (resultAnswer r) → r ≡ result.Err e
     → _≡_ {A = Shown} (record { word = word.Err; value = n }) (shownResult r)
 err-is r e n p q =
     result-is r (result.Err e) (record { word = word.Err; value = n })
-    (ap (λ (m : ℕ). record { word = word.Err; value = m }) (p ∙ ap (λ (o : Result). resultAnswer o .number) q)) q
+    (ap (λ (m : ℕ). record { word = word.Err; value = m }) (p ∙ ap (λ (o : Result). numberOf (resultAnswer o)) q)) q
 
 pub shown-is : (p q : ParsedCqe) (w : ℕ) (x : Shown) → x ≡ shownOf q w → p ≡ q → x ≡ shownOf p w
 shown-is p q w x s e = s ∙ ap (λ (r : ParsedCqe). shownOf r w) (sym e)

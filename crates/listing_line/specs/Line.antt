@@ -1,6 +1,7 @@
 -- The fields of one line of the listing (01, "Marked values"): kind, tag, word, value, extra as one number.
 use mathlib.Core.List.{List}
 use Prim.Native.Nat.{ℕ}
+use Rattle.answer.specs.Answer.{numberOf}
 use Rattle.error.specs.declared.Result.{Result}
 use Rattle.error.specs.declared.Result.the-variants as result
 use Rattle.error.specs.Errors.{resultAnswer}
@@ -16,11 +17,11 @@ use Rattle.listing_line.specs.declared.Word.the-variants as word
 -- ok or err for the kinds 0 and 5
 abbrev pub shownResult : Result → Shown
 shownResult (result.Ok w) = record { word = word.Ok; value = w }
-shownResult (result.Err e) = record { word = word.Err; value = resultAnswer (result.Err e) .number }
+shownResult (result.Err e) = record { word = word.Err; value = numberOf (resultAnswer (result.Err e)) }
 
 -- bad for a refused entry, with the refusal's number
 abbrev pub badOf : ParsedCqe → Shown
-badOf p = record { word = word.Bad; value = parsedAnswer p .number }
+badOf p = record { word = word.Bad; value = numberOf (parsedAnswer p) }
 
 -- num otherwise, with the result word
 abbrev pub numOf : ℕ → Shown

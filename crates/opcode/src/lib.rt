@@ -1,5 +1,6 @@
 // The opcodes of submission entries: `Opcode::try_from_raw` (syscall/src/schemev2.rs, lines 126 to 212).
 ghost use mathlib.Core.Path.{_≡_};
+ghost use Rattle.answer.specs.Answer.{numberOf};
 ghost use Rattle.opcode.specs.Opcodes.{opcodeOf, opcodeAnswer};
 
 // The Rust's `enum Opcode`, in its order.
@@ -60,7 +61,7 @@ pub fn try_from_raw(raw: u64) -> RawOpcode
 impl RawOpcode {
     // 01's number: 0 for an opcode, 205 for a number that names none.
     pub fn number(self) -> u64
-        ensures { λ r. ⌜ r ≡ opcodeAnswer self .number ⌝ }
+        ensures { λ r. ⌜ r ≡ numberOf (opcodeAnswer self) ⌝ }
     {
         match self {
             RawOpcode::Opcode(_) => 0,

@@ -3,7 +3,7 @@
 use mathlib.Core.Bool.{Bool, true, false}
 use mathlib.Core.List.{List, [], _∷_, _++_}
 use Prim.Native.Nat.{ℕ}
-use Rattle.answer.specs.Answer.{Answer, success, refused}
+use Rattle.answer.specs.Answer.{Answer, success, refused, numberOf, valuesOf}
 use Rattle.error.specs.Errors.{demuxOf, resultAnswer}
 use Rattle.flag.specs.Flags.{within, eventFlags, fobtainFdFlags}
 use Rattle.ids.specs.declared.Tag.{Tag}
@@ -52,11 +52,11 @@ parsedOf e = parsedBy (cqeOpcodeOf (kindOf e)) e
 -- 01's number and values of each case, a result by its own number and values
 abbrev pub parsedAnswer : ParsedCqe → Answer
 parsedAnswer (parsed.TriggerFevent number flags) = success (number ∷ flags ∷ [])
-parsedAnswer (parsed.RegularResponse t r x) = success (t .0 ∷ resultAnswer r .number ∷ resultAnswer r .values ++ x ∷ [])
+parsedAnswer (parsed.RegularResponse t r x) = success (t .0 ∷ numberOf (resultAnswer r) ∷ valuesOf (resultAnswer r) ++ x ∷ [])
 parsedAnswer (parsed.ResponseWithFd t h) = success (t .0 ∷ h .0 ∷ [])
 parsedAnswer (parsed.ResponseWithMultipleFds t n) = success (t .0 ∷ n ∷ [])
 parsedAnswer (parsed.ObtainFd t flags h) = success (t .0 ∷ flags ∷ h .0 ∷ [])
-parsedAnswer (parsed.RespondAndNotifyOnDetach t r x) = success (t .0 ∷ resultAnswer r .number ∷ resultAnswer r .values ++ x ∷ [])
+parsedAnswer (parsed.RespondAndNotifyOnDetach t r x) = success (t .0 ∷ numberOf (resultAnswer r) ∷ valuesOf (resultAnswer r) ++ x ∷ [])
 parsedAnswer parsed.UnknownKind = refused 22
 parsedAnswer parsed.UnknownEventFlags = refused 22
 parsedAnswer parsed.UnknownObtainFlags = refused 22

@@ -7,6 +7,7 @@ use ids::Tag;
 use schemev2::Cqe;
 use schemev2::CqeOpcode;
 ghost use mathlib.Core.Path.{_≡_};
+ghost use Rattle.answer.specs.Answer.{numberOf};
 ghost use Rattle.parse_cqe.specs.Parsed.{parsedOf, eventOf, obtainOf, parsedAnswer};
 
 // What an entry asks for, or why it is refused. No completion kind leads to the Rust's `ProvideMmap`.
@@ -106,7 +107,7 @@ pub fn parse_cqe(cqe: Cqe) -> ParsedCqe
 impl ParsedCqe {
     // 01's number: 0 for an entry that is taken, else the refusal's.
     pub fn number(self) -> u64
-        ensures { λ r. ⌜ r ≡ parsedAnswer self .number ⌝ }
+        ensures { λ r. ⌜ r ≡ numberOf (parsedAnswer self) ⌝ }
     {
         match self {
             ParsedCqe::TriggerFevent {
