@@ -35,7 +35,7 @@ place : (m lo d hi x : ℕ) → lo < m → d < 256 → x ≡ (hi * 256 + d) * m 
 place m lo d hi x l h e = ap (λ (y : ℕ). y / m % 256) e ∙ ap (λ (y : ℕ). y % 256) (digits-div (hi * 256 + d) l) ∙ digits-mod hi h
 
 -- four bytes in a sum, whatever stands above them
-four :
+pub four :
     (a b c d q : ℕ) → a < 256 → b < 256 → c < 256 → d < 256
     → bytes4 (a + b * 0x100 + c * 0x1_0000 + d * 0x100_0000 + q * 0x1_0000_0000) ≡ a ∷ b ∷ c ∷ d ∷ []
 four a b c d q ha hb hc hd =
@@ -45,6 +45,10 @@ four a b c d q ha hb hc hd =
     let p₂ : x / 0x1_0000 % 256 ≡ c = place 0x1_0000 (a + b * 0x100) c (d + q * 0x100) x (omega arith) hc (omega arith) in
     let p₃ : x / 0x100_0000 % 256 ≡ d = place 0x100_0000 (a + b * 0x100 + c * 0x1_0000) d q x (omega arith) hd (omega arith) in
     cc
+
+-- what stands above the low four bytes
+pub above : (s q : ℕ) → s < 0x1_0000_0000 → (s + q * 0x1_0000_0000) / 0x1_0000_0000 ≡ q
+above s q h = omega arith
 
 module _ (l : List ℕ) (small : (i : ℕ) → byte l i < 256) where
   abbrev fourAt : ℕ → List ℕ
@@ -60,10 +64,4 @@ module _ (l : List ℕ) (small : (i : ℕ) → byte l i < 256) where
   bytes4-half k = ap bytes4 (omega arith) ∙ low4 k 0
 
   pub bytes8-word : (k : ℕ) → bytes8 (word l k) ≡ fourAt k ++ fourAt (k + 4)
-  bytes8-word k = ap₂ (λ (s t : List ℕ). s ++ t) (low4 k (half l (k + 4))) (ap bytes4 upper ∙ bytes4-half (k + 4))
-    where
-      upper : word l k / 0x1_0000_0000 ≡ half l (k + 4)
-      upper = above (half l k) (half l (k + 4)) (half-lt k)
-        where
-          above : (s q : ℕ) → s < 0x1_0000_0000 → (s + q * 0x1_0000_0000) / 0x1_0000_0000 ≡ q
-          above s q h = omega arith
+  bytes8-word k = ap₂ (λ (s t : List ℕ). s ++ t) (low4 k (half l (k + 4))) (ap bytes4 (above (half l k) (half l (k + 4)) (half-lt k)) ∙ bytes4-half (k + 4))

@@ -19,3 +19,8 @@ bytes4 x = x % 256 ∷ x / 0x100 % 256 ∷ x / 0x1_0000 % 256 ∷ x / 0x100_0000
 
 abbrev pub bytes8 : ℕ → List ℕ
 bytes8 x = bytes4 x ++ bytes4 (x / 0x1_0000_0000)
+
+-- the bytes of words in turn
+abbrev pub bytesOf : List ℕ → List ℕ
+bytesOf [] = []
+bytesOf (w ∷ ws) = bytes8 w ++ bytesOf ws

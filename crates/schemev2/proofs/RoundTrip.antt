@@ -1,14 +1,14 @@
 -- Decode of encode is the entry, and encode of decode is the same bytes, the reserved ones zero. Assumes nothing.
 use mathlib.Core.Path.{_≡_, refl, sym, ap, ap₂, _∙_}
 use mathlib.Core.List.{List, [], _∷_, _++_}
-use Prim.Native.Nat.{ℕ, zero, suc, _+_, _<_}
+use Prim.Native.Nat.{ℕ, zero, suc, _+_, _*_, _/_, _<_}
 use native.Mathlib.Nat.{add-zero, add-suc, le-of-eq}
 use native.Mathlib.Omega.{arith}
 use lib.ListN.{length, drop, getD, set, drop-of-length-le}
 use lib.Seq.{drop-cons}
-use Rattle.le.specs.Le.{byte}
-use Rattle.le.proofs.Digits.{half-bytes4, word-bytes8, bytes4-half, bytes8-word}
-use Rattle.schemev2.specs.Entry.{sqeOf, sqeBytes, cqeOf, cqeBytes}
+use Rattle.le.specs.Le.{byte, bytes4, bytes8, bytesOf}
+use Rattle.le.proofs.Digits.{half-bytes4, word-bytes8, bytes4-half, bytes8-word, four, above}
+use Rattle.schemev2.specs.Entry.{sqeOf, sqeBytes, sqeWords, cqeOf, cqeBytes}
 use Rattle.schemev2.specs.declared.Args.{Args}
 use Rattle.schemev2.specs.declared.Sqe.{Sqe}
 use Rattle.schemev2.specs.declared.Cqe.{Cqe}
@@ -78,3 +78,16 @@ pub sqe-encoded : (l : List ℕ) → length l ≡ 64 → AllBytes l → sqeBytes
 sqe-encoded l e small =
     (λ i. (byte l 0 ∷ byte l 1 ∷ 0 ∷ 0 ∷ bytes4-half l small 4 i) ++ bytes8-word l small 8 i ++ bytes8-word l small 16 i ++ bytes8-word l small 24 i ++ bytes8-word l small 32 i ++ bytes8-word l small 40 i ++ bytes8-word l small 48 i ++ bytes8-word l small 56 i)
     ∙ ap (λ (m : List ℕ). set (set m 2 0) 3 0) (sym (spelt 64 0 l e))
+
+-- the words of an entry are its bytes
+pub sqe-words : (e : Sqe) → e .opcode < 256 → e .«sqe_flags» < 256 → e .tag < 0x1_0000_0000 → bytesOf (sqeWords e) ≡ sqeBytes e
+sqe-words e o f t =
+    λ i. (low i ++ high i)
+    ++ bytes8 (e .args .0) ++ bytes8 (e .args .1) ++ bytes8 (e .args .2)
+    ++ bytes8 (e .args .3) ++ bytes8 (e .args .4) ++ bytes8 (e .args .5) ++ bytes8 (e .caller)
+  where
+    low : bytes4 (e .opcode + e .«sqe_flags» * 0x100 + e .tag * 0x1_0000_0000) ≡ e .opcode ∷ e .«sqe_flags» ∷ 0 ∷ 0 ∷ []
+    low = ap bytes4 (omega arith) ∙ four (e .opcode) (e .«sqe_flags») 0 0 (e .tag) o f (omega arith) (omega arith)
+
+    high : bytes4 ((e .opcode + e .«sqe_flags» * 0x100 + e .tag * 0x1_0000_0000) / 0x1_0000_0000) ≡ bytes4 (e .tag)
+    high = ap bytes4 (above (e .opcode + e .«sqe_flags» * 0x100) (e .tag) (omega arith))

@@ -28,6 +28,19 @@ sqeBytes e =
     ++ bytes8 (e .args .0) ++ bytes8 (e .args .1) ++ bytes8 (e .args .2)
     ++ bytes8 (e .args .3) ++ bytes8 (e .args .4) ++ bytes8 (e .args .5) ++ bytes8 (e .caller)
 
+-- the same 64 bytes as eight words
+abbrev pub sqeWords : Sqe → List ℕ
+sqeWords e =
+    (e .opcode + e .«sqe_flags» * 0x100 + e .tag * 0x1_0000_0000)
+    ∷ e .args .0
+    ∷ e .args .1
+    ∷ e .args .2
+    ∷ e .args .3
+    ∷ e .args .4
+    ∷ e .args .5
+    ∷ e .caller
+    ∷ []
+
 -- completion, 16 bytes: flags 0, extra 1-3, tag 4-7, result 8-15
 abbrev pub cqeOf : List ℕ → Cqe
 cqeOf l =

@@ -1,0 +1,93 @@
+// 01's values for a read: one entry queued, length 100; two queued, length 100; and what an empty queue answers.
+use libc::STDOUT_FILENO;
+use schemev2::Args;
+use schemev2::Sqe;
+use wait_queue::ReceiveAnswer;
+use wait_queue::Received;
+use wait_queue::WaitQueue;
+
+fn number(n: u64) {
+    io::print_decimal(STDOUT_FILENO, n);
+}
+
+// The answer, and how many entries are left.
+fn show(received: Received) {
+    let answer = received.answer;
+    let queue = received.queue;
+    match answer {
+        ReceiveAnswer::Bytes(n) => {
+            io::write_all(STDOUT_FILENO, b"bytes ");
+            number(n);
+        }
+        ReceiveAnswer::Invalid => {
+            io::write_all(STDOUT_FILENO, b"refused 22");
+        }
+        ReceiveAnswer::Again => {
+            io::write_all(STDOUT_FILENO, b"refused 11");
+        }
+        ReceiveAnswer::WouldWait => {
+            io::write_all(STDOUT_FILENO, b"would wait");
+        }
+    }
+    io::write_all(STDOUT_FILENO, b", left ");
+    number(queue.len as u64);
+    io::write_all(STDOUT_FILENO, b"\n");
+}
+
+fn wide(b: u8) -> u64 {
+    b as u64
+}
+
+// The last byte of the first entry and the one after it.
+fn around(out: &[u8]) {
+    if out.len() < 65 {
+        return;
+    }
+    io::write_all(STDOUT_FILENO, b"  bytes ");
+    number(wide(out[63]));
+    io::write_all(STDOUT_FILENO, b" and ");
+    number(wide(out[64]));
+    io::write_all(STDOUT_FILENO, b"\n");
+}
+
+fn shown(q: WaitQueue, words: &[u64; 1024]) {
+    let mut out = [255; 100];
+    show(wait_queue::receive(q, words, &mut out, 0));
+    around(&out);
+}
+
+// A non-blocking read of an empty queue.
+fn none(words: &[u64; 1024], out: &mut [u8]) {
+    let empty = WaitQueue { first: 0, len: 0 };
+    show(wait_queue::receive(empty, words, out, 0x0004_0000));
+}
+
+fn queued(q: WaitQueue, words: &mut [u64; 1024], pid: u64) -> WaitQueue {
+    let e = Sqe {
+        opcode: 5,
+        sqe_flags: 0,
+        tag: 3,
+        args: Args(1, 2, 3, 4, 5, 6),
+        caller: pid,
+    };
+    let sent = wait_queue::send(q, words, e);
+    sent.queue
+}
+
+fn main() {
+    let mut words = [0; 1024];
+    let empty = WaitQueue { first: 0, len: 0 };
+    let one = queued(empty, &mut words, 0x1111_1111_1111_1111);
+    shown(one, &words);
+    let two = queued(one, &mut words, 0x2222_2222_2222_2222);
+    shown(two, &words);
+    shown(empty, &words);
+    let mut nothing = [0; 1];
+    none(&words, &mut nothing[..0]);
+    let mut short = [0; 1];
+    none(&words, &mut short);
+    let mut less = [0; 63];
+    none(&words, &mut less);
+    let mut whole = [0; 64];
+    none(&words, &mut whole);
+}
