@@ -1,0 +1,24 @@
+-- `closes::put` meets its contract. Assumes nothing.
+use lib.Seq.{set-out}
+use mathlib.Core.Path.{_≡_, refl, sym, ap, _∙_}
+use borrow.Author.Needs.{needs}
+use Rattle.closes.proofs.put.Statement.{statement}
+use Rattle.closes.proofs.put.Tie as tie
+
+returns : tie.Need-returns
+returns c = sym (set-out (c .before .args .fx .now) (c .before .args .j) (c .before .args .x) (c .if1 .taken))
+
+mul-fx : tie.Need-mul-fx
+mul-fx c = search needs
+
+slice-write-fx : tie.Need-slice-write-fx
+slice-write-fx c = search needs
+
+same-length : tie.Need-same-length
+same-length c = search needs
+
+returns-2 : tie.Need-returns-2
+returns-2 c = search needs
+
+pub put-spec : {M : Type 1} → statement M
+put-spec = tie.close (tie.spec returns mul-fx slice-write-fx same-length returns-2)

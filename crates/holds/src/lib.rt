@@ -1,0 +1,130 @@
+// The hold counts of the 64 descriptions: one hold or a list of holds dropped, and a list given back to the host.
+use closes::Reason;
+use fd_list::List;
+use ids::Description;
+use ids::DescriptionFound;
+ghost use mathlib.Core.Path.{_≡_};
+ghost use lib.ListN.{getD};
+ghost use lib.Seq.{sets};
+ghost use Rattle.closes.specs.Closes.{closing, only, closes};
+ghost use Rattle.counts.specs.Counts.{lasts};
+ghost use Rattle.fd_list.specs.Lists.{numbers};
+ghost use Rattle.holds.specs.Holds.{dropOneOf, droppedOf, discardedOf, outsideOf, heldOf};
+
+// For each description all its holds, and how many of them are outside.
+#[repr(C)]
+pub struct Holds {
+    pub holds: [u16; 64],
+    pub outside: [u16; 64],
+}
+
+// Whether the hold dropped was the last.
+#[repr(C)]
+pub struct Single {
+    pub last: bool,
+    pub holds: Holds,
+}
+
+// How many closes follow.
+#[repr(C)]
+pub struct Dropped {
+    pub count: usize,
+    pub holds: Holds,
+}
+
+// One hold dropped.
+pub fn drop_one(h: Holds, d: Description) -> Single
+    ensures { λ r. ⌜ r ≡ dropOneOf h (d .0) ⌝ }
+{
+    let mut a = h.holds;
+    let gone = counts::lower(&mut a, d);
+    let o = h.outside;
+    Single {
+        last: gone,
+        holds: Holds {
+            holds: a,
+            outside: o,
+        },
+    }
+}
+
+// A list's holds dropped. The closes that follow are stored from word `at`, in list order.
+pub fn drop_list(h: Holds, l: List, why: Reason, fx: &mut [u64], at: usize) -> Dropped
+    ensures { λ r. ⌜ r ≡ droppedOf h (numbers l) (closing why) ⌝ }
+    ensures { λ r. ⌜ now (fx .exit) ≡ sets (now (fx .entry)) at (closes (only (closing why) (lasts (h .holds) (numbers l)))) ⌝ }
+{
+    let follows = closes::is_closing(why);
+    let mut a = h.holds;
+    let k = closes::drop_all(&mut a, l, follows, fx, at);
+    let o = h.outside;
+    Dropped {
+        count: k,
+        holds: Holds {
+            holds: a,
+            outside: o,
+        },
+    }
+}
+
+// The same drop, and what it says of closes is discarded.
+pub fn discard_list(h: Holds, l: List) -> Holds
+    ensures { λ r. ⌜ r ≡ discardedOf h (numbers l) ⌝ }
+{
+    let mut none = [0; 1];
+    let mut a = h.holds;
+    closes::drop_all(&mut a, l, false, &mut none, 1);
+    let o = h.outside;
+    Holds {
+        holds: a,
+        outside: o,
+    }
+}
+
+// A list's holds become outside holds.
+pub fn to_outside(h: Holds, l: List) -> Holds
+    ensures { λ r. ⌜ r ≡ outsideOf h (numbers l) ⌝ }
+{
+    let a = h.holds;
+    let mut o = h.outside;
+    counts::raise_all(&mut o, l);
+    Holds {
+        holds: a,
+        outside: o,
+    }
+}
+
+// How many holds a description has.
+pub fn count_of(h: Holds, d: Description) -> u16
+    ensures { λ r. ⌜ r ≡ getD (h .holds) (d .0) 0 ⌝ }
+{
+    let all = h.holds;
+    counts::count_at(&all, d)
+}
+
+// The description that a word names, if it is open and has an outside hold.
+pub fn held_of(h: Holds, word: u64) -> DescriptionFound
+    ensures { λ r. ⌜ r ≡ heldOf (h .holds) (h .outside) word ⌝ }
+{
+    let all = h.holds;
+    let out = h.outside;
+    held_outside(&all, &out, word)
+}
+
+// The same on the counts alone, `outside` those that are left.
+pub fn held_outside(all: &[u16], outside: &[u16], word: u64) -> DescriptionFound
+    ensures { λ r. ⌜ r ≡ heldOf (now (all .entry)) (now (outside .entry)) word ⌝ }
+{
+    let found = ids::description_of(word);
+    match found {
+        DescriptionFound::Outside => DescriptionFound::Outside,
+        DescriptionFound::At(d) => {
+            if counts::count_at(all, d) == 0 {
+                return DescriptionFound::Outside;
+            }
+            if counts::count_at(outside, d) == 0 {
+                return DescriptionFound::Outside;
+            }
+            DescriptionFound::At(d)
+        }
+    }
+}

@@ -1,0 +1,73 @@
+// The host's event that moves an outside hold into a handle. A refusal changes nothing.
+use handles::Handles;
+use holds::Holds;
+use ids::Description;
+use ids::DescriptionFound;
+use ids::Handle;
+ghost use mathlib.Core.Path.{_≡_};
+ghost use Rattle.answer.specs.Answer.{numberOf};
+ghost use Rattle.host_put.specs.Put.{inside, putOf, putAnswer};
+
+pub enum PutAnswer {
+    Put,
+    BadArgument,
+}
+
+pub struct HoldPut {
+    pub answer: PutAnswer,
+    pub handles: Handles,
+    pub holds: Holds,
+}
+
+impl PutAnswer {
+    // 01's number: 0, or the refusal's.
+    pub fn number(self) -> u64
+        ensures { λ r. ⌜ r ≡ numberOf (putAnswer self) ⌝ }
+    {
+        match self {
+            PutAnswer::Put => 0,
+            PutAnswer::BadArgument => 205,
+        }
+    }
+}
+
+// One outside hold is outside no more.
+fn moved_inside(h: Holds, d: Description) -> Holds
+    ensures { λ r. ⌜ r ≡ inside h (d .0) ⌝ }
+{
+    let all = h.holds;
+    let mut out = h.outside;
+    counts::lower(&mut out, d);
+    Holds {
+        holds: all,
+        outside: out,
+    }
+}
+
+// One outside hold moves into an empty handle.
+pub fn put_hold(h: Holds, n: Handles, word: u64, k: Handle) -> HoldPut
+    ensures { λ r. ⌜ r ≡ putOf h n word (k .0) ⌝ }
+{
+    let found = holds::held_of(h, word);
+    match found {
+        DescriptionFound::Outside => HoldPut {
+            answer: PutAnswer::BadArgument,
+            handles: n,
+            holds: h,
+        },
+        DescriptionFound::At(d) => {
+            if !handles::is_free(n, k) {
+                return HoldPut {
+                    answer: PutAnswer::BadArgument,
+                    handles: n,
+                    holds: h,
+                };
+            }
+            HoldPut {
+                answer: PutAnswer::Put,
+                handles: handles::put_into(n, k, d),
+                holds: moved_inside(h, d),
+            }
+        }
+    }
+}

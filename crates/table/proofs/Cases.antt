@@ -1,0 +1,54 @@
+-- What the definitions say in range and past it, over plain variables; k is the slot number of the tag n. Assumes nothing.
+use mathlib.Core.Path.{_≡_, refl, sym, ap, _∙_}
+use mathlib.Core.Bool.{Bool, true, false, cond}
+use mathlib.Core.List.{List}
+use Prim.Native.Nat.{ℕ, min, _<_, _≤_}
+use native.Mathlib.Omega.{arith}
+use lib.Dec.{ltb, leb}
+use lib.ListN.{getD, set, replicate}
+use borrow.Author.Tests.{lt-ltb, le-ltb, le-leb, lt-leb}
+use Rattle.ids.specs.declared.SlotNo.{SlotNo}
+use Rattle.ids.specs.declared.Tag.{Tag}
+use Rattle.ids.specs.Ids.{slotOf}
+use Rattle.slot.specs.declared.Slot.{Slot}
+use Rattle.slot.specs.Slots.{vacantSlot}
+use Rattle.table.specs.declared.Table.{Table}
+use Rattle.table.specs.declared.Given.{Given}
+use Rattle.table.specs.Table.{noSlot, slotAt, stored, putAt, vacated, vacateAt, giveIf, giveOf}
+
+module _ (t : Table) (n : Tag) (k : SlotNo) (is : k ≡ slotOf n) where
+  beyond : 64 ≤ k .0 → ltb (n .0) 64 ≡ false
+  beyond h = le-ltb (n .0) 64 (omega (arith, ap (λ (s : SlotNo). s .0) is))
+
+  within : k .0 < 64 → ltb (n .0) 64 ≡ true
+  within h = lt-ltb (n .0) 64 (omega (arith, ap (λ (s : SlotNo). s .0) is))
+
+  same : k .0 < 64 → k .0 ≡ n .0
+  same h = omega (arith, ap (λ (s : SlotNo). s .0) is)
+
+  pub slot-out : (x : Slot) → x ≡ vacantSlot → 64 ≤ k .0 → x ≡ slotAt t (n .0)
+  slot-out x e h = e ∙ sym (ap (λ (b : Bool). cond b (getD (t .slots) (n .0) noSlot) vacantSlot) (beyond h))
+
+  pub slot-in : k .0 < 64 → getD (t .slots) (k .0) noSlot ≡ slotAt t (n .0)
+  slot-in h =
+      ap (λ (j : ℕ). getD (t .slots) j noSlot) (same h)
+      ∙ sym (ap (λ (b : Bool). cond b (getD (t .slots) (n .0) noSlot) vacantSlot) (within h))
+
+  pub put-out : (v : Slot) → 64 ≤ k .0 → t ≡ putAt t (n .0) v
+  put-out v h = sym (ap (λ (b : Bool). cond b (stored t (n .0) v) t) (beyond h))
+
+  pub put-in : (v : Slot) → k .0 < 64 → stored t (k .0) v ≡ putAt t (n .0) v
+  put-in v h = ap (λ (j : ℕ). stored t j v) (same h) ∙ sym (ap (λ (b : Bool). cond b (stored t (n .0) v) t) (within h))
+
+  pub vacate-out : 64 ≤ k .0 → t ≡ vacateAt t (n .0)
+  vacate-out h = sym (ap (λ (b : Bool). cond b (vacated t (n .0)) t) (beyond h))
+
+  pub vacate-in :
+      (x : Slot) → x ≡ vacantSlot → k .0 < 64
+      → _≡_ {A = Table} (record { slots = set (t .slots) (k .0) x; next = set (t .next) (k .0) (t .head); head = k .0; holds = t .holds }) (vacateAt t (n .0))
+  vacate-in x e h =
+      ap (λ (v : Slot). record { slots = set (t .slots) (k .0) v; next = set (t .next) (k .0) (t .head); head = k .0; holds = t .holds }) e
+      ∙ ap (vacated t) (same h) ∙ sym (ap (λ (b : Bool). cond b (vacated t (n .0)) t) (within h))
+
+pub give-is : (t : Table) (v : Slot) (b : Bool) → leb 64 (t .head) ≡ b → giveIf b t v ≡ giveOf t v
+give-is t v b e = ap (λ (x : Bool). giveIf x t v) (sym e)

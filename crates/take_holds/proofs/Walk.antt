@@ -1,0 +1,160 @@
+-- Taking a list entry by entry is taking it as 205 and 206 say. Assumes nothing.
+use Prim.Native.Nat.{ℕ, zero, suc, _+_, _-_, _≤_, _<_}
+use mathlib.Core.Path.{_≡_, refl, sym, ap, _∙_, subst}
+use mathlib.Core.Bool.{Bool, true, false, not, cond, _||_}
+use mathlib.Core.List.{List, [], _∷_, map}
+use native.Mathlib.Omega.{arith}
+use native.Mathlib.Numerals.{add-one}
+use native.Mathlib.Decide.{ℕ-discrete, decLt}
+use native.Mathlib.Nat.{add-zero, add-suc, suc-add}
+use lib.Dec.{ltb, leb, eqb}
+use lib.ListN.{getD, set, length, drop, length-set, List·getD-eq-default, drop-of-length-le}
+use lib.Seq.{sets, drop-cons, getD-set-same, getD-set-other}
+use borrow.Author.Tests.{lt-ltb, le-ltb, eq-eqb, ne-eqb, ltb-true, ltb-false, eqb-true, eqb-false}
+use Rattle.ids.specs.declared.Description.{Description}
+use Rattle.fd_list.specs.declared.List.{List as Sent}
+use Rattle.fd_list.specs.Lists.{desc, blank, listOf}
+use Rattle.counts.specs.Counts.{less, lessAll, times, any}
+use Rattle.holds.specs.declared.Holds.{Holds}
+use Rattle.holds.specs.Holds.{holdsWith, unheld}
+use Rattle.take_holds.specs.declared.Taken.{Taken}
+use Rattle.take_holds.specs.declared.TakeAnswer.{TakeAnswer}
+use Rattle.take_holds.specs.declared.TakeAnswer.the-variants as take
+use Rattle.take_holds.specs.Take.{takenAs, badIn, bad, takeOf}
+
+abbrev pub full : Holds → List ℕ → List Description → ℕ → Taken
+full h left at n = cond (ltb 16 n) (takenAs take.TooMany [] h) (record { answer = take.Taken; list = record { at = at; len = n }; holds = holdsWith (h .holds) left })
+
+abbrev pub takeOn : Holds → List ℕ → List Description → ℕ → List ℕ → Taken
+takeOn h left at i [] = full h left at i
+takeOn h left at i (d ∷ ds) = cond (unheld (h .holds) left d) (takenAs take.BadArgument [] h) (takeOn h (less left d) (set at i (desc d)) (suc i) ds)
+
+ltb-ext : (a b c d : ℕ) → (a < b → c < d) → (c < d → a < b) → ltb a b ≡ ltb c d
+ltb-ext a b c d f g = go (decLt a b)
+  where
+    go : Dec (a < b) → ltb a b ≡ ltb c d
+    go (yes p) = lt-ltb a b p ∙ sym (lt-ltb c d (f p))
+    go (no p) = le-ltb a b (omega arith) ∙ sym (le-ltb c d (let z : c < d → ⊥ = (λ q. p (g q)) in go₂ z (decLt c d)))
+      where
+        go₂ : (c < d → ⊥) → Dec (c < d) → d ≤ c
+        go₂ z (yes q) = absurd (z q)
+        go₂ z (no q) = omega arith
+
+or-assoc : (a b c : Bool) → (a || b) || c ≡ a || (b || c)
+or-assoc true b c = refl
+or-assoc false b c = refl
+
+any-ext : (p q : ℕ → Bool) → ((e : ℕ) → p e ≡ q e) → (ds : List ℕ) → any p ds ≡ any q ds
+any-ext p q f [] = refl
+any-ext p q f (d ∷ ds) = rw (f d, any-ext p q f ds)
+
+or-true : (b : Bool) → b || true ≡ true
+or-true true = refl
+or-true false = refl
+
+-- what stands in a list at all decides `any`
+any-at : (p : ℕ → Bool) (d : ℕ) (ds : List ℕ) → p d ≡ true → 0 < times d ds → any p ds ≡ true
+any-at p d [] e b = absurd (omega arith)
+any-at p d (x ∷ ds) e b = go (any-at p d ds e) (ℕ-discrete x d)
+  where
+    go : (0 < times d ds → any p ds ≡ true) → Dec (x ≡ d) → p x || any p ds ≡ true
+    go f (yes q) = rw (q, e) refl
+    go f (no q) = rw (f (rw (ne-eqb x d q) at b)) (or-true (p x))
+
+in-range : (a : List ℕ) (d : ℕ) → 0 < getD a d 0 → d < length a
+in-range a d b = go (decLt d (length a))
+  where
+    go : Dec (d < length a) → d < length a
+    go (yes p) = p
+    go (no p) = absurd (omega (arith, List·getD-eq-default a 0 {n = d} (omega arith)))
+
+module _ (all left : List ℕ) (d : ℕ) (ds : List ℕ) where
+  -- one entry taken: what is bad in the rest
+  bad-less : 0 < getD left d 0 → (e : ℕ) → badIn all left (d ∷ ds) e ≡ badIn all (less left d) ds e
+  bad-less b e = ap (λ (x : Bool). ltb 63 e || (eqb (getD all e 0) 0 || x)) (go (ℕ-discrete e d))
+    where
+      go : Dec (e ≡ d) → ltb (getD left e 0) (times e (d ∷ ds)) ≡ ltb (getD (less left d) e 0) (times e ds)
+      go (yes q) =
+          rw q (rw (eq-eqb d d refl) (rw (getD-set-same left d (getD left d 0 - 1) 0 (in-range left d b))
+          (ltb-ext (getD left d 0) (suc (times d ds)) (getD left d 0 - 1) (times d ds) (λ p. omega arith) (λ p. omega arith))))
+      go (no q) = rw (ne-eqb d e (λ y. q (sym y))) (rw (getD-set-other left d e (getD left d 0 - 1) 0 q) refl)
+
+  stop-bad : unheld all left d ≡ true → any (badIn all left (d ∷ ds)) (d ∷ ds) ≡ true
+  stop-bad s = go (ltb 63 d) (eqb (getD all d 0) 0) (eqb (getD left d 0) 0) refl s
+    where
+      go : (x y z : Bool) → eqb (getD left d 0) 0 ≡ z → x || (y || z) ≡ true → (x || (y || ltb (getD left d 0) (times d (d ∷ ds)))) || any (badIn all left (d ∷ ds)) ds ≡ true
+      go true y z q e = refl
+      go false true z q e = refl
+      go false false z q e =
+          let n : getD left d 0 ≡ 0 = eqb-true (getD left d 0) 0 (q ∙ e) in
+          rw (lt-ltb (getD left d 0) (times d (d ∷ ds)) (rw (eq-eqb d d refl) (omega arith))) refl
+
+  go-on : unheld all left d ≡ false → any (badIn all left (d ∷ ds)) (d ∷ ds) ≡ any (badIn all (less left d) ds) ds
+  go-on s = go (ltb 63 d) (eqb (getD all d 0) 0) (eqb (getD left d 0) 0) refl refl refl s
+    where
+      go : (x y z : Bool) → ltb 63 d ≡ x → eqb (getD all d 0) 0 ≡ y → eqb (getD left d 0) 0 ≡ z → x || (y || z) ≡ false → any (badIn all left (d ∷ ds)) (d ∷ ds) ≡ any (badIn all (less left d) ds) ds
+      go true y z qx qy qz e = absurd (let w : _≡_ {A = ℕ} 0 1 = cc in omega arith)
+      go false true z qx qy qz e = absurd (let w : _≡_ {A = ℕ} 0 1 = cc in omega arith)
+      go false false true qx qy qz e = absurd (let w : _≡_ {A = ℕ} 0 1 = cc in omega arith)
+      go false false false qx qy qz e =
+          let n = eqb-false (getD left d 0) 0 qz in
+          let b : 0 < getD left d 0 = go₃ n (decLt 0 (getD left d 0)) in
+          ap (λ (x : Bool). x || any (badIn all left (d ∷ ds)) ds) (bad-less b d)
+          ∙ (ap (λ (x : Bool). badIn all (less left d) ds d || x) (any-ext (badIn all left (d ∷ ds)) (badIn all (less left d) ds) (bad-less b) ds)
+          ∙ go₂ (badIn all (less left d) ds d) refl)
+        where
+          go₃ : (getD left d 0 ≡ 0 → ⊥) → Dec (0 < getD left d 0) → 0 < getD left d 0
+          go₃ n (yes p) = p
+          go₃ n (no p) = absurd (n (omega arith))
+
+          go₂ : (t : Bool) → badIn all (less left d) ds d ≡ t → t || any (badIn all (less left d) ds) ds ≡ any (badIn all (less left d) ds) ds
+          go₂ false t = refl
+          go₂ true t =
+              let u : ltb (getD (less left d) d 0) (times d ds) ≡ true = sym (rw (qx, qy) refl) ∙ t in
+              sym (any-at (badIn all (less left d) ds) d ds t (omega (arith, ltb-true (getD (less left d) d 0) (times d ds) u)))
+
+walked : (h : Holds) (left : List ℕ) (at : List Description) (i : ℕ) (ds : List ℕ) →
+    takeOn h left at i ds ≡ cond (any (badIn (h .holds) left ds) ds) (takenAs take.BadArgument [] h) (full h (lessAll left ds) (sets at i (map desc ds)) (i + length ds))
+walked h left at i [] = ap (λ (n : ℕ). full h left at n) (sym (add-zero i))
+walked h left at i (d ∷ ds) = go (walked h (less left d) (set at i (desc d)) (suc i) ds) (unheld (h .holds) left d) refl
+  where
+    go : takeOn h (less left d) (set at i (desc d)) (suc i) ds ≡ cond (any (badIn (h .holds) (less left d) ds) ds) (takenAs take.BadArgument [] h) (full h (lessAll (less left d) ds) (sets (set at i (desc d)) (suc i) (map desc ds)) (suc i + length ds)) →
+        (b : Bool) → unheld (h .holds) left d ≡ b →
+        cond b (takenAs take.BadArgument [] h) (takeOn h (less left d) (set at i (desc d)) (suc i) ds)
+        ≡ cond (any (badIn (h .holds) left (d ∷ ds)) (d ∷ ds)) (takenAs take.BadArgument [] h) (full h (lessAll left (d ∷ ds)) (sets at i (map desc (d ∷ ds))) (i + suc (length ds)))
+    go w true s = rw (stop-bad (h .holds) left d ds s) refl
+    go w false s = rw (go-on (h .holds) left d ds s) (w ∙ ap (λ (n : ℕ). cond (any (badIn (h .holds) (less left d) ds) ds) (takenAs take.BadArgument [] h) (full h (lessAll (less left d) ds) (sets (set at i (desc d)) (suc i) (map desc ds)) n)) (let e : suc i + length ds ≡ i + suc (length ds) = omega arith in e))
+
+pub take-is : (h : Holds) (ws : List ℕ) → takeOn h (h .outside) blank 0 ws ≡ takeOf h ws
+take-is h ws = walked h (h .outside) blank 0 ws ∙ ap (λ (n : ℕ). cond (any (bad h ws) ws) (takenAs take.BadArgument [] h) (full h (lessAll (h .outside) ws) (sets blank 0 (map desc ws)) n)) (let e : 0 + length ws ≡ length ws = omega arith in e)
+
+pub lower-length : (a u : List ℕ) (d n : ℕ) → u ≡ less a d → length a ≡ n → length u ≡ n
+lower-length a u d n e w = ap length e ∙ (length-set a d (getD a d 0 - 1) ∙ w)
+
+-- the loop's turns
+module _ (h : Holds) (left : List ℕ) (at : List Description) (i : ℕ) (ws : List ℕ) (W : Taken) (w : takeOn h left at i (drop i ws) ≡ W) where
+  module _ (b : i < length ws) (d : ℕ) (q : d ≡ getD ws i 0) where
+    next : takeOn h left at i (d ∷ drop (i + 1) ws) ≡ W
+    next =
+        let e : drop i ws ≡ d ∷ drop (i + 1) ws = rw (add-one i) (drop-cons ws i 0 b ∙ ap (λ (x : ℕ). x ∷ drop (suc i) ws) (sym q)) in
+        ap (λ (ds : List ℕ). takeOn h left at i ds) (sym e) ∙ w
+
+    pub take-stop : (r : Taken) → r ≡ takenAs take.BadArgument [] h → unheld (h .holds) left d ≡ true → r ≡ W
+    take-stop r e s = e ∙ (ap (λ (t : Bool). cond t (takenAs take.BadArgument [] h) (takeOn h (less left d) (set at i (desc d)) (suc i) (drop (i + 1) ws))) (sym s) ∙ next)
+
+    pub take-more : (e : Description) (u : List ℕ) (v : List Description) → u ≡ less left (e .0) → v ≡ set at i e → (unheld (h .holds) left d ≡ false) × (e ≡ desc d) → takeOn h u v (i + 1) (drop (i + 1) ws) ≡ W
+    take-more e u v eu ev s =
+        rw (eu, ev, s .1) (ap (λ (n : ℕ). takeOn h (less left d) (set at i (desc d)) n (drop (i + 1) ws)) (add-one i)
+        ∙ (ap (λ (t : Bool). cond t (takenAs take.BadArgument [] h) (takeOn h (less left d) (set at i (desc d)) (suc i) (drop (i + 1) ws))) (sym (s .0)) ∙ next))
+
+  pub take-end : length ws ≤ i → full h left at i ≡ W
+  take-end b = ap (λ (ds : List ℕ). takeOn h left at i ds) (sym (drop-of-length-le ws b)) ∙ w
+
+pub full-over : (h : Holds) (left : List ℕ) (at : List Description) (i : ℕ) → 16 < i → takenAs take.TooMany [] h ≡ full h left at i
+full-over h left at i b = rw (lt-ltb 16 i b) refl
+
+pub full-not : (h : Holds) (left : List ℕ) (at : List Description) (i : ℕ) → i ≤ 16 → record { answer = take.Taken; list = record { at = at; len = i }; holds = holdsWith (h .holds) left } ≡ full h left at i
+full-not h left at i b = rw (le-ltb 16 i b) refl
+
+pub refused-is : (h : Holds) (a : TakeAnswer) (l : Sent) → l ≡ listOf [] → record { answer = a; list = l; holds = h } ≡ takenAs a [] h
+refused-is h a l e = rw e refl
