@@ -1,14 +1,14 @@
 -- Hold counts after one hold or a list of holds is taken, given or dropped, for every description at once. Assumes nothing.
-use Prim.Native.Nat.{ℕ, zero, suc, _+_, _*_, _-_, _≤_, _<_}
+use Prim.Native.Nat.{ℕ, suc, _+_, _-_, _≤_, _<_}
 use mathlib.Core.Path.{_≡_, refl, sym, ap, _∙_}
 use mathlib.Core.Bool.{Bool, true, false, cond}
 use mathlib.Core.List.{List, [], _∷_, _++_}
 use native.Mathlib.Omega.{arith}
 use native.Mathlib.Decide.{ℕ-discrete, decLt}
-use lib.Dec.{ltb, eqb}
-use lib.ListN.{getD, set, length, length-set, List·getD-eq-default}
+use lib.Dec.{eqb}
+use lib.ListN.{getD, length, length-set, List·getD-eq-default}
 use lib.Seq.{set-out, getD-set-same, getD-set-other}
-use borrow.Author.Tests.{lt-ltb, le-ltb, eq-eqb, ne-eqb}
+use borrow.Author.Tests.{lt-ltb, eq-eqb, ne-eqb}
 use Rattle.counts.specs.Counts.{less, more, upto, lessAll, moreAll, last, lasts, times, one}
 
 pub times-cons : (d x : ℕ) (ds : List ℕ) → times d (x ∷ ds) ≡ one x d + times d ds
@@ -43,9 +43,12 @@ pub lessAll-at : (ds a : List ℕ) (d : ℕ) → getD (lessAll a ds) d 0 ≡ get
 lessAll-at [] a d = omega arith
 lessAll-at (x ∷ ds) a d = omega (arith, lessAll-at ds (less a x) d, less-at a x d, times-cons d x ds)
 
+pub less-length : (a : List ℕ) (x : ℕ) → length (less a x) ≡ length a
+less-length a x = length-set a x (getD a x 0 - 1)
+
 pub lessAll-length : (ds a : List ℕ) → length (lessAll a ds) ≡ length a
 lessAll-length [] a = refl
-lessAll-length (x ∷ ds) a = lessAll-length ds (less a x) ∙ length-set a x (getD a x 0 - 1)
+lessAll-length (x ∷ ds) a = lessAll-length ds (less a x) ∙ less-length a x
 
 pub more-at : (a : List ℕ) (x d : ℕ) → x < length a → getD a x 0 < 65535 → getD (more a x) d 0 ≡ getD a d 0 + one x d
 more-at a x d b c = go (ℕ-discrete d x)
@@ -59,11 +62,14 @@ more-at a x d b c = go (ℕ-discrete d x)
         let u : upto (getD a x 0) ≡ suc (getD a x 0) = rw (lt-ltb (getD a x 0) 65535 c) refl in
         rw q (omega (arith, z, u, getD-set-same a x (upto (getD a x 0)) 0 b))
 
+pub more-length : (a : List ℕ) (x : ℕ) → length (more a x) ≡ length a
+more-length a x = length-set a x (upto (getD a x 0))
+
 pub moreAll-length : (ds a : List ℕ) → length (moreAll a ds) ≡ length a
 moreAll-length [] a = refl
-moreAll-length (x ∷ ds) a = moreAll-length ds (more a x) ∙ length-set a x (upto (getD a x 0))
+moreAll-length (x ∷ ds) a = moreAll-length ds (more a x) ∙ more-length a x
 
-one-self : (x : ℕ) → one x x ≡ 1
+pub one-self : (x : ℕ) → one x x ≡ 1
 one-self x = rw (eq-eqb x x refl) refl
 
 pub moreAll-at : (ds a : List ℕ) → ((e : ℕ) → 0 < times e ds → e < length a) → ((e : ℕ) → getD a e 0 + times e ds ≤ 65535) → (d : ℕ) → getD (moreAll a ds) d 0 ≡ getD a d 0 + times d ds

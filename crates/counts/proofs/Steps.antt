@@ -1,14 +1,14 @@
 -- What the functions on counts need, over plain variables. Assumes nothing.
-use Prim.Native.Nat.{ℕ, zero, suc, _+_, _-_, _≤_, _<_}
+use Prim.Native.Nat.{ℕ, _+_, _-_, _≤_, _<_}
 use mathlib.Core.Path.{_≡_, refl, sym, ap, _∙_}
-use mathlib.Core.Bool.{Bool, true, false, cond}
+use mathlib.Core.Bool.{false}
 use mathlib.Core.List.{List, [], _∷_}
 use native.Mathlib.Numerals.{add-one}
 use lib.Dec.{eqb}
 use lib.ListN.{getD, set, length, drop, drop-of-length-le, List·getD-eq-default}
 use lib.Seq.{set-out, set-getD, drop-cons}
 use borrow.Author.Tests.{lt-ltb, le-ltb}
-use Rattle.counts.specs.Counts.{less, more, upto, lessAll, moreAll, last}
+use Rattle.counts.specs.Counts.{less, more, lessAll, moreAll, last}
 
 -- the count of description d, read and stored at place i
 module _ (a : List ℕ) (i d : ℕ) (e : i ≡ d) where

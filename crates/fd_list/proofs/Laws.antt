@@ -1,10 +1,10 @@
 -- A list by its places, and as the numbers that it names. Assumes nothing.
-use Prim.Native.Nat.{ℕ, zero, suc, _+_, _-_, _≤_, _<_, min}
+use Prim.Native.Nat.{ℕ, suc, _+_, _-_, _≤_, _<_, min}
 use mathlib.Core.Path.{_≡_, refl, sym, ap, _∙_}
-use mathlib.Core.List.{List, [], _∷_, _++_, map}
+use mathlib.Core.List.{List, [], _∷_, map}
 use native.Mathlib.Omega.{arith}
 use native.Mathlib.Numerals.{add-one}
-use lib.ListN.{getD, set, length, take, drop, replicate, length-map, length-take, length-drop, length-set, List·getD-eq-default, List·getD-map, drop-of-length-le}
+use lib.ListN.{getD, set, length, take, drop, length-map, length-take, length-drop, List·getD-eq-default, List·getD-map, drop-of-length-le}
 use lib.Seq.{sets, set-out, drop-cons, getD-take, length-sets, sets-eq, take-at}
 use Rattle.ids.specs.declared.Description.{Description}
 use Rattle.fd_list.specs.declared.List.{List as Sent}

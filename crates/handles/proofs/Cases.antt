@@ -1,15 +1,14 @@
 -- What the definitions say under each set of tests. Assumes nothing.
-use Prim.Native.Nat.{ℕ, zero, suc, _+_, _≤_, _<_}
+use Prim.Native.Nat.{ℕ, suc, _+_, _≤_, _<_}
 use mathlib.Core.Path.{_≡_, refl, sym, ap, _∙_}
 use mathlib.Core.Bool.{Bool, true, false}
 use mathlib.Core.List.{List, [], _∷_}
 use native.Mathlib.Omega.{arith}
 use native.Mathlib.Numerals.{add-one}
-use lib.Dec.{leb, eqb}
+use lib.Dec.{eqb}
 use lib.ListN.{getD, set, length, List·getD-eq-default}
 use lib.Seq.{sets, set-out}
 use borrow.Author.Tests.{lt-leb, le-leb}
-use Rattle.ids.specs.declared.Description.{Description}
 use Rattle.fd_list.specs.declared.List.{List as Sent}
 use Rattle.fd_list.specs.Lists.{numbers, listOf, restOf}
 use Rattle.fd_list.proofs.Laws.{numbers-listOf}
@@ -21,7 +20,7 @@ use Rattle.holds.specs.declared.Dropped.{Dropped}
 use Rattle.holds.specs.Holds.{droppedOf}
 use Rattle.handles.specs.declared.Handles.{Handles}
 use Rattle.handles.specs.declared.Obtained.{Obtained}
-use Rattle.handles.specs.Handles.{heldAt, isFree, into, emptied, obtained, obtainBy, obtainIn, obtainOf, obtainLasts}
+use Rattle.handles.specs.Handles.{heldAt, isFree, into, emptied, obtained, obtainIn, obtainLasts}
 
 module _ (n : Handles) (k : ℕ) where
   module _ (l : length (n .at) ≡ 64) (b : 63 < k) where

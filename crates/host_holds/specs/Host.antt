@@ -1,7 +1,7 @@
 -- The host's events on holds, each one equation for its answer and the state, and 01's numbers of the answers.
 use Prim.Native.Nat.{ℕ}
-use mathlib.Core.Bool.{Bool, true, false, cond, not, _||_}
-use mathlib.Core.List.{List, []}
+use mathlib.Core.Bool.{cond, not, _||_}
+use mathlib.Core.List.{[]}
 use lib.Dec.{ltb, eqb}
 use lib.ListN.{getD}
 use Rattle.answer.specs.Answer.{Answer, success, refused}

@@ -1,6 +1,6 @@
 -- An outside hold put into a handle, one equation for the answer and the state, and 01's numbers of the answer.
 use Prim.Native.Nat.{ℕ}
-use mathlib.Core.Bool.{Bool, true, false, cond, not, _||_}
+use mathlib.Core.Bool.{cond, not, _||_}
 use mathlib.Core.List.{[]}
 use Rattle.answer.specs.Answer.{Answer, success, refused}
 use Rattle.counts.specs.Counts.{less}

@@ -1,16 +1,16 @@
 -- Taking a list entry by entry is taking it as 205 and 206 say. Assumes nothing.
-use Prim.Native.Nat.{ℕ, zero, suc, _+_, _-_, _≤_, _<_}
-use mathlib.Core.Path.{_≡_, refl, sym, ap, _∙_, subst}
-use mathlib.Core.Bool.{Bool, true, false, not, cond, _||_}
+use Prim.Native.Nat.{ℕ, suc, _+_, _-_, _≤_, _<_}
+use mathlib.Core.Path.{_≡_, refl, sym, ap, _∙_}
+use mathlib.Core.Bool.{Bool, true, false, cond, _||_}
 use mathlib.Core.List.{List, [], _∷_, map}
 use native.Mathlib.Omega.{arith}
 use native.Mathlib.Numerals.{add-one}
 use native.Mathlib.Decide.{ℕ-discrete, decLt}
-use native.Mathlib.Nat.{add-zero, add-suc, suc-add}
-use lib.Dec.{ltb, leb, eqb}
+use native.Mathlib.Nat.{add-zero}
+use lib.Dec.{ltb, eqb}
 use lib.ListN.{getD, set, length, drop, length-set, List·getD-eq-default, drop-of-length-le}
 use lib.Seq.{sets, drop-cons, getD-set-same, getD-set-other}
-use borrow.Author.Tests.{lt-ltb, le-ltb, eq-eqb, ne-eqb, ltb-true, ltb-false, eqb-true, eqb-false}
+use borrow.Author.Tests.{lt-ltb, le-ltb, eq-eqb, ne-eqb, ltb-true, eqb-true, eqb-false}
 use Rattle.ids.specs.declared.Description.{Description}
 use Rattle.fd_list.specs.declared.List.{List as Sent}
 use Rattle.fd_list.specs.Lists.{desc, blank, listOf}
@@ -79,8 +79,8 @@ module _ (all left : List ℕ) (d : ℕ) (ds : List ℕ) where
           (ltb-ext (getD left d 0) (suc (times d ds)) (getD left d 0 - 1) (times d ds) (λ p. omega arith) (λ p. omega arith))))
       go (no q) = rw (ne-eqb d e (λ y. q (sym y))) (rw (getD-set-other left d e (getD left d 0 - 1) 0 q) refl)
 
-  stop-bad : unheld all left d ≡ true → any (badIn all left (d ∷ ds)) (d ∷ ds) ≡ true
-  stop-bad s = go (ltb 63 d) (eqb (getD all d 0) 0) (eqb (getD left d 0) 0) refl s
+  unheld-bad : unheld all left d ≡ true → any (badIn all left (d ∷ ds)) (d ∷ ds) ≡ true
+  unheld-bad s = go (ltb 63 d) (eqb (getD all d 0) 0) (eqb (getD left d 0) 0) refl s
     where
       go : (x y z : Bool) → eqb (getD left d 0) 0 ≡ z → x || (y || z) ≡ true → (x || (y || ltb (getD left d 0) (times d (d ∷ ds)))) || any (badIn all left (d ∷ ds)) ds ≡ true
       go true y z q e = refl
@@ -122,7 +122,7 @@ walked h left at i (d ∷ ds) = go (walked h (less left d) (set at i (desc d)) (
         (b : Bool) → unheld (h .holds) left d ≡ b →
         cond b (takenAs take.BadArgument [] h) (takeOn h (less left d) (set at i (desc d)) (suc i) ds)
         ≡ cond (any (badIn (h .holds) left (d ∷ ds)) (d ∷ ds)) (takenAs take.BadArgument [] h) (full h (lessAll left (d ∷ ds)) (sets at i (map desc (d ∷ ds))) (i + suc (length ds)))
-    go w true s = rw (stop-bad (h .holds) left d ds s) refl
+    go w true s = rw (unheld-bad (h .holds) left d ds s) refl
     go w false s = rw (go-on (h .holds) left d ds s) (w ∙ ap (λ (n : ℕ). cond (any (badIn (h .holds) (less left d) ds) ds) (takenAs take.BadArgument [] h) (full h (lessAll (less left d) ds) (sets (set at i (desc d)) (suc i) (map desc ds)) n)) (let e : suc i + length ds ≡ i + suc (length ds) = omega arith in e))
 
 pub take-is : (h : Holds) (ws : List ℕ) → takeOn h (h .outside) blank 0 ws ≡ takeOf h ws
@@ -139,8 +139,8 @@ module _ (h : Holds) (left : List ℕ) (at : List Description) (i : ℕ) (ws : L
         let e : drop i ws ≡ d ∷ drop (i + 1) ws = rw (add-one i) (drop-cons ws i 0 b ∙ ap (λ (x : ℕ). x ∷ drop (suc i) ws) (sym q)) in
         ap (λ (ds : List ℕ). takeOn h left at i ds) (sym e) ∙ w
 
-    pub take-stop : (r : Taken) → r ≡ takenAs take.BadArgument [] h → unheld (h .holds) left d ≡ true → r ≡ W
-    take-stop r e s = e ∙ (ap (λ (t : Bool). cond t (takenAs take.BadArgument [] h) (takeOn h (less left d) (set at i (desc d)) (suc i) (drop (i + 1) ws))) (sym s) ∙ next)
+    pub take-bad : (r : Taken) → r ≡ takenAs take.BadArgument [] h → unheld (h .holds) left d ≡ true → r ≡ W
+    take-bad r e s = e ∙ (ap (λ (t : Bool). cond t (takenAs take.BadArgument [] h) (takeOn h (less left d) (set at i (desc d)) (suc i) (drop (i + 1) ws))) (sym s) ∙ next)
 
     pub take-more : (e : Description) (u : List ℕ) (v : List Description) → u ≡ less left (e .0) → v ≡ set at i e → (unheld (h .holds) left d ≡ false) × (e ≡ desc d) → takeOn h u v (i + 1) (drop (i + 1) ws) ≡ W
     take-more e u v eu ev s =

@@ -4,7 +4,7 @@ use Rattle.fd_list.proofs.Laws.{picked}
 use borrow.Author.Needs.{needs}
 use Rattle.closes.proofs.Steps.{count-more, words-more, one-close, start-words, words-length, count-end, words-end}
 use Rattle.counts.proofs.Steps.{less-more, less-end}
-use mathlib.Core.Path.{_≡_, refl, sym, ap, _∙_}
+use mathlib.Core.Path.{_≡_, refl, ap, _∙_}
 use Prim.Native.Nat.{_+_, _*_, _-_, _≤_, _<_}
 use lib.ListN.{length, drop, length-set}
 use lib.Seq.{sets}
@@ -46,7 +46,7 @@ loop-again c =
     let a = c .before .before .before .before .before .before .before .before .before .before .before .before .before .args in
     let s = c .before .before .before .before .drop-step in
     let d = c .before .before .before .before .before .before .before .pick .result .0 in
-    let q = (picked (a .l) (l .i) (c .before .before .before .before .before .before .before .pick .result) (c .before .before .before .before .before .before .before .pick .ensures)) in
+    let q = picked (a .l) (l .i) (c .before .before .before .before .before .before .before .pick .result) (c .before .before .before .before .before .before .before .pick .ensures) in
     let b : l .i < length (numbers (a .l)) = omega (arith, c .before .before .before .before .before .before .before .before .loop-test .taken, c .before .before .before .before .before .before .before .before .before .before .size .ensures .0) in
     (omega (arith, c .before .before .before .before .before .before .before .before .loop-test .taken), omega (arith, l .inv .1, s .ensures .0, one-close (a .follows) (l .a) d), ap length (s .ensures .1 .0) ∙ (simp length-set (l .inv .2)), words-length (a .follows) (l .a) d (l .fx) _ (a .at) (l .k) _ (s .ensures .1 .1) (l .inv .3), less-more (numbers (a .l)) (l .i) d b q (l .a) _ _ (s .ensures .1 .0) (l .inv .4), count-more (numbers (a .l)) (l .i) d b q (a .follows) (l .a) _ (l .k) _ _ (s .ensures .1 .0) (s .ensures .0) (l .inv .5), words-more (numbers (a .l)) (l .i) d b q (a .follows) (l .a) _ (l .fx) _ (a .at) (l .k) _ _ (s .ensures .1 .0) (s .ensures .0) (s .ensures .1 .1) (l .inv .6))
 

@@ -1,6 +1,6 @@
 -- `closes::put` meets its contract. Assumes nothing.
 use lib.Seq.{set-out}
-use mathlib.Core.Path.{_≡_, refl, sym, ap, _∙_}
+use mathlib.Core.Path.{sym}
 use borrow.Author.Needs.{needs}
 use Rattle.closes.proofs.put.Statement.{statement}
 use Rattle.closes.proofs.put.Tie as tie

@@ -3,8 +3,8 @@ use native.Mathlib.Omega.{arith}
 use Rattle.fd_list.proofs.Laws.{picked}
 use borrow.Author.Needs.{needs}
 use Rattle.counts.proofs.Steps.{more-more, more-end}
-use mathlib.Core.Path.{_≡_, refl, sym, ap, _∙_}
-use Prim.Native.Nat.{_+_, _-_, _≤_, _<_}
+use mathlib.Core.Path.{_≡_, refl, ap, _∙_}
+use Prim.Native.Nat.{_-_, _≤_, _<_}
 use lib.ListN.{length, drop, length-set}
 use Rattle.counts.specs.Counts.{moreAll}
 use Rattle.fd_list.specs.Lists.{numbers}

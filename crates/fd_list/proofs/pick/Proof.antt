@@ -2,7 +2,7 @@
 use native.Mathlib.Omega.{arith}
 use borrow.Author.Needs.{needs}
 use Rattle.fd_list.proofs.Laws.{pick-out, pick-past, pick-in, length-mapped}
-use mathlib.Core.Path.{_≡_, refl, sym, ap, _∙_}
+use mathlib.Core.Path.{_≡_}
 use lib.ListN.{length}
 use Rattle.fd_list.proofs.pick.Statement.{statement}
 use Rattle.fd_list.proofs.pick.Tie as tie

@@ -2,9 +2,9 @@
 use native.Mathlib.Omega.{arith}
 use borrow.Author.Needs.{needs}
 use Rattle.fd_list.proofs.Laws.{rest-more, rest-end, rest-is, rest-size}
-use mathlib.Core.Path.{_≡_, refl, sym, ap, _∙_}
-use Prim.Native.Nat.{_+_, _-_, _≤_, _<_}
-use lib.ListN.{length, drop, getD, length-set}
+use mathlib.Core.Path.{_≡_, refl}
+use Prim.Native.Nat.{_+_, _-_, _≤_}
+use lib.ListN.{drop}
 use mathlib.Core.List.{map}
 use lib.Seq.{sets}
 use Rattle.fd_list.specs.Lists.{numbers, blank, desc}

@@ -1,7 +1,7 @@
 -- `fd_list::size` meets its contract. Assumes nothing.
 use borrow.Author.Needs.{needs}
 use Rattle.fd_list.proofs.Laws.{size-full, size-part, length-mapped}
-use mathlib.Core.Path.{_≡_, refl, sym, ap, _∙_}
+use mathlib.Core.Path.{_∙_}
 use Rattle.fd_list.proofs.size.Statement.{statement}
 use Rattle.fd_list.proofs.size.Tie as tie
 

@@ -7,7 +7,7 @@ use borrow.Author.Needs.{needs}
 use Rattle.fd_list.specs.declared.List.{List as Sent}
 use Rattle.holds.proofs.Laws.{held-not, held-is}
 use Rattle.take_holds.specs.Take.{takeOf}
-use Rattle.take_holds.proofs.Walk.{takeOn, take-is, take-stop, take-more, take-end, lower-length, full-over, full-not}
+use Rattle.take_holds.proofs.Walk.{takeOn, take-is, take-bad, take-more, take-end, lower-length, full-over, full-not}
 use Rattle.take_holds.proofs.take_list.Statement.{statement}
 use Rattle.take_holds.proofs.take_list.Tie as tie
 
@@ -42,7 +42,7 @@ refused-requires : tie.Need-refused-requires Inv-loop μ-loop
 refused-requires c κs = search needs
 
 returns : tie.Need-returns Inv-loop μ-loop
-returns c = take-stop (c .before .before .before .before .before .before .before .before .before .before .before .before .args .h) (c .before .before .before .before .before .before .before .before .loop .left) (c .before .before .before .before .before .before .before .before .loop .list .at) (c .before .before .before .before .before .before .before .before .loop .i) (c .before .before .before .before .before .before .before .before .before .before .before .before .args .words .now) _ (c .before .before .before .before .before .before .before .before .loop .inv .2) (c .before .before .before .before .before .before .before .loop-test .taken) (getD (c .before .before .before .before .before .before .before .before .before .before .before .before .args .words .now) (c .before .before .before .before .before .before .before .before .loop .i) 0) refl (c .refused .result) (c .refused .ensures) (held-not (c .before .before .before .before .before .before .before .before .before .before .before .before .args .h .holds) (c .before .before .before .before .before .before .before .before .loop .left) (getD (c .before .before .before .before .before .before .before .before .before .before .before .before .args .words .now) (c .before .before .before .before .before .before .before .before .loop .i) 0) _ (c .before .before .before .held-outside .ensures) (c .before .enum-told .given .1))
+returns c = take-bad (c .before .before .before .before .before .before .before .before .before .before .before .before .args .h) (c .before .before .before .before .before .before .before .before .loop .left) (c .before .before .before .before .before .before .before .before .loop .list .at) (c .before .before .before .before .before .before .before .before .loop .i) (c .before .before .before .before .before .before .before .before .before .before .before .before .args .words .now) _ (c .before .before .before .before .before .before .before .before .loop .inv .2) (c .before .before .before .before .before .before .before .loop-test .taken) (getD (c .before .before .before .before .before .before .before .before .before .before .before .before .args .words .now) (c .before .before .before .before .before .before .before .before .loop .i) 0) refl (c .refused .result) (c .refused .ensures) (held-not (c .before .before .before .before .before .before .before .before .before .before .before .before .args .h .holds) (c .before .before .before .before .before .before .before .before .loop .left) (getD (c .before .before .before .before .before .before .before .before .before .before .before .before .args .words .now) (c .before .before .before .before .before .before .before .before .loop .i) 0) _ (c .before .before .before .held-outside .ensures) (c .before .enum-told .given .1))
 
 enum-known-next : tie.Need-enum-known-next Inv-loop μ-loop
 enum-known-next c = search needs
