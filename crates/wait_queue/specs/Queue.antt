@@ -6,7 +6,7 @@ use Prim.Native.Nat.{ℕ, zero, suc, min, _+_, _-_, _*_, _/_, _%_}
 use lib.Dec.{leb, ltb, eqb}
 use lib.ListN.{getD, length, take}
 use lib.Seq.{sets}
-use Rattle.answer.specs.Answer.{Answer, success, refused, waits}
+use Rattle.answer.specs.Answer.{Answer, success, refused}
 use Rattle.le.specs.Le.{bytesOf}
 use Rattle.schemev2.specs.declared.Sqe.{Sqe}
 use Rattle.schemev2.specs.Entry.{sqeWords}
@@ -14,9 +14,6 @@ use Rattle.wait_queue.specs.declared.WaitQueue.{WaitQueue}
 use Rattle.wait_queue.specs.declared.SendAnswer.{SendAnswer}
 use Rattle.wait_queue.specs.declared.SendAnswer.the-variants.{Queued, Full}
 use Rattle.wait_queue.specs.declared.Sent.{Sent}
-use Rattle.wait_queue.specs.declared.ReceiveAnswer.{ReceiveAnswer}
-use Rattle.wait_queue.specs.declared.ReceiveAnswer.the-variants.{Bytes, Invalid, Again, WouldWait}
-use Rattle.wait_queue.specs.declared.Received.{Received}
 
 -- word number i of the unread ones
 abbrev pub wordAt : WaitQueue → List ℕ → ℕ → ℕ
@@ -53,37 +50,6 @@ headOf e = e .opcode + e .«sqe_flags» * 0x100 + e .tag * 0x1_0000_0000
 abbrev pub sentWords : WaitQueue → List ℕ → Sqe → List ℕ
 sentWords q ws e = cond (leb 128 (q .len)) ws (sets ws (placeOf q) (sqeWords e))
 
--- `receive_into_user` of an empty queue: by the length of the lent bytes and the non-blocking flag, 0x00040000
-abbrev pub receiveAnswer : ReceiveAnswer → Answer
-receiveAnswer (Bytes n) = success (n ∷ [])
-receiveAnswer Invalid = refused 22
-receiveAnswer Again = refused 11
-receiveAnswer WouldWait = waits
-
-abbrev pub emptyBy : Bool → Bool → Bool → ReceiveAnswer
-emptyBy true none short = WouldWait
-emptyBy false true short = Bytes 0
-emptyBy false false true = Invalid
-emptyBy false false false = Again
-
-abbrev pub emptyOf : ℕ → ℕ → ReceiveAnswer
-emptyOf n flags = emptyBy (eqb (flags / 0x4_0000 % 2) 0) (eqb n 0) (ltb n 64)
-
--- how many bytes are copied into n
-abbrev pub copied : WaitQueue → ℕ → ℕ
-copied q n = min n (q .len * 64)
-
 -- whole entries are removed
 abbrev pub removed : WaitQueue → ℕ → WaitQueue
 removed q k = record { first = (q .first + k) % 128; len = q .len - k }
-
-abbrev pub receivedIf : Bool → WaitQueue → ℕ → ℕ → Received
-receivedIf true q n flags = record { answer = emptyOf n flags; queue = q }
-receivedIf false q n flags = record { answer = Bytes (copied q n); queue = removed q (copied q n / 64) }
-
-abbrev pub receivedOf : WaitQueue → ℕ → ℕ → Received
-receivedOf q n flags = receivedIf (eqb (q .len) 0) q n flags
-
--- the lent bytes afterwards: those beyond keep what they held
-abbrev pub copiedOf : WaitQueue → List ℕ → List ℕ → List ℕ
-copiedOf q ws out = sets out 0 (take (copied q (length out)) (unread q ws))

@@ -20,10 +20,12 @@ fn show(received: Received) {
             number(n);
         }
         ReceiveAnswer::Invalid => {
-            io::write_all(STDOUT_FILENO, b"refused 22");
+            io::write_all(STDOUT_FILENO, b"refused ");
+            number(answer.number());
         }
         ReceiveAnswer::Again => {
-            io::write_all(STDOUT_FILENO, b"refused 11");
+            io::write_all(STDOUT_FILENO, b"refused ");
+            number(answer.number());
         }
         ReceiveAnswer::WouldWait => {
             io::write_all(STDOUT_FILENO, b"would wait");
@@ -52,14 +54,14 @@ fn around(out: &[u8]) {
 
 fn shown(q: WaitQueue, words: &[u64; 1024]) {
     let mut out = [255; 100];
-    show(wait_queue::receive(q, words, &mut out, 0));
+    show(wait_queue_receive::receive(q, words, &mut out, 0));
     around(&out);
 }
 
 // A non-blocking read of an empty queue.
 fn none(words: &[u64; 1024], out: &mut [u8]) {
     let empty = WaitQueue { first: 0, len: 0 };
-    show(wait_queue::receive(empty, words, out, 0x0004_0000));
+    show(wait_queue_receive::receive(empty, words, out, 0x0004_0000));
 }
 
 fn queued(q: WaitQueue, words: &mut [u64; 1024], pid: u64) -> WaitQueue {

@@ -5,7 +5,7 @@ use native.Mathlib.Omega.{arith}
 use lib.ListN.{length}
 use borrow.Author.Needs.{needs}
 use Rattle.table.specs.Table.{noSlot}
-use Rattle.table.proofs.Access.{length-mapped}
+use Rattle.fd_list.proofs.Laws.{length-mapped}
 use Rattle.host_ended.specs.Ended.{markedOf}
 use Rattle.host_ended.proofs.Marks.{mapTo, more, all, ended-is}
 use Rattle.host_ended.proofs.ended.Statement.{statement}

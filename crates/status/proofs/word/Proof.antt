@@ -5,7 +5,7 @@ use native.Mathlib.Omega.{arith}
 use lib.ListN.{length, drop, getD}
 use borrow.Author.Needs.{needs}
 use Rattle.table.specs.Table.{noSlot}
-use Rattle.table.proofs.Access.{length-mapped}
+use Rattle.fd_list.proofs.Laws.{length-mapped}
 use Rattle.status.specs.Status.{isIn, wordOf}
 use Rattle.status.proofs.Words.{in-le, word-none, word-room, word-more}
 use Rattle.status.proofs.word.Statement.{statement}

@@ -1,10 +1,10 @@
--- `wait_queue::empty` meets its contract. Assumes nothing.
+-- `wait_queue_receive::empty` meets its contract. Assumes nothing.
 use mathlib.Core.Path.{refl}
 use mathlib.Core.Bool.{true, false}
 use borrow.Author.Tests.{eq-eqb, ne-eqb, lt-ltb, le-ltb}
-use Rattle.wait_queue.proofs.Copying.{empty-is}
-use Rattle.wait_queue.proofs.empty.Statement.{statement}
-use Rattle.wait_queue.proofs.empty.Tie as tie
+use Rattle.wait_queue_receive.proofs.Copying.{empty-is}
+use Rattle.wait_queue_receive.proofs.empty.Statement.{statement}
+use Rattle.wait_queue_receive.proofs.empty.Tie as tie
 
 returns : tie.Need-returns
 returns c = empty-is (c .before .args .room) (c .before .args .flags) true _ _ (eq-eqb _ _ (c .if1 .taken)) refl refl

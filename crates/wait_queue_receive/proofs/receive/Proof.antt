@@ -1,8 +1,8 @@
--- `wait_queue::receive` meets its contract. Assumes nothing.
-use Rattle.wait_queue.proofs.Copying.{none, some}
+-- `wait_queue_receive::receive` meets its contract. Assumes nothing.
+use Rattle.wait_queue_receive.proofs.Copying.{none, some}
 use borrow.Author.Needs.{needs}
-use Rattle.wait_queue.proofs.receive.Statement.{statement}
-use Rattle.wait_queue.proofs.receive.Tie as tie
+use Rattle.wait_queue_receive.proofs.receive.Statement.{statement}
+use Rattle.wait_queue_receive.proofs.receive.Tie as tie
 
 empty-requires : tie.Need-empty-requires
 empty-requires c κs = search needs

@@ -1,4 +1,4 @@
--- `wait_queue::copy` meets its contract. What is left to copy from here gives the whole. Assumes nothing.
+-- `wait_queue_receive::copy` meets its contract. What is left to copy from here gives the whole. Assumes nothing.
 use mathlib.Core.Path.{_≡_, refl, sym, ap, _∙_}
 use mathlib.Core.List.{List}
 use Prim.Native.Nat.{ℕ, _+_, _-_, _*_, _/_, _≤_}
@@ -8,10 +8,10 @@ use lib.ListN.{length, take}
 use lib.Seq.{sets, length-sets}
 use borrow.Author.Needs.{needs}
 use Rattle.le.specs.Le.{bytes8}
 use Rattle.wait_queue.specs.Queue.{unread}
-use Rattle.wait_queue.proofs.Copying.{left, words-start, again, finish}
-use Rattle.wait_queue.proofs.copy.Statement.{statement}
-use Rattle.wait_queue.proofs.copy.Tie as tie
+use Rattle.wait_queue_receive.proofs.Copying.{left, words-start, again, finish}
+use Rattle.wait_queue_receive.proofs.copy.Statement.{statement}
+use Rattle.wait_queue_receive.proofs.copy.Tie as tie
 
 abbrev Inv-loop : tie.InvT-loop
 Inv-loop q words out₀ n i₀ out i =

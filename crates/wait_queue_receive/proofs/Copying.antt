@@ -10,11 +10,12 @@ use borrow.Author.Tests.{ltb-true, ltb-false, eq-eqb, ne-eqb}
 use lib.ListN.{length, getD, set, take, drop, length-set}
 use lib.Seq.{sets, drop-cons, take-append-le, take-append-add}
 use Rattle.le.specs.Le.{bytes8, bytesOf}
 use Rattle.wait_queue.specs.declared.WaitQueue.{WaitQueue}
-use Rattle.wait_queue.specs.declared.ReceiveAnswer.{ReceiveAnswer}
-use Rattle.wait_queue.specs.declared.ReceiveAnswer.the-variants.{Bytes}
-use Rattle.wait_queue.specs.declared.Received.{Received}
-use Rattle.wait_queue.specs.Queue.{wordAt, wordsFrom, unread, emptyBy, emptyOf, removed, receivedIf, receivedOf, copiedOf}
+use Rattle.wait_queue_receive.specs.declared.ReceiveAnswer.{ReceiveAnswer}
+use Rattle.wait_queue_receive.specs.declared.ReceiveAnswer.the-variants.{Bytes}
+use Rattle.wait_queue_receive.specs.declared.Received.{Received}
+use Rattle.wait_queue.specs.Queue.{wordAt, wordsFrom, unread, removed}
+use Rattle.wait_queue_receive.specs.Receive.{emptyBy, emptyOf, receivedIf, receivedOf, copiedOf}
 
 -- one byte more of a list b
 module _ (l b : List ℕ) (at n : ℕ) where
