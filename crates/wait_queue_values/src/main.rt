@@ -2,9 +2,9 @@
 use libc::STDOUT_FILENO;
 use schemev2::Args;
 use schemev2::Sqe;
-use wait_queue::ReceiveAnswer;
-use wait_queue::Received;
 use wait_queue::WaitQueue;
+use wait_queue_receive::ReceiveAnswer;
+use wait_queue_receive::Received;
 
 fn number(n: u64) {
     io::print_decimal(STDOUT_FILENO, n);
