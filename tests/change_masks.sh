@@ -23,9 +23,9 @@ try() {
     echo "$1 = $3: every proof stands"
 }
 
-try EVENT_READ 1 32 eventFlags
+try EVENT_READ 1 32 eventRead
 try EVENT_WRITE 2 32 eventFlags
-try EVENT_HUP 4 32 eventFlags
+try EVENT_HUP 4 32 eventHup
 try EVENT_ERR 8 32 eventFlags
 try EVENT_NVAL 16 32 eventFlags
 try FOBTAIN_MANUAL_FD 1 16 fobtainFdFlags
@@ -33,3 +33,5 @@ try FOBTAIN_EXCLUSIVE 2 16 fobtainFdFlags
 try FOBTAIN_UPPER_TBL 4 16 fobtainFdFlags
 try FOBTAIN_CLOEXEC 8 16 fobtainFdFlags
 try NEW_FD_POSITIONED 1 2 newFdFlags
+try SQE_ONEWAY 1 4 sqeOneway
+try SQE_MULTIPLE_IDS 2 4 sqeMultipleIds

@@ -9,8 +9,14 @@ abbrev pub within : ℕ → ℕ → Bool
 within mask x = eqb (bitAnd mask x) x
 
 -- `EventFlags`: syscall/src/flag.rs, lines 46 to 53
+abbrev pub eventRead : ℕ
+eventRead = 1
+
+abbrev pub eventHup : ℕ
+eventHup = 4
+
 abbrev pub eventFlags : ℕ
-eventFlags = 1 + 2 + 4 + 8 + 16
+eventFlags = eventRead + 2 + eventHup + 8 + 16
 
 -- `FobtainFdFlags`: syscall/src/flag.rs, lines 83 to 97
 abbrev pub fobtainFdFlags : ℕ

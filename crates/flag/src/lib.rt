@@ -1,19 +1,31 @@
 // Flag bits and masks of the commit. A set of bits is known where no bit lies outside its mask, as `from_bits` has it.
 ghost use mathlib.Core.Path.{_≡_};
-ghost use Rattle.flag.specs.Flags.{within, eventFlags, fobtainFdFlags, newFdFlags};
+ghost use Rattle.flag.specs.Flags.{within, eventRead, eventHup, eventFlags, fobtainFdFlags, newFdFlags, sqeOneway, sqeMultipleIds};
 
 // `EventFlags`: syscall/src/flag.rs, lines 46 to 53.
-pub const EVENT_READ: u64 = 1;
+const EVENT_READ: u64 = 1;
 
-pub const EVENT_WRITE: u64 = 2;
+const EVENT_WRITE: u64 = 2;
 
-pub const EVENT_HUP: u64 = 4;
+const EVENT_HUP: u64 = 4;
 
-pub const EVENT_ERR: u64 = 8;
+const EVENT_ERR: u64 = 8;
 
-pub const EVENT_NVAL: u64 = 16;
+const EVENT_NVAL: u64 = 16;
 
 const EVENT_FLAGS: u64 = EVENT_READ | EVENT_WRITE | EVENT_HUP | EVENT_ERR | EVENT_NVAL;
+
+pub fn event_read() -> u64
+    ensures { λ r. ⌜ r ≡ eventRead ⌝ }
+{
+    EVENT_READ
+}
+
+pub fn event_hup() -> u64
+    ensures { λ r. ⌜ r ≡ eventHup ⌝ }
+{
+    EVENT_HUP
+}
 
 pub fn event_flags_known(bits: u64) -> bool
     ensures { λ r. ⌜ r ≡ within eventFlags bits ⌝ }
@@ -22,13 +34,13 @@ pub fn event_flags_known(bits: u64) -> bool
 }
 
 // `FobtainFdFlags`: syscall/src/flag.rs, lines 83 to 97.
-pub const FOBTAIN_MANUAL_FD: u64 = 1;
+const FOBTAIN_MANUAL_FD: u64 = 1;
 
-pub const FOBTAIN_EXCLUSIVE: u64 = 2;
+const FOBTAIN_EXCLUSIVE: u64 = 2;
 
-pub const FOBTAIN_UPPER_TBL: u64 = 4;
+const FOBTAIN_UPPER_TBL: u64 = 4;
 
-pub const FOBTAIN_CLOEXEC: u64 = 8;
+const FOBTAIN_CLOEXEC: u64 = 8;
 
 const FOBTAIN_FD_FLAGS: u64 = FOBTAIN_MANUAL_FD
     | FOBTAIN_EXCLUSIVE
@@ -42,7 +54,7 @@ pub fn fobtain_fd_flags_known(bits: u64) -> bool
 }
 
 // `NewFdFlags`: syscall/src/schemev2.rs, lines 79 to 81.
-pub const NEW_FD_POSITIONED: u64 = 1;
+const NEW_FD_POSITIONED: u64 = 1;
 
 const NEW_FD_FLAGS: u64 = NEW_FD_POSITIONED;
 
@@ -53,6 +65,18 @@ pub fn new_fd_flags_known(bits: u64) -> bool
 }
 
 // `SqeFlags`: syscall/src/schemev2.rs, lines 45 to 53.
-pub const SQE_ONEWAY: u8 = 1;
+const SQE_ONEWAY: u8 = 1;
 
-pub const SQE_MULTIPLE_IDS: u8 = 2;
+const SQE_MULTIPLE_IDS: u8 = 2;
+
+pub fn sqe_oneway() -> u8
+    ensures { λ r. ⌜ r ≡ sqeOneway ⌝ }
+{
+    SQE_ONEWAY
+}
+
+pub fn sqe_multiple_ids() -> u8
+    ensures { λ r. ⌜ r ≡ sqeMultipleIds ⌝ }
+{
+    SQE_MULTIPLE_IDS
+}
