@@ -180,17 +180,21 @@ module _ (q : WaitQueue) (ws : List ℕ) (e : Sqe) (room : q .len < 128) (size :
       ap (λ (p : ℕ). getD stored p 0) (place-is (q .first) (q .len) k h)
       ∙ getD-sets-in (sqeWords e) ws (placeOf q) k h (omega (arith, size))
 
-  pub unread-sent : e .opcode < 256 → e .«sqe_flags» < 256 → e .tag < 0x1_0000_0000 → unread longer stored ≡ unread q ws ++ sqeBytes e
-  unread-sent o f t =
+  -- whatever its numbers, its eight words come after all others
+  pub unread-more : unread longer stored ≡ unread q ws ++ bytesOf (sqeWords e)
+  unread-more =
       ap (λ (n : ℕ). bytesOf (wordsFrom longer stored 0 n)) more
       ∙ ap bytesOf (words-split longer stored (q .len * 8) 8 0)
       ∙ bytes-append (wordsFrom longer stored 0 (q .len * 8)) (wordsFrom longer stored (0 + q .len * 8) 8)
       ∙ ap₂ (λ (a b : List ℕ). bytesOf a ++ b)
       (words-agree longer q stored ws (q .len * 8) 0 0 (λ (k : ℕ) (h : k < q .len * 8). ap (wordAt longer stored) (plain k) ∙ old k h ∙ ap (wordAt q ws) (sym (plain k))))
-      (ap bytesOf (words-are longer stored (sqeWords e) (0 + q .len * 8) (λ (k : ℕ) (h : k < 8). ap (λ (p : ℕ). wordAt longer stored (p + k)) (plain (q .len * 8)) ∙ new k h)) ∙ sqe-words e o f t)
+      (ap bytesOf (words-are longer stored (sqeWords e) (0 + q .len * 8) (λ (k : ℕ) (h : k < 8). ap (λ (p : ℕ). wordAt longer stored (p + k)) (plain (q .len * 8)) ∙ new k h)))
     where
       plain : (x : ℕ) → 0 + x ≡ x
       plain x = omega arith
 
       more : (q .len + 1) * 8 ≡ q .len * 8 + 8
       more = omega arith
+
+  pub unread-sent : e .opcode < 256 → e .«sqe_flags» < 256 → e .tag < 0x1_0000_0000 → unread longer stored ≡ unread q ws ++ sqeBytes e
+  unread-sent o f t = unread-more ∙ ap (λ (b : List ℕ). unread q ws ++ b) (sqe-words e o f t)

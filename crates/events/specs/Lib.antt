@@ -1,0 +1,17 @@
+pub mod World
+pub mod Outcome
+pub mod Host
+pub mod Submit
+pub mod Wake
+pub mod Read
+pub mod Complete
+pub mod Descriptors
+pub mod Supply
+pub mod Replies
+pub mod Event
+pub mod History
+pub mod Run
+pub mod Demand3
+pub mod Whole
+pub mod Refusals
+pub mod Exactly

@@ -1,0 +1,80 @@
+-- What an event answers and leaves: its answer, effects, the bytes that it stored and the state; and how refusals are
+-- written down, as rows in 01's order.
+use Prim.Native.Nat.{ℕ}
+use mathlib.Core.Bool.{Bool, true, false, cond}
+use mathlib.Core.List.{List, [], _∷_}
+use Rattle.answer.specs.Answer as numbered
+use Rattle.flag.specs.Flags.{eventRead}
+use Rattle.events.specs.World.{World, schemeOf}
+
+-- a reply as the Rust's `Response` (src/scheme/user.rs, lines 64 to 68): a regular one with its word or errno, extra0 and
+-- kind 5's notice; one descriptor; many
+pub data Response : Type 0 where
+  success : ℕ → ℕ → Bool → Response
+  error : ℕ → ℕ → Bool → Response
+  descriptor : ℕ → Response
+  many : List ℕ → Response
+
+-- done, with a value or 0; refused with a number; a read would wait; a wake is still blocked; a wake hands a reply over
+pub data Answer : Type 0 where
+  ok : ℕ → Answer
+  no : ℕ → Answer
+  wait : Answer
+  blocked : Answer
+  reply : Response → Answer
+
+-- effects are three words each: those of `write` go to lent words, in order from the first; any other event has at most one,
+-- in its reply. `bytes` are those that a read stored, from the first of the lent ones on.
+pub record Outcome : Type 0 where
+  pub answer : Answer
+  pub effects : List ℕ
+  pub bytes : List ℕ
+  pub world : World
+
+abbrev pub outcome : Answer → List ℕ → World → Outcome
+outcome a fx w = record { answer = a; effects = fx; bytes = []; world = w }
+
+-- the number and values of a lower layer's answer: its first value, or 0
+abbrev pub valued : List ℕ → Answer
+valued [] = ok 0
+valued (v ∷ vs) = ok v
+
+abbrev pub answered : numbered.Answer → Answer
+answered (numbered.success vs) = valued vs
+answered (numbered.refused n) = no n
+answered numbered.waits = wait
+
+-- refused: nothing changes
+abbrev pub refuse : World → ℕ → Outcome
+refuse w k = outcome (no k) [] w
+
+-- a row of a refusal table: the number, and when it is due
+pub record Row : Type 0 where
+  pub number : ℕ
+  pub due : Bool
+
+abbrev pub row : ℕ → Bool → Row
+row k b = record { number = k; due = b }
+
+-- the first row that is due refuses, and where none is, the event goes on
+abbrev pub checked : {A : Type 0} → (ℕ → A) → List Row → A → A
+checked turn [] o = o
+checked turn (r ∷ rs) o = cond (r .due) (turn (r .number)) (checked turn rs o)
+
+-- the kinds of effects: 1 wake (caller, tag), 2 unmap (base page, count), 3 close (description, 0; in crate closes), 4 an event
+-- entry's event (number, flags), 5 the root's event for the queue (scheme number, flags)
+abbrev pub wakeEffect : ℕ → ℕ → List ℕ
+wakeEffect caller tag = 1 ∷ caller ∷ tag ∷ []
+
+abbrev pub unmapEffect : ℕ → ℕ → List ℕ
+unmapEffect base count = 2 ∷ base ∷ count ∷ []
+
+abbrev pub eventEffect : ℕ → ℕ → List ℕ
+eventEffect number flags = 4 ∷ number ∷ flags ∷ []
+
+abbrev pub rootEffect : World → ℕ → List ℕ
+rootEffect w flags = 5 ∷ schemeOf w ∷ flags ∷ []
+
+-- an entry was queued
+abbrev pub readable : World → List ℕ
+readable w = rootEffect w eventRead

@@ -1,0 +1,44 @@
+-- How a reply is read by whoever made the call (01, "Reading replies"; src/scheme/user.rs: `into_regular` 71, `call_generic`
+-- 1428 to 1444, `kopenat` 1473, `kdup` 1704; `from_extra0`, src/context/file.rs, line 92).
+use Prim.Native.Nat.{ℕ}
+use mathlib.Core.Bool.{Bool, true, false}
+use Rattle.flag.specs.Flags.{within, newFdFlags}
+use Rattle.events.specs.Outcome.{Response, success, error, descriptor, many, Answer, ok, no}
+
+-- one descriptor or many: EIO
+abbrev pub intoRegularOf : Response → Answer
+intoRegularOf (success w x b) = ok w
+intoRegularOf (error e x b) = no e
+intoRegularOf (descriptor d) = no 5
+intoRegularOf (many ds) = no 5
+
+-- the same, and kind 5's notice, even with an error
+abbrev pub callGenericOf : Response → Answer
+callGenericOf r = intoRegularOf r
+
+abbrev pub noticeOf : Response → Bool
+noticeOf (success w x b) = b
+noticeOf (error e x b) = b
+noticeOf (descriptor d) = false
+noticeOf (many ds) = false
+
+-- `OpenResult`: a number of the scheme's own with its flags, or a description; or a refusal
+pub data Opened : Type 0 where
+  schemeLocal : ℕ → ℕ → Opened
+  external : ℕ → Opened
+  failed : ℕ → Opened
+
+-- extra0 has known bits only
+abbrev pub localIf : Bool → ℕ → ℕ → Opened
+localIf true w x = schemeLocal w x
+localIf false w x = failed 22
+
+-- the error first, then unknown bits
+abbrev pub kopenatOf : Response → Opened
+kopenatOf (success w x b) = localIf (within newFdFlags x) w x
+kopenatOf (error e x b) = failed e
+kopenatOf (descriptor d) = external d
+kopenatOf (many ds) = failed 5
+
+abbrev pub kdupOf : Response → Opened
+kdupOf r = kopenatOf r

@@ -1,0 +1,84 @@
+-- One turn of `call_inner`'s loop (01, "Waking"; src/scheme/user.rs, lines 263 to 388), and what a slot holds for it.
+use Prim.Native.Nat.{ℕ, zero, suc}
+use mathlib.Core.Bool.{Bool, true, false, not, _||_, _&&_}
+use mathlib.Core.List.{List, [], _∷_}
+use lib.Dec.{ltb, eqb}
+use Rattle.fd_list.specs.Lists.{numbers}
+use Rattle.flag.specs.Flags.{sqeOneway}
+use Rattle.holds.specs.Holds.{outsideOf}
+use Rattle.schemev2.specs.declared.Sqe.{Sqe}
+use Rattle.slot.specs.declared.PageSpan.{PageSpan}
+use Rattle.slot.specs.declared.Phase.{Phase}
+use Rattle.slot.specs.declared.Phase.the-variants.{Vacant, Placeholder, Waiting, Responded, Fmap}
+use Rattle.slot.specs.declared.Slot.{Slot}
+use Rattle.slot.specs.Slots.{canceledOf, interruptedOf}
+use Rattle.table.specs.Table.{putAt, vacateAt}
+use Rattle.events.specs.World.{World, tableOf, holdsOf, slotIn, phaseIn, withTable, tableWith, queueFull, queued}
+use Rattle.events.specs.Outcome.{Response, success, error, descriptor, many, Outcome, outcome, no, blocked, reply, refuse, row, checked, readable}
+use Rattle.events.specs.Submit.{entry, args6}
+
+-- the reply that a slot holds: by the stored kind, its word, and for many its list
+abbrev pub responseBy : ℕ → Slot → Response
+responseBy zero v = success (v .reply .word) (v .reply .extra0) (v .reply .notice)
+responseBy (suc zero) v = error (v .reply .word) (v .reply .extra0) (v .reply .notice)
+responseBy (suc (suc zero)) v = descriptor (v .reply .word)
+responseBy (suc (suc (suc k))) v = many (numbers (v .fds))
+
+abbrev pub responseOf : Slot → Response
+responseOf v = responseBy (v .reply .kind) v
+
+-- the descriptions that a reply holds, in order
+abbrev pub heldIn : Response → List ℕ
+heldIn (success w x b) = []
+heldIn (error e x b) = []
+heldIn (descriptor d) = d ∷ []
+heldIn (many ds) = ds
+
+-- Cancel: ONEWAY, the call's tag, all else 0
+abbrev pub cancelEntry : ℕ → Sqe
+cancelEntry n = entry 25 sqeOneway n (args6 0 0 0 0 0 0) 0
+
+-- the reply leaves with its holds, which become outside ones, and its slot is vacated
+abbrev pub handedOver : World → ℕ → Outcome
+handedOver w n =
+    outcome (reply (responseOf (slotIn w n))) []
+    (withTable w (tableWith (vacateAt (tableOf w) n) (outsideOf (holdsOf w) (heldIn (responseOf (slotIn w n))))))
+
+-- killed while waiting: EINTR; whoever responds unmaps the span
+abbrev pub interrupted : World → ℕ → PageSpan → Outcome
+interrupted w n span = outcome (no 4) [] (withTable w (putAt (tableOf w) n (interruptedOf (slotIn w n) span)))
+
+-- still blocked: cancelling already; else no room for the Cancel, or it is queued
+abbrev pub blockedBy : Bool → Bool → World → ℕ → Outcome
+blockedBy true full w n = outcome blocked [] w
+blockedBy false true w n = refuse w 203
+blockedBy false false w n = outcome blocked (readable w) (queued (withTable w (putAt (tableOf w) n (canceledOf (slotIn w n)))) (cancelEntry n))
+
+-- a Waiting slot: killed or not
+abbrev pub waitedBy : Bool → World → ℕ → PageSpan → Outcome
+waitedBy true w n span = interrupted w n span
+waitedBy false w n span = blockedBy (slotIn w n .canceling) (queueFull w) w n
+
+-- a Responded slot hands its reply over, also to a killed caller
+abbrev pub wokenBy : Phase → World → ℕ → ℕ → PageSpan → Outcome
+wokenBy Vacant w n killed span = refuse w 77
+wokenBy Placeholder w n killed span = refuse w 77
+wokenBy Waiting w n killed span = waitedBy (eqb killed 1) w n span
+wokenBy Responded w n killed span = handedOver w n
+wokenBy Fmap w n killed span = refuse w 77
+
+abbrev pub awaits : Phase → Bool
+awaits Vacant = false
+awaits Placeholder = false
+awaits Waiting = true
+awaits Responded = true
+awaits Fmap = false
+
+abbrev pub wakeable : Slot → ℕ → Bool
+wakeable v c = eqb (v .caller) c && (not (v .ended) && not (v .returned))
+
+abbrev pub wakeOf : World → ℕ → ℕ → ℕ → ℕ → ℕ → Outcome
+wakeOf w n c killed base count =
+    checked (refuse w)
+    (row 205 (ltb 1 killed) ∷ row 77 (not (awaits (phaseIn w n))) ∷ row 201 (not (wakeable (slotIn w n) c)) ∷ [])
+    (wokenBy (phaseIn w n) w n killed (record { base = base; count = count }))
