@@ -1,1 +1,11 @@
 pub mod Examples
+pub mod Stage
+pub mod Sane
+pub mod Once
+pub mod Stored
+pub mod Inv
+pub mod Checked
+pub mod Whole
+pub mod Entries
+pub mod Steps
+pub mod Demanded

@@ -32,7 +32,7 @@ use Rattle.slot.specs.Slots.{noFds, respondedOf, withFdsOf}
 use Rattle.table.specs.declared.Table.{Table}
 use Rattle.table.specs.Table.{putAt, vacateAt}
 use Rattle.events.specs.World.{World, tableOf, holdsOf, handlesOf, slotIn, phaseIn, withTable, tableWith, withHolds, withHandles}
-use Rattle.events.specs.Outcome.{Response, success, error, descriptor, many, Answer, Outcome, outcome, ok, no, refuse, row, checked, wakeEffect, unmapEffect, eventEffect}
+use Rattle.events.specs.Outcome.{Response, success, error, descriptor, many, Answer, Outcome, outcome, ok, no, refuse, Row, row, checked, wakeEffect, unmapEffect, eventEffect}
 use Rattle.events.specs.Wake.{heldIn}
 
 -- what one entry does: accepted with its effects, or turned down with a number
@@ -129,13 +129,18 @@ abbrev pub inHandle : World → ℕ → ℕ
 inHandle w k = heldAt (handlesOf w) k - 1
 
 -- with descriptor: the handle is emptied; refused by its tag, the hold is dropped
-abbrev pub descriptorOf : World → ℕ → ℕ → Entered
-descriptorOf w n k =
-    checked (reject w) (row 22 (eqb (heldAt (handlesOf w) k) 0) ∷ [])
-    (respondBy (phaseIn w n)
+abbrev pub handleRows : World → ℕ → List Row
+handleRows w k = row 22 (eqb (heldAt (handlesOf w) k) 0) ∷ []
+
+abbrev pub byDescriptor : World → ℕ → ℕ → Entered
+byDescriptor w n k =
+    respondBy (phaseIn w n)
     (withHandles (withHolds w (dropped (holdsOf w) (inHandle w k ∷ []))) (emptied (handlesOf w) k))
     (closesOf Refused (holdsOf w) (inHandle w k ∷ []))
-    (withHandles w (emptied (handlesOf w) k)) n (one (inHandle w k)))
+    (withHandles w (emptied (handlesOf w) k)) n (one (inHandle w k))
+
+abbrev pub descriptorOf : World → ℕ → ℕ → Entered
+descriptorOf w n k = checked (reject w) (handleRows w k) (byDescriptor w n k)
 
 abbrev pub isVacant : Phase → Bool
 isVacant Vacant = true
@@ -152,15 +157,21 @@ isWaiting Responded = false
 isWaiting Fmap = false
 
 -- an obtain entry: the first listed description into the handle
-abbrev pub obtainedAs : Obtained → World → ℕ → List ℕ → Entered
-obtainedAs o w n fx =
+abbrev pub obtainRows : World → ℕ → List Row
+obtainRows w n =
+    row 22 (isVacant (phaseIn w n)) ∷ row 2 (not (isWaiting (phaseIn w n)) || eqb (length (numbers (slotIn w n .fds))) 0) ∷ []
+
+abbrev pub obtainedAs : World → ℕ → Obtained → List ℕ → Entered
+obtainedAs w n o fx =
     accepted fx
     (withHandles (withTable w (tableWith (putAt (tableOf w) n (withFdsOf (slotIn w n) (o .list))) (o .holds))) (o .handles))
 
+abbrev pub obtained : World → ℕ → ℕ → Entered
+obtained w n k =
+    obtainedAs w n (obtainOf (holdsOf w) (handlesOf w) (slotIn w n .fds) k) (obtainCloses (holdsOf w) (handlesOf w) (slotIn w n .fds) k)
+
 abbrev pub obtainEntryOf : World → ℕ → ℕ → Entered
-obtainEntryOf w n k =
-    checked (reject w) (row 22 (isVacant (phaseIn w n)) ∷ row 2 (not (isWaiting (phaseIn w n)) || eqb (length (numbers (slotIn w n .fds))) 0) ∷ [])
-    (obtainedAs (obtainOf (holdsOf w) (handlesOf w) (slotIn w n .fds) k) w n (obtainCloses (holdsOf w) (handlesOf w) (slotIn w n .fds) k))
+obtainEntryOf w n k = checked (reject w) (obtainRows w n) (obtained w n k)
 
 -- `handle_parsed`
 abbrev pub entryBy : ParsedCqe → World → Entered
@@ -204,5 +215,8 @@ writeOn w (e ∷ es) n fx =
 abbrev pub shortWords : ℕ → List ℕ → Bool
 shortWords words bs = ltb words (54 * (length bs / 16))
 
+abbrev pub writeRows : ℕ → List ℕ → List Row
+writeRows words bs = row 204 (shortWords words bs) ∷ []
+
 abbrev pub writeOf : World → ℕ → List ℕ → Outcome
-writeOf w words bs = checked (refuse w) (row 204 (shortWords words bs) ∷ []) (writeOn w (entriesOf bs) 0 [])
+writeOf w words bs = checked (refuse w) (writeRows words bs) (writeOn w (entriesOf bs) 0 [])

@@ -10,7 +10,7 @@ use Rattle.holds.specs.Holds.{outsideOf}
 use Rattle.slot.specs.Slots.{noFds, withFdsOf}
 use Rattle.table.specs.Table.{putAt}
 use Rattle.events.specs.World.{World, tableOf, holdsOf, slotIn, phaseIn, withTable, tableWith, withHolds}
-use Rattle.events.specs.Outcome.{Outcome, outcome, ok, refuse, row, checked}
+use Rattle.events.specs.Outcome.{Outcome, outcome, ok, refuse, Row, row, checked}
 use Rattle.events.specs.Submit.{badList, longList, takenHolds}
 use Rattle.events.specs.Complete.{dropped, isVacant, isWaiting}
 
@@ -24,23 +24,34 @@ requestOf ms = getD ms 1 0
 abbrev pub wrongWords : ℕ → List ℕ → Bool
 wrongWords verb ms = not (eqb (length ms) 2) || not (eqb (verbOf ms) verb)
 
+-- the request's slot: metadata and vacant 22, not Waiting 2
+abbrev pub requestRows : World → ℕ → List ℕ → List Row
+requestRows w verb ms =
+    row 22 (wrongWords verb ms || isVacant (phaseIn w (requestOf ms))) ∷ row 2 (not (isWaiting (phaseIn w (requestOf ms)))) ∷ []
+
 -- move: the list replaces the slot's, whose holds are dropped; refused by 22 or 2 it drops what it brought
+abbrev pub listRows : World → List ℕ → List Row
+listRows w ds = row 205 (badList w ds) ∷ row 206 (longList ds) ∷ []
+
+abbrev pub broughtBack : World → List ℕ → World
+broughtBack w ds = withHolds w (dropped (takenHolds w ds) ds)
+
+abbrev pub moved : World → ℕ → List ℕ → Outcome
+moved w n ds =
+    outcome (ok (length ds)) []
+    (withTable w
+    (tableWith (putAt (tableOf w) n (withFdsOf (slotIn w n) (listOf ds))) (dropped (takenHolds w ds) (numbers (slotIn w n .fds)))))
+
 abbrev pub moveOf : World → List ℕ → List ℕ → Outcome
 moveOf w ms ds =
-    checked (refuse w) (row 205 (badList w ds) ∷ row 206 (longList ds) ∷ [])
-    (checked (refuse (withHolds w (dropped (takenHolds w ds) ds)))
-    (row 22 (wrongWords 1 ms || isVacant (phaseIn w (requestOf ms))) ∷ row 2 (not (isWaiting (phaseIn w (requestOf ms)))) ∷ [])
-    (outcome (ok (length ds)) []
-    (withTable w
-    (tableWith (putAt (tableOf w) (requestOf ms) (withFdsOf (slotIn w (requestOf ms)) (listOf ds)))
-    (dropped (takenHolds w ds) (numbers (slotIn w (requestOf ms) .fds)))))))
+    checked (refuse w) (listRows w ds) (checked (refuse (broughtBack w ds)) (requestRows w 1 ms) (moved w (requestOf ms) ds))
 
 -- obtain: the list becomes outside holds
-abbrev pub obtainCallOf : World → List ℕ → Outcome
-obtainCallOf w ms =
-    checked (refuse w)
-    (row 22 (wrongWords 0 ms || isVacant (phaseIn w (requestOf ms))) ∷ row 2 (not (isWaiting (phaseIn w (requestOf ms)))) ∷ [])
-    (outcome (ok (length (numbers (slotIn w (requestOf ms) .fds)))) []
+abbrev pub givenUp : World → ℕ → Outcome
+givenUp w n =
+    outcome (ok (length (numbers (slotIn w n .fds)))) []
     (withTable w
-    (tableWith (putAt (tableOf w) (requestOf ms) (withFdsOf (slotIn w (requestOf ms)) noFds))
-    (outsideOf (holdsOf w) (numbers (slotIn w (requestOf ms) .fds))))))
+    (tableWith (putAt (tableOf w) n (withFdsOf (slotIn w n) noFds)) (outsideOf (holdsOf w) (numbers (slotIn w n .fds)))))
+
+abbrev pub obtainCallOf : World → List ℕ → Outcome
+obtainCallOf w ms = checked (refuse w) (requestRows w 0 ms) (givenUp w (requestOf ms))

@@ -20,7 +20,7 @@ use Rattle.table.specs.Table.{putAt, givenOut}
 use Rattle.take_holds.specs.Take.{bad, takeOf}
 use Rattle.user_args.specs.Args.{mergeOf}
 use Rattle.events.specs.World.{World, tableOf, holdsOf, slotIn, withTable, tableWith, queueFull, queued}
-use Rattle.events.specs.Outcome.{Outcome, outcome, ok, refuse, row, checked, readable, rootEffect}
+use Rattle.events.specs.Outcome.{Outcome, outcome, ok, refuse, Row, row, checked, readable, rootEffect}
 
 abbrev pub args6 : ℕ → ℕ → ℕ → ℕ → ℕ → ℕ → Args
 args6 a b c d e f = record { 0 = a; 1 = b; 2 = c; 3 = d; 4 = e; 5 = f }
@@ -47,10 +47,14 @@ abbrev pub takenHolds : World → List ℕ → Holds
 takenHolds w ds = takeOf (holdsOf w) ds .holds
 
 -- `next_id`: a Placeholder of the caller's
+abbrev pub reserveRows : World → List Row
+reserveRows w = row 202 (tableFull w) ∷ []
+
+abbrev pub reserved : World → ℕ → Outcome
+reserved w c = outcome (ok (tableOf w .head)) [] (withTable w (givenOut (tableOf w) (placeholderOf c)))
+
 abbrev pub reserveOf : World → ℕ → Outcome
-reserveOf w c =
-    checked (refuse w) (row 202 (tableFull w) ∷ [])
-    (outcome (ok (tableOf w .head)) [] (withTable w (givenOut (tableOf w) (placeholderOf c))))
+reserveOf w c = checked (refuse w) (reserveRows w) (reserved w c)
 
 -- is it a Placeholder of this caller's that has not ended
 abbrev pub isPlaceholder : Phase → Bool
@@ -67,16 +71,20 @@ submittable v c = isPlaceholder (phaseOf v) && (eqb (v .caller) c && not (v .end
 abbrev pub submitEntry : ℕ → ℕ → ℕ → Args → ℕ → Sqe
 submitEntry n op fl args pid = entry op fl n args pid
 
-abbrev pub submitOf : World → ℕ → ℕ → ℕ → ℕ → Args → ℕ → List ℕ → Outcome
-submitOf w n c op fl args pid ds =
-    checked (refuse w)
-    (row 205 (badOpcode op || badList w ds)
+abbrev pub submitRows : World → ℕ → ℕ → ℕ → List ℕ → List Row
+submitRows w n c op ds =
+    row 205 (badOpcode op || badList w ds)
     ∷ row 206 (longList ds)
     ∷ row 201 (not (submittable (slotIn w n) c))
     ∷ row 203 (queueFull w)
-    ∷ [])
-    (outcome (ok n) (readable w)
-    (queued (withTable w (tableWith (putAt (tableOf w) n (waitingOf c (listOf ds))) (takenHolds w ds))) (submitEntry n op fl args pid)))
+    ∷ []
+
+abbrev pub submitted : World → ℕ → ℕ → List ℕ → Sqe → Outcome
+submitted w n c ds e =
+    outcome (ok n) (readable w) (queued (withTable w (tableWith (putAt (tableOf w) n (waitingOf c (listOf ds))) (takenHolds w ds))) e)
+
+abbrev pub submitOf : World → ℕ → ℕ → ℕ → ℕ → Args → ℕ → List ℕ → Outcome
+submitOf w n c op fl args pid ds = checked (refuse w) (submitRows w n c op ds) (submitted w n c ds (submitEntry n op fl args pid))
 
 -- a vacant slot given out and an entry with its tag queued
 abbrev pub begun : World → Slot → Holds → (ℕ → Sqe) → Outcome
@@ -88,11 +96,12 @@ begun w v h e =
 abbrev pub callEntry : ℕ → Args → ℕ → ℕ → ℕ → ℕ → Sqe
 callEntry op a uid gid pid n = entry op 0 n (args6 (a .0) (a .1) (a .2) (a .3) (a .4) (mergeOf uid gid)) pid
 
+abbrev pub callRows : World → ℕ → List ℕ → List Row
+callRows w op ds = row 205 (badOpcode op || badList w ds) ∷ row 206 (longList ds) ∷ row 202 (tableFull w) ∷ row 203 (queueFull w) ∷ []
+
 abbrev pub callOf : World → ℕ → ℕ → Args → ℕ → ℕ → ℕ → List ℕ → Outcome
 callOf w c op args uid gid pid ds =
-    checked (refuse w)
-    (row 205 (badOpcode op || badList w ds) ∷ row 206 (longList ds) ∷ row 202 (tableFull w) ∷ row 203 (queueFull w) ∷ [])
-    (begun w (waitingOf c (listOf ds)) (takenHolds w ds) (callEntry op args uid gid pid))
+    checked (refuse w) (callRows w op ds) (begun w (waitingOf c (listOf ds)) (takenHolds w ds) (callEntry op args uid gid pid))
 
 -- `call_generic` and `translate_std_fs_call`: one or two fds, the payload's address and length, metadata words
 abbrev pub wrongFds : List ℕ → Bool
@@ -107,10 +116,12 @@ abbrev pub genericEntry : ℕ → ℕ → List ℕ → ℕ → ℕ → List ℕ 
 genericEntry op pid fds base len ms n =
     entry op (cond (eqb (length fds) 2) sqeMultipleIds 0) n (genericArgs (eqb (length fds) 2) fds base len ms) pid
 
+abbrev pub genericRows : World → List ℕ → List Row
+genericRows w fds = row 22 (wrongFds fds) ∷ row 202 (tableFull w) ∷ row 203 (queueFull w) ∷ []
+
 abbrev pub genericOf : World → ℕ → ℕ → List ℕ → ℕ → ℕ → List ℕ → Outcome
 genericOf w c pid fds base len ms =
-    checked (refuse w) (row 22 (wrongFds fds) ∷ row 202 (tableFull w) ∷ row 203 (queueFull w) ∷ [])
-    (begun w (waitingOf c (listOf [])) (holdsOf w) (genericEntry 28 pid fds base len ms))
+    checked (refuse w) (genericRows w fds) (begun w (waitingOf c (listOf [])) (holdsOf w) (genericEntry 28 pid fds base len ms))
 
 -- `StdFsCallKind`: 1 to 8 and 10 to 16 (syscall/src/flag.rs, lines 535 to 559)
 abbrev pub wrongKind : ℕ → Bool
@@ -123,36 +134,42 @@ kindByte ms = getD ms 0 0 % 256
 abbrev pub stdMeta : List ℕ → List ℕ
 stdMeta ms = kindByte ms ∷ getD ms 1 0 ∷ getD ms 2 0 ∷ []
 
+-- words, then kind, then fds
+abbrev pub stdfsRows : World → List ℕ → List ℕ → List Row
+stdfsRows w fds ms = row 22 (ltb (length ms) 3) ∷ row 95 (wrongKind (kindByte ms)) ∷ genericRows w fds
+
 abbrev pub stdfsOf : World → ℕ → ℕ → List ℕ → ℕ → ℕ → List ℕ → Outcome
 stdfsOf w c pid fds base len ms =
-    checked (refuse w)
-    (row 22 (ltb (length ms) 3)
-    ∷ row 95 (wrongKind (kindByte ms))
-    ∷ row 22 (wrongFds fds)
-    ∷ row 202 (tableFull w)
-    ∷ row 203 (queueFull w)
-    ∷ [])
-    (begun w (waitingOf c (listOf [])) (holdsOf w) (genericEntry 33 pid fds base len (stdMeta ms)))
+    checked (refuse w) (stdfsRows w fds ms) (begun w (waitingOf c (listOf [])) (holdsOf w) (genericEntry 33 pid fds base len (stdMeta ms)))
 
 -- `request_fmap`: an Fmap slot, which is no call; the offset is left out of the entry
 abbrev pub fmapEntry : ℕ → ℕ → ℕ → ℕ → ℕ → ℕ → ℕ → Sqe
 fmapEntry id pages flags uid gid pid n = entry 21 0 n (args6 id flags pages 0 0 (mergeOf uid gid)) pid
 
+abbrev pub fmapRows : World → List Row
+fmapRows w = row 202 (tableFull w) ∷ row 203 (queueFull w) ∷ []
+
 abbrev pub fmapOf : World → ℕ → ℕ → ℕ → ℕ → ℕ → ℕ → ℕ → Outcome
 fmapOf w c id pages flags uid gid pid =
-    checked (refuse w) (row 202 (tableFull w) ∷ row 203 (queueFull w) ∷ [])
-    (begun w (mapRequestOf c) (holdsOf w) (fmapEntry id pages flags uid gid pid))
+    checked (refuse w) (fmapRows w) (begun w (mapRequestOf c) (holdsOf w) (fmapEntry id pages flags uid gid pid))
 
 -- `close`: pid 0, tag 0, and its effect has READ and HUP
 abbrev pub closeEntry : ℕ → Sqe
 closeEntry id = entry 27 0 0 (args6 id 0 0 0 0 0) 0
 
+abbrev pub queueRows : World → List Row
+queueRows w = row 203 (queueFull w) ∷ []
+
+-- an entry of its own, with the event's flags
+abbrev pub notified : World → ℕ → Sqe → Outcome
+notified w flags e = outcome (ok 0) (rootEffect w flags) (queued w e)
+
 abbrev pub closeOf : World → ℕ → Outcome
-closeOf w id = checked (refuse w) (row 203 (queueFull w) ∷ []) (outcome (ok 0) (rootEffect w (eventRead + eventHup)) (queued w (closeEntry id)))
+closeOf w id = checked (refuse w) (queueRows w) (notified w (eventRead + eventHup) (closeEntry id))
 
 -- `detach`: the pid, tag 0
 abbrev pub detachEntry : ℕ → ℕ → Sqe
 detachEntry id pid = entry 34 0 0 (args6 id 0 0 0 0 0) pid
 
 abbrev pub detachOf : World → ℕ → ℕ → Outcome
-detachOf w id pid = checked (refuse w) (row 203 (queueFull w) ∷ []) (outcome (ok 0) (readable w) (queued w (detachEntry id pid)))
+detachOf w id pid = checked (refuse w) (queueRows w) (notified w eventRead (detachEntry id pid))

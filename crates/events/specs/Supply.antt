@@ -2,13 +2,13 @@
 -- map request's slot.
 use Prim.Native.Nat.{ℕ, _%_}
 use mathlib.Core.Bool.{Bool, true, false, not, _||_}
-use mathlib.Core.List.{[], _∷_}
+use mathlib.Core.List.{List, [], _∷_}
 use lib.Dec.{eqb}
 use Rattle.slot.specs.declared.Phase.{Phase}
 use Rattle.slot.specs.declared.Phase.the-variants.{Vacant, Placeholder, Waiting, Responded, Fmap}
 use Rattle.table.specs.Table.{vacateAt}
 use Rattle.events.specs.World.{World, tableOf, slotIn, phaseIn, withTable}
-use Rattle.events.specs.Outcome.{Answer, Outcome, outcome, ok, no, refuse, row, checked}
+use Rattle.events.specs.Outcome.{Answer, Outcome, outcome, ok, no, refuse, Row, row, checked}
 
 -- off a page, or not one page
 abbrev pub wrongPages : ℕ → ℕ → ℕ → Bool
@@ -26,6 +26,8 @@ suppliedBy Waiting w n = refuse w 22
 suppliedBy Responded w n = refuse w 22
 suppliedBy Fmap w n = outcome (suppliedAs (slotIn w n .ended)) [] (withTable w (vacateAt (tableOf w) n))
 
+abbrev pub pageRows : ℕ → ℕ → ℕ → List Row
+pageRows offset base count = row 22 (wrongPages offset base count) ∷ []
+
 abbrev pub supplyOf : World → ℕ → ℕ → ℕ → ℕ → Outcome
-supplyOf w n offset base count =
-    checked (refuse w) (row 22 (wrongPages offset base count) ∷ []) (suppliedBy (phaseIn w n) w n)
+supplyOf w n offset base count = checked (refuse w) (pageRows offset base count) (suppliedBy (phaseIn w n) w n)

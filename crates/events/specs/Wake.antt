@@ -14,7 +14,7 @@ use Rattle.slot.specs.declared.Slot.{Slot}
 use Rattle.slot.specs.Slots.{canceledOf, interruptedOf}
 use Rattle.table.specs.Table.{putAt, vacateAt}
 use Rattle.events.specs.World.{World, tableOf, holdsOf, slotIn, phaseIn, withTable, tableWith, queueFull, queued}
-use Rattle.events.specs.Outcome.{Response, success, error, descriptor, many, Outcome, outcome, no, blocked, reply, refuse, row, checked, readable}
+use Rattle.events.specs.Outcome.{Response, success, error, descriptor, many, Outcome, outcome, no, blocked, reply, refuse, Row, row, checked, readable}
 use Rattle.events.specs.Submit.{entry, args6}
 
 -- the reply that a slot holds: by the stored kind, its word, and for many its list
@@ -77,8 +77,11 @@ awaits Fmap = false
 abbrev pub wakeable : Slot → ℕ → Bool
 wakeable v c = eqb (v .caller) c && (not (v .ended) && not (v .returned))
 
+-- killed is no yes-or-no word; the phase; is it wakeable
+abbrev pub wakeRows : Bool → Phase → Bool → List Row
+wakeRows x p y = row 205 x ∷ row 77 (not (awaits p)) ∷ row 201 (not y) ∷ []
+
 abbrev pub wakeOf : World → ℕ → ℕ → ℕ → ℕ → ℕ → Outcome
 wakeOf w n c killed base count =
-    checked (refuse w)
-    (row 205 (ltb 1 killed) ∷ row 77 (not (awaits (phaseIn w n))) ∷ row 201 (not (wakeable (slotIn w n) c)) ∷ [])
+    checked (refuse w) (wakeRows (ltb 1 killed) (phaseIn w n) (wakeable (slotIn w n) c))
     (wokenBy (phaseIn w n) w n killed (record { base = base; count = count }))

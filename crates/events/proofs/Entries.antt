@@ -1,0 +1,200 @@
+-- Each completion entry, and so each write, keeps the invariant and leaves the queue alone. Assumes nothing.
+use Prim.Native.Nat.{ℕ, zero, suc, _+_, _*_, _/_, _≤_, _<_}
+use mathlib.Core.Path.{_≡_, refl, sym, ap, _∙_, subst}
+use mathlib.Core.Bool.{Bool, true, false, not, cond, _||_}
+use mathlib.Core.List.{List, [], _∷_, _++_}
+use native.Mathlib.Omega.{arith}
+use native.Mathlib.Nat.{add-zero}
+use lib.Dec.{eqb}
+use lib.ListN.{length}
+use Rattle.closes.specs.declared.Reason.the-variants.{Refused}
+use Rattle.error.specs.declared.Result.{Result}
+use Rattle.error.specs.declared.Result.the-variants.{Ok, Err}
+use Rattle.fd_list.specs.declared.List.{List as Fds}
+use Rattle.fd_list.specs.Lists.{numbers}
+use Rattle.flag.specs.Flags.{within, eventFlags, fobtainFdFlags}
+use Rattle.handles.specs.declared.Handles.{Handles}
+use Rattle.handles.specs.Handles.{emptied, obtainOf}
+use Rattle.holds.specs.declared.Holds.{Holds}
+use Rattle.parse_cqe.specs.Parsed.{parsedBy, eventIf, obtainIf}
+use Rattle.schemev2.specs.declared.Cqe.{Cqe}
+use Rattle.schemev2.specs.declared.CqeOpcode.{CqeOpcode}
+use Rattle.schemev2.specs.declared.CqeOpcode.the-variants.{RespondRegular, RespondWithFd, SendFevent, ObtainFd, RespondWithMultipleFds, RespondAndNotifyOnDetach, Unknown}
+use Rattle.schemev2.specs.Entry.{kindOf, extraOf, cqeOpcodeOf}
+use Rattle.slot.specs.declared.Phase.{Phase}
+use Rattle.slot.specs.declared.Phase.the-variants.{Vacant, Placeholder, Waiting, Responded, Fmap}
+use Rattle.slot.specs.declared.Slot.{Slot}
+use Rattle.slot.specs.Slots.{phaseOf, vacantSlot, respondedOf, withFdsOf}
+use Rattle.table.specs.Reached.{idle}
+use Rattle.table.specs.Table.{slotAt, putAt, vacateAt}
+use Rattle.table.proofs.Chain.{occupied-within}
+use Rattle.events.specs.World.{World, tableOf, holdsOf, handlesOf, slotIn, phaseIn, withTable, tableWith, withHandles}
+use Rattle.events.specs.Outcome.{Response, Answer, Outcome, outcome, ok, no, row}
+use Rattle.events.specs.Wake.{responseOf}
+use Rattle.events.specs.Complete.{Entered, accepted, rejected, reject, Offer, result, one, listed, responseTo, storedAs, keptFds, isVacant, isWaiting, inHandle, servedBy, respondBy, handleRows, byDescriptor, obtainRows, obtained, obtainEntryOf, dropped, closesOf, entryBy, entryOf, stopped, onEntered, writeOn}
+use Rattle.events.specs.History.{Place, Fact, serve, hands, counted, isReply, offerOf, reading, worldOf, pour}
+use Rattle.events.specs.Demand3.{unreadIn}
+use Rattle.events.specs.Whole.{Whole}
+use Rattle.events.proofs.Checked.{checked-cases}
+use Rattle.events.proofs.Inv.{Inv, inv-same, inv-serve, inv-lose}
+use Rattle.events.proofs.Stage.{core, coreBy}
+use Rattle.events.proofs.Stored.{heldOf, put-stored, vacate-stored}
+use Rattle.events.proofs.Whole.{whole-entry}
+
+abbrev pub InvOf : World → List Fact → Type 0
+InvOf w h = Inv (slotIn w) (heldOf (tableOf w)) h
+
+-- an occupied slot's tag is in range
+pub in-range : (w : World) (n : ℕ) (p : Phase) → phaseIn w n ≡ p → idle p ≡ 0 → n < 64
+in-range w n p e z = occupied-within (tableOf w) n (ap idle e ∙ z)
+
+-- a stored reply reads as it was
+pub reads-back : (v : Slot) (o : Offer) → responseOf (respondedOf v (storedAs (responseTo v o)) (keptFds o v)) ≡ responseTo v o
+reads-back v (result (Ok w) x b) = refl
+reads-back v (result (Err e) x b) = refl
+reads-back v (one d) = refl
+reads-back v listed = refl
+
+-- the list of a Waiting slot is told by no history
+pub same-core : (v : Slot) (fds : Fds) (p : Phase) → phaseOf v ≡ p → p ≡ Waiting → core (withFdsOf v fds) ≡ core v
+same-core v fds p e q = ap (λ (j : Phase). coreBy j (withFdsOf v fds)) (e ∙ q) ∙ sym (ap (λ (j : Phase). coreBy j v) (e ∙ q))
+
+pub waiting-is : (p : Phase) → isWaiting p ≡ true → p ≡ Waiting
+waiting-is Vacant e = absurd (let z : _≡_ {A = ℕ} 0 1 = cc in omega arith)
+waiting-is Placeholder e = absurd (let z : _≡_ {A = ℕ} 0 1 = cc in omega arith)
+waiting-is Waiting e = refl
+waiting-is Responded e = absurd (let z : _≡_ {A = ℕ} 0 1 = cc in omega arith)
+waiting-is Fmap e = absurd (let z : _≡_ {A = ℕ} 0 1 = cc in omega arith)
+
+-- what an entry leaves: the history with what it tells if it is accepted, else as it was; the queue in either case
+abbrev Entered-ok : World → List Fact → List Fact → Entered → Type 0
+Entered-ok w h told (accepted fx u) = InvOf u told × (unreadIn u ≡ unreadIn w)
+Entered-ok w h told (rejected k fx u) = InvOf u h × (unreadIn u ≡ unreadIn w)
+
+module _ (w : World) (h : List Fact) (whole : Whole w) (i : InvOf w h) where
+  -- a reply entry: w' is what a refusal leaves, u what it is served on; both differ from w in handles and holds alone
+  module _ (q : Place) (n : ℕ) (o : Offer) (k' k : Handles) (g' g : Holds) (fx : List ℕ) where
+    abbrev left : World
+    left = withHandles (withTable w (tableWith (tableOf w) g')) k'
+
+    abbrev used : World
+    used = withHandles (withTable w (tableWith (tableOf w) g)) k
+
+    abbrev Replied : Entered → Type 0
+    Replied e = Entered-ok w h (serve q n (responseTo (slotIn w n) o) ∷ h) e
+
+    serve-go : (b : Bool) → phaseIn w n ≡ Waiting → slotIn w n .ended ≡ b → Replied (servedBy b used n o)
+    serve-go false p e =
+        let b = in-range w n Waiting p refl in
+        let v = respondedOf (slotIn w n) (storedAs (responseTo (slotIn w n) o)) (keptFds o (slotIn w n)) in
+        (inv-serve (slotIn w) (heldOf (tableOf w)) h i n q (responseTo (slotIn w n) o) (storedAs (responseTo (slotIn w n) o)) (keptFds o (slotIn w n)) (slotAt (putAt (tableOf used) n v)) (heldOf (putAt (tableOf used) n v))
+           (put-stored (tableOf used) (whole .slots) n v b) p e (reads-back (slotIn w n) o), refl)
+    serve-go true p e =
+        let b = in-range w n Waiting p refl in
+        (inv-lose (slotIn w) (heldOf (tableOf w)) h i n q (responseTo (slotIn w n) o) (slotAt (vacateAt (tableOf used) n)) (heldOf (vacateAt (tableOf used) n))
+           (vacate-stored (tableOf used) (whole .slots) n b) p e, refl)
+
+    respond-go : (p : Phase) → phaseIn w n ≡ p → Replied (respondBy p left fx used n o)
+    respond-go Vacant e = (i, refl)
+    respond-go Placeholder e = (i, refl)
+    respond-go Waiting e = serve-go (slotIn w n .ended) e refl
+    respond-go Responded e = (i, refl)
+    respond-go Fmap e = (i, refl)
+
+  obtain-ok : (n k : ℕ) → Entered-ok w h h (obtainEntryOf w n k)
+  obtain-ok n k =
+      checked-cases (Entered-ok w h h) (reject w) (obtainRows w n) (obtained w n k) (λ m. (i, refl))
+      (λ f. go (waiting-is (phaseIn w n) (waits (isWaiting (phaseIn w n)) (eqb (length (numbers (slotIn w n .fds))) 0) (f .1 .0))))
+    where
+      waits : (a b : Bool) → not a || b ≡ false → a ≡ true
+      waits true b e = refl
+      waits false b e = absurd (let z : _≡_ {A = ℕ} 0 1 = cc in omega arith)
+
+      go : phaseIn w n ≡ Waiting → Entered-ok w h h (obtained w n k)
+      go p =
+          let v = withFdsOf (slotIn w n) (obtainOf (holdsOf w) (handlesOf w) (slotIn w n .fds) k .list) in
+          (inv-same (slotIn w) (heldOf (tableOf w)) h i n v (slotAt (putAt (tableOf w) n v)) (heldOf (putAt (tableOf w) n v))
+             (put-stored (tableOf w) (whole .slots) n v (in-range w n Waiting p refl)) Waiting p p (same-core (slotIn w n) (v .fds) Waiting p refl), refl)
+
+  module _ (q : Place) (e : Cqe) where
+    -- told of an entry of this kind
+    abbrev toldBy : CqeOpcode → List Fact
+    toldBy k = cond (isReply k) (serve q (e .tag) (responseTo (slotIn w (e .tag)) (offerOf k w e)) ∷ h) h
+
+    event-go : (b : Bool) → Entered-ok w h h (entryBy (eventIf b e) w)
+    event-go true = (i, refl)
+    event-go false = (i, refl)
+
+    obtain-go : (b : Bool) → Entered-ok w h h (entryBy (obtainIf b e) w)
+    obtain-go true = obtain-ok (e .tag) (e .result)
+    obtain-go false = (i, refl)
+
+    kind-go : (k : CqeOpcode) → Entered-ok w h (toldBy k) (entryBy (parsedBy k e) w)
+    kind-go RespondRegular = respond-go q (e .tag) (offerOf RespondRegular w e) (handlesOf w) (handlesOf w) (holdsOf w) (holdsOf w) [] (phaseIn w (e .tag)) refl
+    kind-go RespondWithFd =
+        checked-cases (Entered-ok w h (toldBy RespondWithFd)) (reject w) (handleRows w (e .result)) (byDescriptor w (e .tag) (e .result)) (λ m. (i, refl))
+        (λ f. respond-go q (e .tag) (one (inHandle w (e .result))) (emptied (handlesOf w) (e .result)) (emptied (handlesOf w) (e .result)) (dropped (holdsOf w) (inHandle w (e .result) ∷ [])) (holdsOf w) (closesOf Refused (holdsOf w) (inHandle w (e .result) ∷ [])) (phaseIn w (e .tag)) refl)
+    kind-go SendFevent = event-go (within eventFlags (e .tag))
+    kind-go ObtainFd = obtain-go (within fobtainFdFlags (extraOf e))
+    kind-go RespondWithMultipleFds = respond-go q (e .tag) listed (handlesOf w) (handlesOf w) (holdsOf w) (holdsOf w) [] (phaseIn w (e .tag)) refl
+    kind-go RespondAndNotifyOnDetach =
+        respond-go q (e .tag) (offerOf RespondAndNotifyOnDetach w e) (handlesOf w) (handlesOf w) (holdsOf w) (holdsOf w) [] (phaseIn w (e .tag)) refl
+    kind-go Unknown = (i, refl)
+
+    entry-ok : Entered-ok w h (toldBy (cqeOpcodeOf (kindOf e))) (entryOf w e)
+    entry-ok = kind-go (cqeOpcodeOf (kindOf e))
+
+-- a write, entry after entry: m more entries are counted, and they are the first m
+abbrev pub Wrote : World → List Fact → List Cqe → ℕ → ℕ → ℕ → Outcome → Type 0
+Wrote w h es j q n o =
+    (m : ℕ) × (counted (o .answer) ≡ n + m) × InvOf (o .world) (pour j q m es w h) × (hands (o .answer) ≡ false) × (unreadIn (o .world) ≡ unreadIn w)
+
+sixteenth : (n : ℕ) → 16 * n / 16 ≡ n
+sixteenth n = omega arith
+
+stopped-count : (n k : ℕ) → counted (stopped n k) ≡ n + 0
+stopped-count zero k = refl
+stopped-count (suc n) k = sixteenth (suc n) ∙ sym (add-zero (suc n))
+
+stopped-hands : (n k : ℕ) → hands (stopped n k) ≡ false
+stopped-hands zero k = refl
+stopped-hands (suc n) k = refl
+
+pub write-ok : (es : List Cqe) (j : ℕ) (w : World) (h : List Fact) → Whole w → InvOf w h → (q n : ℕ) (fx : List ℕ) → Wrote w h es j q n (writeOn w es n fx)
+write-ok [] j w h whole i q n fx = (0, sixteenth n ∙ sym (add-zero n), i, refl, refl)
+write-ok (e ∷ es) j w h whole i q n fx = land (write-ok es j)
+  where
+    place : Place
+    place = record { event = j; entry = q }
+
+    told : List Fact
+    told = cond (isReply (cqeOpcodeOf (kindOf e))) (serve (record { event = j; entry = q }) (e .tag) (reading w e) ∷ h) h
+
+    -- what the first m of e ∷ es tell, where e lands as x
+    toldOf : Entered → ℕ → List Fact
+    toldOf x zero = h
+    toldOf x (suc m) = pour j (suc q) m es (worldOf x) told
+
+    told-is : (m : ℕ) → toldOf (entryOf w e) m ≡ pour j q m (e ∷ es) w h
+    told-is zero = refl
+    told-is (suc m) = refl
+
+    go :
+        ((u : World) (h : List Fact) → Whole u → InvOf u h → (q n : ℕ) (fx : List ℕ) → Wrote u h es j q n (writeOn u es n fx))
+        → (x : Entered) → Whole (worldOf x) → Entered-ok w h told x
+        → (m : ℕ)
+        × (counted (onEntered x (λ gx u. writeOn u es (suc n) (fx ++ gx)) (λ k gx u. outcome (stopped n k) (fx ++ gx) u) .answer) ≡ n + m)
+        × InvOf (onEntered x (λ gx u. writeOn u es (suc n) (fx ++ gx)) (λ k gx u. outcome (stopped n k) (fx ++ gx) u) .world) (toldOf x m)
+        × (hands (onEntered x (λ gx u. writeOn u es (suc n) (fx ++ gx)) (λ k gx u. outcome (stopped n k) (fx ++ gx) u) .answer) ≡ false)
+        × (unreadIn (onEntered x (λ gx u. writeOn u es (suc n) (fx ++ gx)) (λ k gx u. outcome (stopped n k) (fx ++ gx) u) .world) ≡ unreadIn w)
+    go more (accepted gx u) s g =
+        let r = more u told s (g .0) (suc q) (suc n) (fx ++ gx) in
+        (suc (r .0), omega (arith, r .1), r .2, r .3, r .4 ∙ g .1)
+    go more (rejected k gx u) s g = (0, stopped-count n k, g .0, stopped-hands n k, g .1)
+
+    land :
+        ((u : World) (h : List Fact) → Whole u → InvOf u h → (q n : ℕ) (fx : List ℕ) → Wrote u h es j q n (writeOn u es n fx))
+        → Wrote w h (e ∷ es) j q n (writeOn w (e ∷ es) n fx)
+    land more =
+        let r = go more (entryOf w e) (whole-entry w e whole) (entry-ok w h whole i place e) in
+        (r .0, r .1, subst (λ (f : List Fact). InvOf (writeOn w (e ∷ es) n fx .world) f) (told-is (r .0)) (r .2), r .3, r .4)
