@@ -1,27 +1,201 @@
--- Computed runs.
+-- Runs that reach each clause of the claims, computed. Assumes nothing.
 use Prim.Native.Nat.{ℕ}
 use mathlib.Core.Path.{_≡_, refl}
 use mathlib.Core.Bool.{Bool, true, false}
-use mathlib.Core.List.{List, [], _∷_, map}
+use mathlib.Core.List.{List, [], _∷_, _++_}
+use lib.Count.{ones}
 use lib.ListN.{replicate}
-use Rattle.events.specs.World.{World}
-use Rattle.events.specs.Outcome.{Answer, ok, no, blocked, reply, success}
+use Rattle.handles.specs.Handles.{heldAt}
+use Rattle.schemev2.specs.Entry.{sqeBytes}
+use Rattle.slot.specs.declared.Phase.the-variants.{Vacant, Placeholder, Waiting, Responded, Fmap}
+use Rattle.wait_queue.specs.Queue.{wordsFrom}
+use Rattle.events.specs.World.{handlesOf, queueOf, phaseIn}
+use Rattle.events.specs.Outcome.{ok, no, blocked, reply, success, error, descriptor, many}
 use Rattle.events.specs.Submit.{args6}
-use Rattle.events.specs.Event.{Event, call, read, wake, write}
-use Rattle.events.specs.Run.{Run, Turn, run}
+use Rattle.events.specs.Wake.{cancelEntry}
+use Rattle.events.specs.Event.{Event, hostOpen, hostCopy, hostPut, hostEnded, reserve, call, fmap, wake, read, write, move, supply}
+use Rattle.events.specs.History.{gave, asked, took, serve, block, break, pass, filled, end}
+use Rattle.events.specs.Examples.{line, linesOf, factsOf, countsOf, leaves, callBy, entry, woke, more}
 
-abbrev answers : List Event → List Answer
-answers es = map (λ (t : Turn). t .answer) (run 7 (replicate 1024 0) es .turns)
-
-accident :
-    answers
-    (call 100 6 (args6 1 2 3 4 5 0) 0 0 100 []
+-- The accident: a killed dosing call keeps its slot until its driver has replied, and the late reply serves it, not the valve call.
+abbrev accident : List Event
+accident =
+    call 100 6 (args6 1 2 3 4 5 0) 0 0 100 []
     ∷ read 64 0
     ∷ wake 0 100 1 0 0
     ∷ call 200 6 (args6 9 0 0 0 0 0) 0 0 200 []
-    ∷ write 54 (replicate 16 0)
+    ∷ write 54 (entry 0 0 0)
     ∷ wake 0 200 0 0 0
     ∷ wake 1 200 0 0 0
-    ∷ [])
-    ≡ blocked ∷ no 201 ∷ ok 16 ∷ ok 1 ∷ no 4 ∷ ok 64 ∷ ok 0 ∷ []
-accident = refl
+    ∷ []
+
+accident-lines :
+    linesOf accident
+    ≡ line (ok 0) more
+    ∷ record {
+        answer = ok 64;
+        effects = [];
+        bytes =
+          (6 ∷ replicate 7 0) ++ (1 ∷ replicate 7 0) ++ (2 ∷ replicate 7 0) ++ (3 ∷ replicate 7 0) ++ (4 ∷ replicate 7 0) ++ (5 ∷ replicate 7 0) ++ replicate 8 0
+          ++ (100 ∷ replicate 7 0);
+      }
+    ∷ line (no 4) []
+    ∷ line (ok 1) more
+    ∷ line (ok 16) (woke 100 0)
+    ∷ line (no 201) []
+    ∷ line blocked more
+    ∷ []
+unfolding wordsFrom
+accident-lines = refl
+
+accident-facts :
+    factsOf accident
+    ≡ block 1
+    ∷ serve (record { event = 4; entry = 0 }) 0 (success 0 0 false)
+    ∷ took 1
+    ∷ gave 1 200
+    ∷ break 0
+    ∷ took 0
+    ∷ gave 0 100
+    ∷ []
+accident-facts = refl
+
+-- a reply that nobody will fetch is held
+accident-counts : countsOf accident ≡ 1 ∷ 0 ∷ 1 ∷ 0 ∷ []
+unfolding ones
+accident-counts = refl
+
+-- A hand-over, and the slot given out again: the same tag, the next call.
+abbrev again : List Event
+again = callBy 1 [] ∷ write 54 (entry 5 0 9) ∷ wake 0 1 1 0 0 ∷ reserve 2 ∷ []
+
+again-lines : linesOf again ≡ line (ok 0) more ∷ line (ok 16) (woke 1 0) ∷ line (reply (success 9 0 true)) [] ∷ line (ok 0) [] ∷ []
+again-lines = refl
+
+again-facts :
+    factsOf again ≡ gave 0 2 ∷ pass 0 (success 9 0 true) ∷ serve (record { event = 1; entry = 0 }) 0 (success 9 0 true) ∷ took 0 ∷ gave 0 1 ∷ []
+again-facts = refl
+
+-- Two replies to one tag in one write: the second is refused, its bytes not counted.
+twice : linesOf (callBy 1 [] ∷ write 108 (entry 0 0 1 ++ entry 0 0 2) ∷ wake 0 1 0 0 0 ∷ []) ≡ line (ok 0) more ∷ line (ok 16) (woke 1 0) ∷ line (reply (success 1 0 false)) [] ∷ []
+twice = refl
+
+-- A drop for an ended caller: no wake, the slot is vacated.
+abbrev gone : List Event
+gone = callBy 1 [] ∷ hostEnded 1 ∷ write 54 (entry 0 0 1) ∷ []
+
+gone-lines : linesOf gone ≡ line (ok 0) more ∷ line (ok 0) [] ∷ line (ok 16) [] ∷ []
+gone-lines = refl
+
+gone-counts : countsOf gone ≡ 1 ∷ 0 ∷ 0 ∷ 1 ∷ []
+unfolding ones
+gone-counts = refl
+
+gone-slot : phaseIn (leaves gone) 0 ≡ Vacant
+gone-slot = refl
+
+-- A map request takes no reply, and is vacated by a success and by ESRCH.
+abbrev mapped : List Event
+mapped =
+    fmap 1 5 1 0 0 0 1
+    ∷ write 54 (entry 0 0 1)
+    ∷ reserve 3
+    ∷ supply 0 4096 8192 1
+    ∷ fmap 2 5 1 0 0 0 2
+    ∷ hostEnded 2
+    ∷ supply 0 0 0 1
+    ∷ reserve 3
+    ∷ []
+
+mapped-lines :
+    linesOf mapped
+    ≡ line (ok 0) more
+    ∷ line (no 22) []
+    ∷ line (ok 1) []
+    ∷ line (ok 0) []
+    ∷ line (ok 0) more
+    ∷ line (ok 0) []
+    ∷ line (no 3) []
+    ∷ line (ok 0) []
+    ∷ []
+mapped-lines = refl
+
+mapped-facts : factsOf mapped ≡ gave 0 3 ∷ filled 0 ∷ end 2 ∷ asked 0 2 ∷ filled 0 ∷ gave 1 3 ∷ asked 0 1 ∷ []
+mapped-facts = refl
+
+-- One Cancel, at the first wake answered still blocked; ECANCELED is then stored as EINTR, and a reply that reads EINTR leaves the
+-- call free to fetch it.
+abbrev canceled : List Event
+canceled = callBy 1 [] ∷ read 64 0 ∷ wake 0 1 0 0 0 ∷ wake 0 1 0 0 0 ∷ read 64 0 ∷ write 54 (entry 0 0 0xffff_ff83) ∷ wake 0 1 0 0 0 ∷ []
+
+canceled-lines :
+    linesOf canceled
+    ≡ line (ok 0) more
+    ∷ record { answer = ok 64; effects = []; bytes = (6 ∷ replicate 55 0) ++ (1 ∷ replicate 7 0) }
+    ∷ line blocked more
+    ∷ line blocked []
+    ∷ record { answer = ok 64; effects = []; bytes = sqeBytes (cancelEntry 0) }
+    ∷ line (ok 16) (woke 1 0)
+    ∷ line (reply (error 4 0 false)) []
+    ∷ []
+unfolding wordsFrom
+canceled-lines = refl
+
+cancel-bytes : sqeBytes (cancelEntry 3) ≡ (25 ∷ 1 ∷ 0 ∷ 0 ∷ 3 ∷ replicate 59 0)
+cancel-bytes = refl
+
+-- Not cancelling, EINTR is stored as EIO.
+uncanceled : linesOf (callBy 1 [] ∷ write 54 (entry 0 0 0xffff_fffc) ∷ wake 0 1 0 0 0 ∷ []) ≡ line (ok 0) more ∷ line (ok 16) (woke 1 0) ∷ line (reply (error 5 0 false)) [] ∷ []
+uncanceled = refl
+
+-- Kind 4 stores the slot's list.
+listed :
+    linesOf (hostOpen 3 ∷ hostOpen 4 ∷ callBy 1 (4 ∷ 3 ∷ []) ∷ write 54 (entry 4 0 0) ∷ wake 0 1 0 0 0 ∷ [])
+    ≡ line (ok 0) [] ∷ line (ok 0) [] ∷ line (ok 0) more ∷ line (ok 16) (woke 1 0) ∷ line (reply (many (4 ∷ 3 ∷ []))) [] ∷ []
+listed = refl
+
+-- Kind 1 takes the description out of the driver's handle.
+by-handle :
+    linesOf (hostOpen 9 ∷ hostPut 9 2 ∷ callBy 1 [] ∷ write 54 (entry 1 0 2) ∷ wake 0 1 0 0 0 ∷ [])
+    ≡ line (ok 0) [] ∷ line (ok 0) [] ∷ line (ok 0) more ∷ line (ok 16) (woke 1 0) ∷ line (reply (descriptor 9)) [] ∷ []
+by-handle = refl
+
+-- The slips that 01 rules out.
+
+-- Testing all 64 bits for an error: the low 32 decide.
+low-bits : linesOf (callBy 1 [] ∷ write 54 (entry 0 0 0x1_ffff_ff83) ∷ wake 0 1 0 0 0 ∷ []) ≡ line (ok 0) more ∷ line (ok 16) (woke 1 0) ∷ line (reply (error 125 0 false)) [] ∷ []
+low-bits = refl
+
+-- Queuing Cancel for a killed caller: one entry is unread, the call's own.
+killed : queueOf (leaves (callBy 1 [] ∷ wake 0 1 1 0 0 ∷ [])) .len ≡ 1
+killed = refl
+
+-- Answering EBADFD for a vacant tag in an obtain entry.
+obtain-vacant : linesOf (write 54 (entry 3 5 0) ∷ []) ≡ line (no 22) [] ∷ []
+obtain-vacant = refl
+
+-- Cutting the request id to 32 bits: 2^32 is no tag, though tag 0 waits; what the move brought is dropped.
+whole-request :
+    linesOf (callBy 1 [] ∷ hostOpen 8 ∷ move (1 ∷ 0x1_0000_0000 ∷ []) (8 ∷ []) ∷ hostOpen 8 ∷ move (1 ∷ 0 ∷ []) (8 ∷ []) ∷ [])
+    ≡ line (ok 0) more ∷ line (ok 0) [] ∷ line (no 22) [] ∷ line (ok 0) [] ∷ line (ok 1) [] ∷ []
+whole-request = refl
+
+-- Closing a twice-listed description twice: of 2, 5, 2 the closes are 5, 2.
+closed-once :
+    linesOf (hostOpen 2 ∷ hostCopy 2 ∷ hostOpen 5 ∷ callBy 1 (2 ∷ 5 ∷ 2 ∷ []) ∷ write 54 (entry 0 0 0) ∷ [])
+    ≡ line (ok 0) [] ∷ line (ok 0) [] ∷ line (ok 0) [] ∷ line (ok 0) more ∷ line (ok 16) (woke 1 0 ++ 3 ∷ 5 ∷ 0 ∷ 3 ∷ 2 ∷ 0 ∷ []) ∷ []
+closed-once = refl
+
+-- Obtaining the last description first: handle 0 gets 6, and is stored as 7.
+first-obtained : heldAt (handlesOf (leaves (hostOpen 6 ∷ hostOpen 5 ∷ callBy 1 (6 ∷ 5 ∷ []) ∷ write 54 (entry 3 0 0) ∷ []))) 0 ≡ 7
+first-obtained = refl
+
+-- An ended caller's span and list: unmap, then the closes, no wake.
+ended-span :
+    linesOf (hostOpen 2 ∷ callBy 1 (2 ∷ []) ∷ wake 0 1 1 16 3 ∷ hostEnded 1 ∷ write 54 (entry 0 0 0) ∷ [])
+    ≡ line (ok 0) [] ∷ line (ok 0) more ∷ line (no 4) [] ∷ line (ok 0) [] ∷ line (ok 16) (2 ∷ 16 ∷ 3 ∷ 3 ∷ 2 ∷ 0 ∷ []) ∷ []
+ended-span = refl
+
+-- 15 bytes written: 0.
+fifteen : linesOf (write 0 (replicate 15 9) ∷ []) ≡ line (ok 0) [] ∷ []
+fifteen = refl
