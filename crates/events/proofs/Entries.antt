@@ -86,13 +86,17 @@ module _ (w : World) (h : List Fact) (whole : Whole w) (i : InvOf w h) where
     serve-go : (b : Bool) → phaseIn w n ≡ Waiting → slotIn w n .ended ≡ b → Replied (servedBy b used n o)
     serve-go false p e =
         let b = in-range w n Waiting p refl in
-        let v = respondedOf (slotIn w n) (storedAs (responseTo (slotIn w n) o)) (keptFds o (slotIn w n)) in
-        (inv-serve (slotIn w) (heldOf (tableOf w)) h i n q (responseTo (slotIn w n) o) (storedAs (responseTo (slotIn w n) o)) (keptFds o (slotIn w n)) (slotAt (putAt (tableOf used) n v)) (heldOf (putAt (tableOf used) n v))
-           (put-stored (tableOf used) (whole .slots) n v b) p e (reads-back (slotIn w n) o), refl)
+        let v = respondedOf (slotIn w n) (storedAs (responseTo (slotIn w n) o)) (keptFds o (slotIn w n)) in (
+          inv-serve (slotIn w) (heldOf (tableOf w)) h i n q (responseTo (slotIn w n) o) (storedAs (responseTo (slotIn w n) o)) (keptFds o (slotIn w n)) (slotAt (putAt (tableOf used) n v)) (heldOf (putAt (tableOf used) n v))
+              (put-stored (tableOf used) (whole .slots) n v b) p e (reads-back (slotIn w n) o),
+          refl,
+        )
     serve-go true p e =
-        let b = in-range w n Waiting p refl in
-        (inv-lose (slotIn w) (heldOf (tableOf w)) h i n q (responseTo (slotIn w n) o) (slotAt (vacateAt (tableOf used) n)) (heldOf (vacateAt (tableOf used) n))
-           (vacate-stored (tableOf used) (whole .slots) n b) p e, refl)
+        let b = in-range w n Waiting p refl in (
+          inv-lose (slotIn w) (heldOf (tableOf w)) h i n q (responseTo (slotIn w n) o) (slotAt (vacateAt (tableOf used) n)) (heldOf (vacateAt (tableOf used) n))
+              (vacate-stored (tableOf used) (whole .slots) n b) p e,
+          refl,
+        )
 
     respond-go : (p : Phase) → phaseIn w n ≡ p → Replied (respondBy p left fx used n o)
     respond-go Vacant e = (i, refl)
@@ -112,9 +116,11 @@ module _ (w : World) (h : List Fact) (whole : Whole w) (i : InvOf w h) where
 
       go : phaseIn w n ≡ Waiting → Entered-ok w h h (obtained w n k)
       go p =
-          let v = withFdsOf (slotIn w n) (obtainOf (holdsOf w) (handlesOf w) (slotIn w n .fds) k .list) in
-          (inv-same (slotIn w) (heldOf (tableOf w)) h i n v (slotAt (putAt (tableOf w) n v)) (heldOf (putAt (tableOf w) n v))
-             (put-stored (tableOf w) (whole .slots) n v (in-range w n Waiting p refl)) Waiting p p (same-core (slotIn w n) (v .fds) Waiting p refl), refl)
+          let v = withFdsOf (slotIn w n) (obtainOf (holdsOf w) (handlesOf w) (slotIn w n .fds) k .list) in (
+            inv-same (slotIn w) (heldOf (tableOf w)) h i n v (slotAt (putAt (tableOf w) n v)) (heldOf (putAt (tableOf w) n v))
+                (put-stored (tableOf w) (whole .slots) n v (in-range w n Waiting p refl)) Waiting p p (same-core (slotIn w n) (v .fds) Waiting p refl),
+            refl,
+          )
 
   module _ (q : Place) (e : Cqe) where
     -- told of an entry of this kind

@@ -33,12 +33,12 @@ accident-lines :
     linesOf accident
     ≡ line (ok 0) more
     ∷ record {
-        answer = ok 64;
-        effects = [];
-        bytes =
+      answer = ok 64;
+      effects = [];
+      bytes =
           (6 ∷ replicate 7 0) ++ (1 ∷ replicate 7 0) ++ (2 ∷ replicate 7 0) ++ (3 ∷ replicate 7 0) ++ (4 ∷ replicate 7 0) ++ (5 ∷ replicate 7 0) ++ replicate 8 0
           ++ (100 ∷ replicate 7 0);
-      }
+    }
     ∷ line (no 4) []
     ∷ line (ok 1) more
     ∷ line (ok 16) (woke 100 0)

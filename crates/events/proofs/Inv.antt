@@ -136,7 +136,7 @@ module _ (look : ℕ → Slot) (held : ℕ) (h : List Fact) (i : Inv look held h
       let new = made (call .called) (call .mapping) (call .caller) (call .taken) true (call .returned) (call .ended) (call .served) (call .reads) (call .lost) (call .passed) (call .supplied) (call .lap) in
       stored (canceledOf (look n)) look' held' s (block n ∷ h)
       (ap (λ (q : Phase). coreBy q (canceledOf (look n))) p ∙ ap (λ (k : Core). waiting (callerIs k) true (endedIs k) (returnedIs k)) d
-       ∙ sym (ap wanted (self n new call) ∙ ap (λ (q : Phase). dress q new) st))
+      ∙ sym (ap wanted (self n new call) ∙ ap (λ (q : Phase). dress q new) st))
       (λ m o. other n m _ (book h m) o)
       (omega (arith, i .balance, s .sum, held-is (look n) Waiting p, held-is (canceledOf (look n)) Waiting p))
       (is-waiting call st, i .every)
@@ -151,8 +151,8 @@ module _ (look : ℕ → Slot) (held : ℕ) (h : List Fact) (i : Inv look held h
       let new = made (call .called) (call .mapping) (call .caller) (call .taken) (call .waited) true (call .ended) (call .served) (call .reads) (call .lost) (call .passed) (call .supplied) (call .lap) in
       stored (interruptedOf (look n) span) look' held' s (break n ∷ h)
       (ap (λ (q : Phase). coreBy q (interruptedOf (look n) span)) p ∙ ap (λ (k : Core). waiting (callerIs k) true (endedIs k) true) d
-       ∙ ap (λ (b : Bool). waiting (call .caller) b (call .ended) true) (sym (or-true (call .waited)))
-       ∙ sym (ap wanted (self n new call) ∙ ap (λ (q : Phase). dress q new) st))
+      ∙ ap (λ (b : Bool). waiting (call .caller) b (call .ended) true) (sym (or-true (call .waited)))
+      ∙ sym (ap wanted (self n new call) ∙ ap (λ (q : Phase). dress q new) st))
       (λ m o. other n m _ (book h m) o)
       (omega (arith, i .balance, s .sum, held-is (look n) Waiting p, held-is (interruptedOf (look n) span) Waiting p))
       (is-waiting call st, i .every)
@@ -184,9 +184,9 @@ module _ (look : ℕ → Slot) (held : ℕ) (h : List Fact) (i : Inv look held h
       let st : stageOf new ≡ Responded = plain-waiting call (in-stage Waiting p) _ ∙ simp (z .0, ke, u) in
       stored (respondedOf (look n) a fds) look' held' s (serve q n r ∷ h)
       (ap (λ (k : Core). responded (callerIs k) false (returnedIs k) (responseOf (respondedOf (look n) a fds))) d
-       ∙ ap (λ (v : Response). responded (call .caller) false (call .returned) v) qr
-       ∙ ap (λ (b : Bool). responded (call .caller) b (call .returned) r) (sym ke)
-       ∙ sym (ap wanted (self n new call) ∙ ap (λ (j : Phase). dress j new) st))
+      ∙ ap (λ (v : Response). responded (call .caller) false (call .returned) v) qr
+      ∙ ap (λ (b : Bool). responded (call .caller) b (call .returned) r) (sym ke)
+      ∙ sym (ap wanted (self n new call) ∙ ap (λ (j : Phase). dress j new) st))
       (λ m o. other n m _ (book h m) o)
       (rw ke (omega (arith, i .balance, s .sum, held-is (look n) Waiting p)))
       (z, i .every)

@@ -1,11 +1,14 @@
-pub mod Examples
+pub mod Checked
+pub mod Whole
+pub mod Conditions
+pub mod Exact
+pub mod Refused
 pub mod Stage
 pub mod Sane
 pub mod Once
 pub mod Stored
 pub mod Inv
-pub mod Checked
-pub mod Whole
 pub mod Entries
 pub mod Steps
 pub mod Demanded
+pub mod Examples

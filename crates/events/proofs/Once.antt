@@ -98,17 +98,23 @@ module _ (j : ℕ) where
   over f h z s = up 0 (f ∷ h) (plain 0 f h z s)
 
   served-at : (q t : ℕ) (v : Response) (h : List Fact) → Sorted j q h → Sorted j (suc q) (serve (record { event = j; entry = q }) t v ∷ h)
-  served-at q t v h s =
-      ((λ p n r k. let a = ap (λ (g : Fact). placeOf g .event) k in let d = ap (λ (g : Fact). placeOf g .entry) k in (omega (arith, a), λ e. omega (arith, d)),
-        every-map (earlier j q) (earlier j (suc q)) (λ h₀ f₀ b p n r k. let c = b p n r k in (c .0, λ e. omega (arith, c .1 e))) h (s .0)),
-       (every-map (earlier j q) (placed h (serve (record { event = j; entry = q }) t v))
+  served-at q t v h s = (
+    (
+      λ p n r k. let a = ap (λ (g : Fact). placeOf g .event) k in let d = ap (λ (g : Fact). placeOf g .entry) k in (omega (arith, a), λ e. omega (arith, d)),
+      every-map (earlier j q) (earlier j (suc q)) (λ h₀ f₀ b p n r k. let c = b p n r k in (c .0, λ e. omega (arith, c .1 e))) h (s .0),
+    ),
+    (
+      every-map (earlier j q) (placed h (serve (record { event = j; entry = q }) t v))
           (λ h₀ f₀ b p p₀ n n₀ r r₀ k k₀ e.
-            let c = b p₀ n₀ r₀ k₀ in
-            let a = ap (λ (g : Fact). placeOf g .event) k in
-            let d = ap (λ (g : Fact). placeOf g .entry) k in
-            let x = ap (λ (y : Place). y .event) e in
-            let y = ap (λ (y : Place). y .entry) e in
-            omega (arith, a, d, y, c .1 (sym x ∙ sym a))) h (s .0), s .1))
+          let c = b p₀ n₀ r₀ k₀ in
+          let a = ap (λ (g : Fact). placeOf g .event) k in
+          let d = ap (λ (g : Fact). placeOf g .entry) k in
+          let x = ap (λ (y : Place). y .event) e in
+          let y = ap (λ (y : Place). y .entry) e in
+          omega (arith, a, d, y, c .1 (sym x ∙ sym a))) h (s .0),
+      s .1,
+    ),
+  )
 
   -- one entry: a reply entry or another
   poured : (b : Bool) (q t : ℕ) (v : Response) (h : List Fact) → Sorted j q h → Sorted j (suc q) (cond b (serve (record { event = j; entry = q }) t v ∷ h) h)
@@ -176,9 +182,10 @@ join P Q R g [] p q = tt
 join P Q R g (f ∷ h) p q = (g h f (p .0) (q .0), join P Q R g h (p .1) (q .1))
 
 apart-one : (f : Fact) (h h₀ : List Fact) (f₀ : Fact) → fair h f → stay h h₀ f₀ → placed h f h₀ f₀ → apart h f h₀ f₀
-apart-one f h h₀ f₀ a s g p p₀ n n₀ r r₀ k k₀ =
-    (g p p₀ n n₀ r r₀ k k₀,
-     λ e l. clash (book h n .served) (ap (λ (m : ℕ). book h m .served) e ∙ s p₀ n₀ r₀ k₀ .1 (ap (λ (m : ℕ). book h m .lap) (sym e) ∙ l)) (subst (fair h) k a .2))
+apart-one f h h₀ f₀ a s g p p₀ n n₀ r r₀ k k₀ = (
+  g p p₀ n n₀ r r₀ k k₀,
+  λ e l. clash (book h n .served) (ap (λ (m : ℕ). book h m .served) e ∙ s p₀ n₀ r₀ k₀ .1 (ap (λ (m : ℕ). book h m .lap) (sym e) ∙ l)) (subst (fair h) k a .2),
+)
 
 pub all-apart : (h : List Fact) → Every fair h → Two placed h → Two apart h
 all-apart [] e s = tt

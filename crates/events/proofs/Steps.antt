@@ -147,8 +147,8 @@ module _ (j : ℕ) (w : World) (h : List Fact) (whole : Whole w) (i : InvOf w h)
       (λ f.
       record {
         inv =
-          inv-gave (slotIn w) (heldOf (tableOf w)) h i (tableOf w .head) c (slotAt (givenOut (tableOf w) (placeholderOf c))) (heldOf (givenOut (tableOf w) (placeholderOf c)))
-          (give-stored (tableOf w) (whole .slots) (placeholderOf c) (first-in (f .0))) (first-vacant (f .0));
+            inv-gave (slotIn w) (heldOf (tableOf w)) h i (tableOf w .head) c (slotAt (givenOut (tableOf w) (placeholderOf c))) (heldOf (givenOut (tableOf w) (placeholderOf c)))
+            (give-stored (tableOf w) (whole .slots) (placeholderOf c) (first-in (f .0))) (first-vacant (f .0));
         hand = refl;
         queue = still w;
       })
@@ -162,8 +162,8 @@ module _ (j : ℕ) (w : World) (h : List Fact) (whole : Whole w) (i : InvOf w h)
       let p = placeholder-is (phaseIn w n) (a .0) in
       record {
         inv =
-          inv-took (slotIn w) (heldOf (tableOf w)) h i n c (listOf ds) (slotAt (putAt (tableOf w) n (waitingOf c (listOf ds)))) (heldOf (putAt (tableOf w) n (waitingOf c (listOf ds))))
-          (put-stored (tableOf w) (whole .slots) n (waitingOf c (listOf ds)) (in-range w n Placeholder p refl)) p (eqb-true _ _ (b .0)) (not-true _ (b .1));
+            inv-took (slotIn w) (heldOf (tableOf w)) h i n c (listOf ds) (slotAt (putAt (tableOf w) n (waitingOf c (listOf ds)))) (heldOf (putAt (tableOf w) n (waitingOf c (listOf ds))))
+            (put-stored (tableOf w) (whole .slots) n (waitingOf c (listOf ds)) (in-range w n Placeholder p refl)) p (eqb-true _ _ (b .0)) (not-true _ (b .1));
         hand = refl;
         queue = queue-more w whole (f .1 .1 .1 .0) (submitEntry n op fl args pid);
       })
@@ -189,8 +189,8 @@ module _ (j : ℕ) (w : World) (h : List Fact) (whole : Whole w) (i : InvOf w h)
       (λ f.
       record {
         inv =
-          inv-asked (slotIn w) (heldOf (tableOf w)) h i (tableOf w .head) c (slotAt (givenOut (tableOf w) (mapRequestOf c))) (heldOf (givenOut (tableOf w) (mapRequestOf c)))
-          (give-stored (tableOf w) (whole .slots) (mapRequestOf c) (first-in (f .0))) (first-vacant (f .0));
+            inv-asked (slotIn w) (heldOf (tableOf w)) h i (tableOf w .head) c (slotAt (givenOut (tableOf w) (mapRequestOf c))) (heldOf (givenOut (tableOf w) (mapRequestOf c)))
+            (give-stored (tableOf w) (whole .slots) (mapRequestOf c) (first-in (f .0))) (first-vacant (f .0));
         hand = refl;
         queue = queue-more w whole (f .1 .0) (fmapEntry id pages flags uid gid pid (tableOf w .head));
       })
@@ -239,7 +239,7 @@ module _ (j : ℕ) (w : World) (h : List Fact) (whole : Whole w) (i : InvOf w h)
         let d = in-phase (slotIn w) (heldOf (tableOf w)) h i n Responded p in
         let s = is-responded k (in-stage (slotIn w) (heldOf (tableOf w)) h i n Responded p) in
         let kw : eqb (k .caller) c && (not (k .ended) && not (k .returned)) ≡ y =
-              ap (λ (v : Core). eqb (callerIs v) c && (not (endedIs v) && not (returnedIs v))) (sym d) ∙ q in
+        ap (λ (v : Core). eqb (callerIs v) c && (not (endedIs v) && not (returnedIs v))) (sym d) ∙ q in
         let kx : leb killed 1 ≡ true = one-or-none false x in
         sym kw ∙ swapped (eqb (k .caller) c) (k .ended) (k .returned) ∙ sym (simp (kx, s .0, s .1, s .3))
 
@@ -267,8 +267,8 @@ module _ (j : ℕ) (w : World) (h : List Fact) (whole : Whole w) (i : InvOf w h)
       block-go true b qa qb =
           record {
             inv =
-              inv-block (slotIn w) (heldOf (tableOf w)) h i n (slotIn w) (heldOf (tableOf w))
-              (record { here = same; there = λ m o. refl; sum = ap (λ (v : Slot). heldOf (tableOf w) + holding v) same }) p;
+                inv-block (slotIn w) (heldOf (tableOf w)) h i n (slotIn w) (heldOf (tableOf w))
+                (record { here = same; there = λ m o. refl; sum = ap (λ (v : Slot). heldOf (tableOf w) + holding v) same }) p;
             hand = not-due;
             queue = still w ∙ ap (λ (b : Bool). unreadIn w ++ cond (not b) (sqeBytes (cancelEntry n)) []) (sym (waited-is ∙ qa));
           }
@@ -279,8 +279,8 @@ module _ (j : ℕ) (w : World) (h : List Fact) (whole : Whole w) (i : InvOf w h)
       block-go false false qa qb =
           record {
             inv =
-              inv-block (slotIn w) (heldOf (tableOf w)) h i n (slotAt (putAt (tableOf w) n (canceledOf (slotIn w n)))) (heldOf (putAt (tableOf w) n (canceledOf (slotIn w n))))
-              (put-stored (tableOf w) (whole .slots) n (canceledOf (slotIn w n)) inside) p;
+                inv-block (slotIn w) (heldOf (tableOf w)) h i n (slotAt (putAt (tableOf w) n (canceledOf (slotIn w n)))) (heldOf (putAt (tableOf w) n (canceledOf (slotIn w n))))
+                (put-stored (tableOf w) (whole .slots) n (canceledOf (slotIn w n)) inside) p;
             hand = not-due;
             queue = queue-cancel w whole qb n inside ∙ ap (λ (b : Bool). unreadIn w ++ cond (not b) (sqeBytes (cancelEntry n)) []) (sym (waited-is ∙ qa));
           }
@@ -289,8 +289,8 @@ module _ (j : ℕ) (w : World) (h : List Fact) (whole : Whole w) (i : InvOf w h)
       wait-go true =
           record {
             inv =
-              inv-break (slotIn w) (heldOf (tableOf w)) h i n span (slotAt (putAt (tableOf w) n (interruptedOf (slotIn w n) span))) (heldOf (putAt (tableOf w) n (interruptedOf (slotIn w n) span)))
-              (put-stored (tableOf w) (whole .slots) n (interruptedOf (slotIn w n) span) inside) p;
+                inv-break (slotIn w) (heldOf (tableOf w)) h i n span (slotAt (putAt (tableOf w) n (interruptedOf (slotIn w n) span))) (heldOf (putAt (tableOf w) n (interruptedOf (slotIn w n) span)))
+                (put-stored (tableOf w) (whole .slots) n (interruptedOf (slotIn w n) span) inside) p;
             hand = not-due;
             queue = still w;
           }
@@ -306,7 +306,7 @@ module _ (j : ℕ) (w : World) (h : List Fact) (whole : Whole w) (i : InvOf w h)
     wake-go false Vacant y qx qp qy =
         refused-ok 77 refl
         (none (vacant-due (k .called) (eqb (k .caller) c) (k .served) (k .passed) (k .returned) (k .ended) (k .lost) (k .taken)
-          (sym (plain-vacant k (stage Vacant qp) (callStage (k .called) (k .served) (k .lost) (k .passed) (k .taken))) ∙ stage Vacant qp) (lost-ended h n)))
+        (sym (plain-vacant k (stage Vacant qp) (callStage (k .called) (k .served) (k .lost) (k .passed) (k .taken))) ∙ stage Vacant qp) (lost-ended h n)))
     wake-go false Placeholder y qx qp qy =
         refused-ok 77 refl
         (none (unserved-due (k .called) (eqb (k .caller) c) (k .served) (not (k .passed) && (not (k .returned) && not (k .ended))) (is-placeholder k (stage Placeholder qp) .1)))
@@ -318,8 +318,8 @@ module _ (j : ℕ) (w : World) (h : List Fact) (whole : Whole w) (i : InvOf w h)
     wake-go false Responded true qx qp qy =
         record {
           inv =
-            inv-pass (slotIn w) (heldOf (tableOf w)) h i n (slotAt (vacateAt (tableOf w) n)) (heldOf (vacateAt (tableOf w) n))
-            (vacate-stored (tableOf w) (whole .slots) n (in-range w n Responded qp refl)) qp;
+              inv-pass (slotIn w) (heldOf (tableOf w)) h i n (slotAt (vacateAt (tableOf w) n)) (heldOf (vacateAt (tableOf w) n))
+              (vacate-stored (tableOf w) (whole .slots) n (in-range w n Responded qp refl)) qp;
           hand = slot-due qx qp true qy;
           queue = still w;
         }
@@ -368,7 +368,7 @@ module _ (j : ℕ) (w : World) (h : List Fact) (whole : Whole w) (i : InvOf w h)
   move-ok ms ds =
       checked-cases (Ok j (move ms ds) w h) (refuse w) (listRows w ds) (checked (refuse (broughtBack w ds)) (requestRows w 1 ms) (moved w (requestOf ms) ds)) (λ m. record { inv = i; hand = refl; queue = still w })
       (λ f. checked-cases (Ok j (move ms ds) w h) (refuse (broughtBack w ds)) (requestRows w 1 ms) (moved w (requestOf ms) ds) (λ m. record { inv = i; hand = refl; queue = still w })
-        (λ g. record { inv = list-inv (requestOf ms) (listOf ds) (not-false _ (g .1 .0)); hand = refl; queue = still w }))
+      (λ g. record { inv = list-inv (requestOf ms) (listOf ds) (not-false _ (g .1 .0)); hand = refl; queue = still w }))
 
   obtain-ok : (ms : List ℕ) → Ok j (obtain ms) w h (step w (obtain ms))
   obtain-ok ms =

@@ -126,7 +126,7 @@ module _ (w : World) (i : Whole w) where
   whole-holds : (h : Holds) → Whole (withHolds w h)
   whole-holds h = whole-table (tableOf w) h (sound w i)
 
-  whole-handles : (k : Handles) → Whole (withHandles w k)
+  pub whole-handles : (k : Handles) → Whole (withHandles w k)
   whole-handles k = record { slots = i .slots; next = i .next; chain = i .chain; room = i .room; words = i .words; lists = i .lists }
 
   whole-queue : (q : WaitQueue) (ws : List ℕ) → q .len ≤ 128 → length ws ≡ 1024 → Whole (withQueue w q ws)

@@ -20,15 +20,15 @@ pub record Place : Type 0 where
   pub entry : ℕ
 
 pub data Fact : Type 0 where
-  gave : (n c : ℕ) → Fact                           -- tag n was given out for a call of caller c
-  asked : (n c : ℕ) → Fact                          -- tag n was given out for a map request of caller c
-  took : (n : ℕ) → Fact                             -- its call was submitted
-  serve : (p : Place) (n : ℕ) (r : Response) → Fact -- the reply entry at p to tag n was accepted, and reads r
-  block : (n : ℕ) → Fact                            -- a wake of tag n was answered still blocked
-  break : (n : ℕ) → Fact                            -- a wake of tag n was refused with EINTR
-  pass : (n : ℕ) (r : Response) → Fact              -- a wake of tag n handed r over
-  filled : (n : ℕ) → Fact                           -- map supply vacated tag n: a success or ESRCH
-  end : (c : ℕ) → Fact                              -- caller c was reported ended
+  gave : (n c : ℕ) → Fact  -- tag n was given out for a call of caller c
+  asked : (n c : ℕ) → Fact  -- tag n was given out for a map request of caller c
+  took : (n : ℕ) → Fact  -- its call was submitted
+  serve : (p : Place) (n : ℕ) (r : Response) → Fact  -- the reply entry at p to tag n was accepted, and reads r
+  block : (n : ℕ) → Fact  -- a wake of tag n was answered still blocked
+  break : (n : ℕ) → Fact  -- a wake of tag n was refused with EINTR
+  pass : (n : ℕ) (r : Response) → Fact  -- a wake of tag n handed r over
+  filled : (n : ℕ) → Fact  -- map supply vacated tag n: a success or ESRCH
+  end : (c : ℕ) → Fact  -- caller c was reported ended
 
 -- what an answer says
 abbrev pub onOk : {A : Type 0} → Answer → (ℕ → A) → A → A
@@ -136,19 +136,19 @@ tell i (supply n offset base count) w a h = cond (isOk a || isNo 3 a) (filled n 
 
 -- the call or map request that a tag was last given out for: it is the tag's until given out again
 pub record Call : Type 0 where
-  pub called : Bool      -- given out, for a call
-  pub mapping : Bool     -- given out, for a map request
-  pub caller : ℕ         -- whose it is
-  pub taken : Bool       -- its submit was accepted
-  pub waited : Bool      -- a wake of it was answered still blocked
-  pub returned : Bool    -- a wake of it was refused with EINTR
-  pub ended : Bool       -- its caller was reported ended since it was given out
-  pub served : Bool      -- a reply entry to it was accepted
-  pub reads : Response   -- what that entry reads
-  pub lost : Bool        -- when that was accepted, its caller had already ended
-  pub passed : Bool      -- the reply was handed over
-  pub supplied : Bool    -- map supply vacated its slot
-  pub lap : ℕ            -- how often the tag had been given out, this time included
+  pub called : Bool  -- given out, for a call
+  pub mapping : Bool  -- given out, for a map request
+  pub caller : ℕ  -- whose it is
+  pub taken : Bool  -- its submit was accepted
+  pub waited : Bool  -- a wake of it was answered still blocked
+  pub returned : Bool  -- a wake of it was refused with EINTR
+  pub ended : Bool  -- its caller was reported ended since it was given out
+  pub served : Bool  -- a reply entry to it was accepted
+  pub reads : Response  -- what that entry reads
+  pub lost : Bool  -- when that was accepted, its caller had already ended
+  pub passed : Bool  -- the reply was handed over
+  pub supplied : Bool  -- map supply vacated its slot
+  pub lap : ℕ  -- how often the tag had been given out, this time included
 
 abbrev pub made : Bool → Bool → ℕ → Bool → Bool → Bool → Bool → Bool → Response → Bool → Bool → Bool → ℕ → Call
 made a m c t w r e s v l p u n =

@@ -2,12 +2,13 @@
 -- last lines); "would wait" changes nothing either. Over every event and every state, reached by a run or not.
 use Prim.Native.Nat.{ℕ}
 use mathlib.Core.Path.{_≡_}
-use mathlib.Core.Logic.{_⊎_}
+use mathlib.Core.Bool.{Bool, cond, _||_}
 use mathlib.Core.List.{List, [], _∷_}
 use lib.Dec.{eqb}
 use Rattle.handles.specs.Handles.{heldAt, emptied}
 use Rattle.schemev2.specs.declared.Cqe.{Cqe}
-use Rattle.schemev2.specs.declared.CqeOpcode.the-variants.{RespondWithFd}
+use Rattle.schemev2.specs.declared.CqeOpcode.{CqeOpcode}
+use Rattle.schemev2.specs.declared.CqeOpcode.the-variants.{RespondRegular, RespondWithFd, SendFevent, ObtainFd, RespondWithMultipleFds, RespondAndNotifyOnDetach, Unknown}
 use Rattle.schemev2.specs.Entry.{kindOf, cqeOpcodeOf}
 use Rattle.slot.specs.Slots.{interruptedOf}
 use Rattle.table.specs.Table.{putAt, vacateAt}
@@ -22,55 +23,60 @@ pub record Nothing (o : Outcome) : Type 0 where
   pub effects : o .effects ≡ []
   pub bytes : o .bytes ≡ []
 
--- "a descriptor response refused by its tag has emptied the handle and dropped the hold"
-pub record ByTag (w : World) (e : Cqe) (k : ℕ) (u : World) : Type 0 where
-  pub kind : cqeOpcodeOf (kindOf e) ≡ RespondWithFd
-  pub handle : (heldAt (handlesOf w) (e .result) ≡ 0) → ⊥
-  pub number : (k ≡ 77) ⊎ (k ≡ 22)
-  pub world : u ≡ withHandles (withHolds w (dropped (holdsOf w) (inHandle w (e .result) ∷ []))) (emptied (handlesOf w) (e .result))
+-- what a refused entry leaves: the state as it was, but "a descriptor response refused by its tag has emptied the handle and
+-- dropped the hold"; with an empty handle it is refused before its tag is looked at
+abbrev pub leftBy : CqeOpcode → World → Cqe → World
+leftBy RespondRegular w e = w
+leftBy RespondWithFd w e =
+    cond (eqb (heldAt (handlesOf w) (e .result)) 0) w
+    (withHandles (withHolds w (dropped (holdsOf w) (inHandle w (e .result) ∷ []))) (emptied (handlesOf w) (e .result)))
+leftBy SendFevent w e = w
+leftBy ObtainFd w e = w
+leftBy RespondWithMultipleFds w e = w
+leftBy RespondAndNotifyOnDetach w e = w
+leftBy Unknown w e = w
 
--- of a write it is the first entry
-abbrev pub FirstByTag : World → List Cqe → ℕ → World → Type 0
-FirstByTag w [] k u = ⊥
-FirstByTag w (e ∷ es) k u = ByTag w e k u
+abbrev pub leftEntry : World → Cqe → World
+leftEntry w e = leftBy (cqeOpcodeOf (kindOf e)) w e
 
--- the four refusals that change something, and what each leaves
-abbrev pub Excepted : World → Event → ℕ → World → Type 0
-Excepted w (hostOpen d) k u = ⊥
-Excepted w (hostCopy d) k u = ⊥
-Excepted w (hostDrop d) k u = ⊥
-Excepted w (hostPut d j) k u = ⊥
-Excepted w (hostEnded c) k u = ⊥
-Excepted w (reserve c) k u = ⊥
-Excepted w (submit n c op fl args pid ds) k u = ⊥
-Excepted w (call c op args uid gid pid ds) k u = ⊥
-Excepted w (generic c pid fds base len ms) k u = ⊥
-Excepted w (stdfs c pid fds base len ms) k u = ⊥
-Excepted w (fmap c id pages flags uid gid pid) k u = ⊥
-Excepted w (close id) k u = ⊥
-Excepted w (detach id pid) k u = ⊥
+-- a write that is refused is refused for its first entry, or with 204
+abbrev pub leftFirst : World → List Cqe → World
+leftFirst w [] = w
+leftFirst w (e ∷ es) = leftEntry w e
+
+-- what a refusal with number k leaves: the state as it was, but for the four cases
+abbrev pub left : World → Event → ℕ → World
+left w (hostOpen d) k = w
+left w (hostCopy d) k = w
+left w (hostDrop d) k = w
+left w (hostPut d j) k = w
+left w (hostEnded c) k = w
+left w (reserve c) k = w
+left w (submit n c op fl args pid ds) k = w
+left w (call c op args uid gid pid ds) k = w
+left w (generic c pid fds base len ms) k = w
+left w (stdfs c pid fds base len ms) k = w
+left w (fmap c id pages flags uid gid pid) k = w
+left w (close id) k = w
+left w (detach id pid) k = w
 -- "EINTR as above": cancelling and returned are marked, the span is in the slot, nothing is queued
-Excepted w (wake n c killed base count) k u =
-    (k ≡ 4) × (u ≡ withTable w (putAt (tableOf w) n (interruptedOf (slotIn w n) (record { base = base; count = count }))))
-Excepted w (read len flags) k u = ⊥
-Excepted w (write words bs) k u = FirstByTag w (entriesOf bs) k u
+left w (wake n c killed base count) k =
+    cond (eqb k 4) (withTable w (putAt (tableOf w) n (interruptedOf (slotIn w n) (record { base = base; count = count })))) w
+left w (read len flags) k = w
+left w (write words bs) k = cond (eqb k 204) w (leftFirst w (entriesOf bs))
 -- "a move refused by 22 or 2 drops what it brought"
-Excepted w (move ms ds) k u = ((k ≡ 22) ⊎ (k ≡ 2)) × (u ≡ withHolds w (dropped (takenHolds w ds) ds))
-Excepted w (obtain ms) k u = ⊥
+left w (move ms ds) k = cond (eqb k 22 || eqb k 2) (withHolds w (dropped (takenHolds w ds) ds)) w
+left w (obtain ms) k = w
 -- "ESRCH has vacated the slot"
-Excepted w (supply n offset base count) k u = (k ≡ 3) × (u ≡ withTable w (vacateAt (tableOf w) n))
+left w (supply n offset base count) k = cond (eqb k 3) (withTable w (vacateAt (tableOf w) n)) w
 
 pub record Demand1 : Type 0 where
   -- every event, on every state, that is refused with a number
-  pub refused :
-    (w : World) (e : Event) (k : ℕ) → step w e .answer ≡ no k
-    → Nothing (step w e) × ((step w e .world ≡ w) ⊎ Excepted w e k (step w e .world))
+  pub refused : (w : World) (e : Event) (k : ℕ) → step w e .answer ≡ no k → Nothing (step w e) × (step w e .world ≡ left w e k)
   pub waiting : (w : World) (e : Event) → step w e .answer ≡ wait → Nothing (step w e) × (step w e .world ≡ w)
   -- each entry of a write, on the state before it
-  pub entry :
-    (w : World) (e : Cqe) (k : ℕ) (fx : List ℕ) (u : World) → entryOf w e ≡ rejected k fx u
-    → (fx ≡ []) × ((u ≡ w) ⊎ ByTag w e k u)
+  pub entry : (w : World) (e : Cqe) (k : ℕ) (fx : List ℕ) (u : World) → entryOf w e ≡ rejected k fx u → (fx ≡ []) × (u ≡ leftEntry w e)
   -- after n accepted entries with effects fx, a refused one ends the write, whatever comes after it
   pub stops :
-    (w : World) (e : Cqe) (k : ℕ) (gx : List ℕ) (u : World) → entryOf w e ≡ rejected k gx u
-    → (es : List Cqe) (n : ℕ) (fx : List ℕ) → writeOn w (e ∷ es) n fx ≡ outcome (stopped n k) fx u
+      (w : World) (e : Cqe) (k : ℕ) (gx : List ℕ) (u : World) → entryOf w e ≡ rejected k gx u
+      → (es : List Cqe) (n : ℕ) (fx : List ℕ) → writeOn w (e ∷ es) n fx ≡ outcome (stopped n k) fx u

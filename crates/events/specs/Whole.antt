@@ -8,7 +8,7 @@ use Rattle.events.specs.World.{World, tableOf, queueOf, slotIn}
 pub record Whole (w : World) : Type 0 where
   pub slots : length (tableOf w .slots) ≡ 64
   pub next : length (tableOf w .next) ≡ 64
-  pub chain : Chain (tableOf w)                            -- the chain is exactly the vacant slots, each once
+  pub chain : Chain (tableOf w)  -- the chain is exactly the vacant slots, each once
   pub room : queueOf w .len ≤ 128
   pub words : length (w .words) ≡ 1024
   pub lists : (n : ℕ) → length (slotIn w n .fds .at) ≡ 16
