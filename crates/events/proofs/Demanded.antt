@@ -23,7 +23,7 @@ use Rattle.events.proofs.Once.{Sorted, tell-sorted, all-apart, all-sour
 use Rattle.events.proofs.Stage.{core}
 use Rattle.events.proofs.Steps.{event-ok}
 use Rattle.events.proofs.Stored.{heldOf}
-use Rattle.events.proofs.Whole.{whole-fresh, whole-step}
+use Rattle.events.proofs.Whole.{whole-fresh, whole-entry, whole-step}
 
 -- what every run keeps
 record Kept (r : Run) : Type 0 where
@@ -34,7 +34,7 @@ record Kept (r : Run) : Type 0 where
 
 kept-next : (r : Run) (e : Event) → Kept r → Kept (next r e)
 kept-next r e k =
-    let o = event-ok (r .number) (r .world) (r .facts) (k .whole) (k .inv) e in
+    let o = event-ok whole-entry (r .number) (r .world) (r .facts) (k .whole) (k .inv) e in
     record {
       whole = whole-step (r .world) e (k .whole);
       inv = o .inv;

@@ -39,7 +39,6 @@ use Rattle.events.proofs.Checked.{checked-cases}
 use Rattle.events.proofs.Inv.{Inv, inv-same, inv-serve, inv-lose}
 use Rattle.events.proofs.Stage.{core, coreBy}
 use Rattle.events.proofs.Stored.{heldOf, put-stored, vacate-stored}
-use Rattle.events.proofs.Whole.{whole-entry}
 
 abbrev pub InvOf : World → List Fact → Type 0
 InvOf w h = Inv (slotIn w) (heldOf (tableOf w)) h
@@ -166,9 +165,13 @@ stopped-hands : (n k : ℕ) → hands (stopped n k) ≡ false
 stopped-hands zero k = refl
 stopped-hands (suc n) k = refl
 
-pub write-ok : (es : List Cqe) (j : ℕ) (w : World) (h : List Fact) → Whole w → InvOf w h → (q n : ℕ) (fx : List ℕ) → Wrote w h es j q n (writeOn w es n fx)
-write-ok [] j w h whole i q n fx = (0, sixteenth n ∙ sym (add-zero n), i, refl, refl)
-write-ok (e ∷ es) j w h whole i q n fx = land (write-ok es j)
+-- each entry keeps a state well-formed (proofs/Whole.antt)
+abbrev pub Keeps : Type 0
+Keeps = (w : World) (e : Cqe) → Whole w → Whole (worldOf (entryOf w e))
+
+pub write-ok : Keeps → (es : List Cqe) (j : ℕ) (w : World) (h : List Fact) → Whole w → InvOf w h → (q n : ℕ) (fx : List ℕ) → Wrote w h es j q n (writeOn w es n fx)
+write-ok keep [] j w h whole i q n fx = (0, sixteenth n ∙ sym (add-zero n), i, refl, refl)
+write-ok keep (e ∷ es) j w h whole i q n fx = land (write-ok keep es j)
   where
     place : Place
     place = record { event = j; entry = q }
@@ -202,5 +205,5 @@ write-ok (e ∷ es) j w h whole i q n fx = land (write-ok es j)
         ((u : World) (h : List Fact) → Whole u → InvOf u h → (q n : ℕ) (fx : List ℕ) → Wrote u h es j q n (writeOn u es n fx))
         → Wrote w h (e ∷ es) j q n (writeOn w (e ∷ es) n fx)
     land more =
-        let r = go more (entryOf w e) (whole-entry w e whole) (entry-ok w h whole i place e) in
-        (r .0, r .1, subst (λ (f : List Fact). InvOf (writeOn w (e ∷ es) n fx .world) f) (told-is (r .0)) (r .2), r .3, r .4)
+        let r = go more (entryOf w e) (keep w e whole) (entry-ok w h whole i place e) in
+        (r .0, r .1, subst (λ (f : List Fact). InvOf (writeOn w (e ∷ es) n fx .world) f) {x = toldOf (entryOf w e) (r .0)} (told-is (r .0)) (r .2), r .3, r .4)

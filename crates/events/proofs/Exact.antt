@@ -1,12 +1,12 @@
 -- Each number is answered exactly when its row's condition holds and no earlier row's does (claim 3). Assumes nothing.
-use Prim.Native.Nat.{ℕ, suc, _+_, _*_, _/_, _%_, _≤_}
+use Prim.Native.Nat.{ℕ, zero, suc, _+_, _*_, _/_, _%_, _≤_}
 use mathlib.Core.Path.{_≡_, refl, ap, _∙_, subst}
 use mathlib.Core.Bool.{Bool, true, false, not, cond, _||_, _&&_, true≢false, false≢true}
 use mathlib.Core.List.{List, [], _∷_, _++_}
 use native.Mathlib.Omega.{arith}
 use lib.Dec.{ltb, eqb}
-use lib.ListN.{length, length-append}
-use borrow.Author.Tests.{lt-ltb, eqb-true}
+use lib.ListN.{length, length-append, drop}
+use borrow.Author.Tests.{lt-ltb, ltb-false, eqb-true}
 use Rattle.counts.specs.Counts.{lasts}
 use Rattle.closes.specs.declared.Reason.the-variants.{Replied, Ended, Refused, Unusable}
 use Rattle.closes.specs.Closes.{closing, only, closes}
@@ -45,7 +45,7 @@ use Rattle.events.specs.Submit.{reserveRows, submitRows, callRows, gener
 use Rattle.events.specs.Wake.{heldIn, awaits, wakeable, wakeRows, blockedBy, waitedBy, wokenBy}
 use Rattle.events.specs.Descriptors.{requestOf, requestRows, listRows}
 use Rattle.events.specs.Supply.{wrongPages, pageRows, suppliedAs, suppliedBy}
-use Rattle.events.specs.Complete.{handleRows, obtainRows, writeRows, Entered, accepted, rejected, reject, closesOf, Offer, result, one, listed, responseTo, droppedFds, unmapOf, releaseOf, servedBy, respondBy, inHandle, isVacant, isWaiting, entryBy, entryOf, entriesOf, stopped, onEntered, writeOn}
+use Rattle.events.specs.Complete.{handleRows, obtainRows, writeRows, Entered, accepted, rejected, reject, closesOf, Offer, result, one, listed, responseTo, droppedFds, unmapOf, releaseOf, servedBy, respondBy, inHandle, isVacant, isWaiting, entryBy, entryOf, cut, entriesOf, stopped, onEntered, writeOn}
 use Rattle.events.specs.Event.{Event, hostOpen, hostCopy, hostDrop, hostPut, hostEnded, reserve, submit, call, generic, stdfs, fmap, close, detach, wake, read, write, move, obtain, supply, step}
 use Rattle.events.specs.Whole.{Whole}
 use Rattle.events.specs.Exactly.{entryEffects, EntryExact, Along, ExactAt, Exactly, firstRows, waitsFor, isWrite, listLacks, Verdict, goes, refusedWith, first, entryVerdict, respondRows, entryRows, verdict, isWait, rowsOf, vacant, holdsIn}
@@ -53,6 +53,7 @@ use Rattle.events.specs.History.{worldOf}
 use Rattle.events.specs.Run.{run}
 use Rattle.events.proofs.Whole.{whole-handles, whole-entry, whole-run}
 use Rattle.events.proofs.Checked.{Passed, checked-cases}
+use Rattle.events.proofs.Refused.{wrote}
 use Rattle.events.proofs.Conditions.{opcode-same, not-ltb, some-same, odd-same, count-same, kind-same, queue-same, isResponded, isFmap, slot-named, table-same, submit-same, wake-same, awaits-same, lacks-same, free-same, words-same}
 
 -- what the claim says of an event's answer and effects: rows, would wait, is a write
@@ -302,20 +303,28 @@ entries-exact : (w : World) → Whole w → (es : List Cqe) → Along EntryExact
 entries-exact w i [] = tt
 entries-exact w i (e ∷ es) = (entry-exact w i e, entries-exact (worldOf (entryOf w e)) (whole-entry w e i) es)
 
--- a write answers its first entry's number, and none after an accepted one
-abbrev pub Wrote : Answer → Type 0
-Wrote a = (verdict a ≡ goes) × (isWait a ≡ false)
+-- the effects of a write: at most 54 words for each entry
+cut-length : (n : ℕ) (bs : List ℕ) → length (cut n bs) ≡ n
+cut-length zero bs = refl
+cut-length (suc n) bs = ap suc (cut-length n (drop 16 bs))
 
-pub wrote : (es : List Cqe) (w : World) (n : ℕ) (fx : List ℕ) → Wrote (writeOn w es (suc n) fx .answer)
-wrote [] w n fx = (refl, refl)
-wrote (e ∷ es) w n fx = go (entryOf w e) (wrote es)
+written-most : (es : List Cqe) (w : World) → Whole w → (n : ℕ) (fx : List ℕ) → length (writeOn w es n fx .effects) ≤ length fx + 54 * length es
+written-most [] w i n fx = omega arith
+written-most (e ∷ es) w i n fx = go (entryOf w e) (entry-exact w i e .most) (whole-entry w e i) (written-most es)
   where
     go :
-        (x : Entered) → ((u : World) (n : ℕ) (fx : List ℕ) → Wrote (writeOn u es (suc n) fx .answer))
-        → Wrote (onEntered x (λ gx u. writeOn u es (suc (suc n)) (fx ++ gx)) (λ k gx u. outcome (stopped (suc n) k) (fx ++ gx) u) .answer)
-    go (accepted gx u) more = more u (suc n) (fx ++ gx)
-    go (rejected k gx u) more = (refl, refl)
+        (x : Entered) → length (entryEffects x) ≤ 54 → Whole (worldOf x)
+        → ((u : World) → Whole u → (n : ℕ) (fx : List ℕ) → length (writeOn u es n fx .effects) ≤ length fx + 54 * length es)
+        → length (onEntered x (λ gx u. writeOn u es (suc n) (fx ++ gx)) (λ k gx u. outcome (stopped n k) (fx ++ gx) u) .effects) ≤ length fx + 54 * suc (length es)
+    go (accepted gx u) m j more = omega (arith, more u j (suc n) (fx ++ gx), length-append fx gx)
+    go (rejected k gx u) m j more = omega (arith, length-append fx gx)
 
+write-room : (w : World) → Whole w → (words : ℕ) (bs : List ℕ) → length (step w (write words bs) .effects) ≤ words
+write-room w i words bs =
+    checked-cases (λ (o : Outcome). length (o .effects) ≤ words) (refuse w) (writeRows words bs) (writeOn w (entriesOf bs) 0 []) (λ k. omega arith)
+    (λ p. omega (arith, ltb-false words (54 * (length bs / 16)) (p .0), written-most (entriesOf bs) w i 0 [], cut-length (length bs / 16) bs))
+
+-- a write answers its first entry's number, and none after an accepted one
 write-told : (w : World) (es : List Cqe) → Told (writeOn w es 0 [] .answer) (writeOn w es 0 [] .effects) (firstRows w es) false true
 write-told w [] = record { number = refl; waiting = refl; one = λ z. absurd (true≢false z) }
 write-told w (e ∷ es) = go (entryOf w e) (entry-number w e (cqeOpcodeOf (kindOf e)))
@@ -410,6 +419,7 @@ exact-at w i =
       waiting = λ e. told w i e .waiting;
       entries = λ es. entries-exact w i es;
       one = λ e. told w i e .one;
+      room = write-room w i;
     }
 
 pub exactly : Exactly

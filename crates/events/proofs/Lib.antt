@@ -1,8 +1,4 @@
 pub mod Checked
-pub mod Whole
-pub mod Conditions
-pub mod Exact
-pub mod Refused
 pub mod Stage
 pub mod Sane
 pub mod Once
@@ -10,5 +6,9 @@ pub mod Stored
 pub mod Inv
 pub mod Entries
 pub mod Steps
+pub mod Refused
+pub mod Conditions
+pub mod Whole
+pub mod Exact
 pub mod Demanded
 pub mod Examples

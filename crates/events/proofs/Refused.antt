@@ -44,7 +44,6 @@ use Rattle.events.specs.Supply.{pageRows, suppliedAs, suppliedBy}
 use Rattle.events.specs.Event.{Event, hostOpen, hostCopy, hostDrop, hostPut, hostEnded, reserve, submit, call, generic, stdfs, fmap, close, detach, wake, read, write, move, obtain, supply, step}
 use Rattle.events.specs.Exactly.{goes, verdict, isWait}
 use Rattle.events.specs.Refusals.{Nothing, leftBy, leftEntry, leftFirst, left, Demand1}
-use Rattle.events.proofs.Exact.{wrote}
 
 -- what holds of both outcomes of a test
 either : {A : Type 0} (P : A → Type 0) (b : Bool) {x y : A} → P x → P y → P (cond b x y)
@@ -147,6 +146,20 @@ stops-at :
 stops-at w e k gx u q es n fx =
     ap (λ (x : Entered). onEntered x (λ gx u. writeOn u es (suc n) (fx ++ gx)) (λ k gx u. outcome (stopped n k) (fx ++ gx) u)) q
     ∙ ap (λ (l : List ℕ). outcome (stopped n k) l u) (ap (λ (l : List ℕ). fx ++ l) (turned-as w e k gx u q .0) ∙ append-nil fx)
+
+-- after an accepted entry a write is not refused
+abbrev Wrote : Answer → Type 0
+Wrote a = (verdict a ≡ goes) × (isWait a ≡ false)
+
+pub wrote : (es : List Cqe) (w : World) (n : ℕ) (fx : List ℕ) → Wrote (writeOn w es (suc n) fx .answer)
+wrote [] w n fx = (refl, refl)
+wrote (e ∷ es) w n fx = go (entryOf w e) (wrote es)
+  where
+    go :
+        (x : Entered) → ((u : World) (n : ℕ) (fx : List ℕ) → Wrote (writeOn u es (suc n) fx .answer))
+        → Wrote (onEntered x (λ gx u. writeOn u es (suc (suc n)) (fx ++ gx)) (λ k gx u. outcome (stopped (suc n) k) (fx ++ gx) u) .answer)
+    go (accepted gx u) more = more u (suc n) (fx ++ gx)
+    go (rejected k gx u) more = (refl, refl)
 
 write-spares : (w : World) (es : List Cqe) → Spares w (λ k. cond (eqb k 204) w (leftFirst w es)) (writeOn w es 0 [])
 write-spares w [] = went refl refl

@@ -35,7 +35,7 @@ use Rattle.wait_queue_receive.specs.declared.ReceiveAnswer.{ReceiveAnswer}
 use Rattle.wait_queue_receive.specs.Receive.{copied, emptyBy, emptyOf, receivedIf, receivedOf, receiveAnswer}
 use Rattle.events.specs.World.{World, tableOf, holdsOf, handlesOf, queueOf, slotIn, phaseIn, withTable, tableWith, queueFull, queued}
 use Rattle.events.specs.Outcome.{Response, Answer, Outcome, outcome, ok, no, wait, blocked, reply, valued, answered, refuse, checked}
-use Rattle.events.specs.Submit.{isPlaceholder, submittable, tableFull, reserveRows, reserved, submitRows, submitted, takenHolds, begun, callRows, genericRows, stdfsRows, fmapRows, queueRows, notified, submitEntry, callEntry, genericEntry, stdMeta, fmapEntry, closeEntry, detachEntry}
+use Rattle.events.specs.Submit.{badOpcode, badList, longList, isPlaceholder, submittable, tableFull, reserveRows, reserved, submitRows, submitted, takenHolds, begun, callRows, genericRows, stdfsRows, fmapRows, queueRows, notified, submitEntry, callEntry, genericEntry, stdMeta, fmapEntry, closeEntry, detachEntry}
 use Rattle.events.specs.Wake.{responseOf, cancelEntry, handedOver, blockedBy, waitedBy, wokenBy, wakeable, wakeRows}
 use Rattle.events.specs.Read.{readOf}
 use Rattle.events.specs.Complete.{isWaiting, writeRows, writeOn, entriesOf}
@@ -46,7 +46,7 @@ use Rattle.events.specs.History.{Fact, gave, asked, took, block, break, 
 use Rattle.events.specs.Demand3.{due, added, taken, unreadIn, ownBytes}
 use Rattle.events.specs.Whole.{Whole}
 use Rattle.events.proofs.Checked.{checked-cases}
-use Rattle.events.proofs.Entries.{InvOf, in-range, same-core, waiting-is, write-ok}
+use Rattle.events.proofs.Entries.{InvOf, Keeps, in-range, same-core, waiting-is, write-ok}
 use Rattle.events.proofs.Inv.{Inv, in-stage, in-phase, inv-same, inv-gave, inv-began, inv-asked, inv-took, inv-block, inv-break, inv-pass, inv-filled, inv-end}
 use Rattle.events.proofs.Sane.{lost-ended, map-alone}
 use Rattle.events.proofs.Stage.{Core, core, clash, callStage, stageOf, dress, callerIs, cancelingIs, endedIs, returnedIs, plain-vacant, is-placeholder, is-waiting, is-responded, is-mapping}
@@ -127,7 +127,7 @@ placeholder-is Waiting e = clash false e refl
 placeholder-is Responded e = clash false e refl
 placeholder-is Fmap e = clash false e refl
 
-module _ (j : ℕ) (w : World) (h : List Fact) (whole : Whole w) (i : InvOf w h) where
+module _ (keep : Keeps) (j : ℕ) (w : World) (h : List Fact) (whole : Whole w) (i : InvOf w h) where
   -- the first of the chain is vacant and in range
   module _ (full : tableFull w ≡ false) where
     first-in : tableOf w .head < 64
@@ -154,19 +154,27 @@ module _ (j : ℕ) (w : World) (h : List Fact) (whole : Whole w) (i : InvOf w h)
       })
 
   submit-ok : (n c op fl : ℕ) (args : Args) (pid : ℕ) (ds : List ℕ) → Ok j (submit n c op fl args pid ds) w h (step w (submit n c op fl args pid ds))
-  submit-ok n c op fl args pid ds =
-      checked-cases (Ok j (submit n c op fl args pid ds) w h) (refuse w) (submitRows w n c op ds) (submitted w n c ds (submitEntry n op fl args pid)) (λ m. record { inv = i; hand = refl; queue = still w })
-      (λ f.
-      let a = both (isPlaceholder (phaseIn w n)) _ (not-false (submittable (slotIn w n) c) (f .1 .1 .0)) in
-      let b = both (eqb (slotIn w n .caller) c) _ (a .1) in
-      let p = placeholder-is (phaseIn w n) (a .0) in
-      record {
-        inv =
-            inv-took (slotIn w) (heldOf (tableOf w)) h i n c (listOf ds) (slotAt (putAt (tableOf w) n (waitingOf c (listOf ds)))) (heldOf (putAt (tableOf w) n (waitingOf c (listOf ds))))
-            (put-stored (tableOf w) (whole .slots) n (waitingOf c (listOf ds)) (in-range w n Placeholder p refl)) p (eqb-true _ _ (b .0)) (not-true _ (b .1));
-        hand = refl;
-        queue = queue-more w whole (f .1 .1 .1 .0) (submitEntry n op fl args pid);
-      })
+  submit-ok n c op fl args pid ds = go (badOpcode op || badList w ds) (longList ds) (submittable (slotIn w n) c) (queueFull w) refl refl refl refl
+    where
+      go :
+          (a b x y : Bool) → (badOpcode op || badList w ds) ≡ a → longList ds ≡ b → submittable (slotIn w n) c ≡ x → queueFull w ≡ y
+          → Ok j (submit n c op fl args pid ds) w h (step w (submit n c op fl args pid ds))
+      go true b x y qa qb qx qy = rw qa (record { inv = i; hand = refl; queue = still w })
+      go false true x y qa qb qx qy = rw (qa, qb) (record { inv = i; hand = refl; queue = still w })
+      go false false false y qa qb qx qy = rw (qa, qb, qx) (record { inv = i; hand = refl; queue = still w })
+      go false false true true qa qb qx qy = rw (qa, qb, qx, qy) (record { inv = i; hand = refl; queue = still w })
+      go false false true false qa qb qx qy =
+          let a = both (isPlaceholder (phaseIn w n)) _ qx in
+          let b = both (eqb (slotIn w n .caller) c) _ (a .1) in
+          let p = placeholder-is (phaseIn w n) (a .0) in
+          rw (qa, qb, qx, qy)
+          (record {
+            inv =
+                inv-took (slotIn w) (heldOf (tableOf w)) h i n c (listOf ds) (slotAt (putAt (tableOf w) n (waitingOf c (listOf ds)))) (heldOf (putAt (tableOf w) n (waitingOf c (listOf ds))))
+                (put-stored (tableOf w) (whole .slots) n (waitingOf c (listOf ds)) (in-range w n Placeholder p refl)) p (eqb-true _ _ (b .0)) (not-true _ (b .1));
+            hand = refl;
+            queue = unread-more (queueOf w) (w .words) (submitEntry n op fl args pid) (leb-false 128 (queueOf w .len) qy) (whole .words);
+          })
 
   call-ok : (c op : ℕ) (args : Args) (uid gid pid : ℕ) (ds : List ℕ) → Ok j (call c op args uid gid pid ds) w h (step w (call c op args uid gid pid ds))
   call-ok c op args uid gid pid ds =
@@ -349,7 +357,7 @@ module _ (j : ℕ) (w : World) (h : List Fact) (whole : Whole w) (i : InvOf w h)
   write-event-ok words bs =
       checked-cases (Ok j (write words bs) w h) (refuse w) (writeRows words bs) (writeOn w (entriesOf bs) 0 []) (λ m. record { inv = i; hand = refl; queue = still w })
       (λ f.
-      let r = write-ok (entriesOf bs) j w h whole i 0 0 [] in
+      let r = write-ok keep (entriesOf bs) j w h whole i 0 0 [] in
       record {
         inv = subst (λ (m : ℕ). InvOf (writeOn w (entriesOf bs) 0 [] .world) (pour j 0 m (entriesOf bs) w h)) (sym (r .1 ∙ zero-add (r .0))) (r .2);
         hand = r .3;

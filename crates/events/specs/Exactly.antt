@@ -234,12 +234,14 @@ isWrite (move ms ds) = false
 isWrite (obtain ms) = false
 isWrite (supply n offset base count) = false
 
--- on a state w: the answer to each event; each entry of whatever is written; at most one effect but for a write
+-- on a state w: the answer to each event; each entry of whatever is written; at most one effect but for a write, whose effects
+-- have room in the words that it is lent
 pub record ExactAt (w : World) : Type 0 where
   pub number : (e : Event) → verdict (step w e .answer) ≡ first (rowsOf w e)
   pub waiting : (e : Event) → isWait (step w e .answer) ≡ waitsFor w e
   pub entries : (es : List Cqe) → Along EntryExact w es
   pub one : (e : Event) → isWrite e ≡ false → length (step w e .effects) ≤ 3
+  pub room : (words : ℕ) (bs : List ℕ) → length (step w (write words bs) .effects) ≤ words
 
 -- on every state that a run comes to
 abbrev pub Exactly : Type 0
