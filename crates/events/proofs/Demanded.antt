@@ -1,28 +1,25 @@
 -- Demand 3 holds of every run. Assumes nothing.
-use Prim.Native.Nat.{ℕ, zero, suc, _+_}
-use mathlib.Core.Path.{_≡_, refl, sym, ap, _∙_}
+use Prim.Native.Nat.{ℕ, zero, suc}
+use mathlib.Core.Path.{_≡_, refl}
 use mathlib.Core.Bool.{Bool, true, false, cond}
 use mathlib.Core.List.{List, [], _∷_}
 use native.Mathlib.Omega.{arith}
 use lib.Dec.{ltb}
 use lib.ListN.{getD, length, replicate}
-use lib.Count.{ones}
-use Rattle.slot.specs.declared.Slot.{Slot}
 use Rattle.slot.specs.Slots.{vacantSlot}
 use Rattle.status.specs.declared.Status.the-variants as status
-use Rattle.status.specs.Status.{isIn, wordOf, countOf}
+use Rattle.status.specs.Status.{isIn}
 use Rattle.status.proofs.Words.{in-le, ones-count}
 use Rattle.table.specs.Table.{freshTable, noSlot, slotAt}
-use Rattle.events.specs.World.{World, freshWorld, tableOf}
+use Rattle.events.specs.World.{tableOf}
 use Rattle.events.specs.Event.{Event, step}
-use Rattle.events.specs.Run.{Turn, Run, turnOf, next, runFrom, run}
+use Rattle.events.specs.Run.{Run, next, runFrom, run}
 use Rattle.events.specs.Demand3.{Right, All, Demanded, Demand3}
 use Rattle.events.specs.Whole.{Whole}
 use Rattle.events.proofs.Entries.{InvOf}
 use Rattle.events.proofs.Once.{Sorted, tell-sorted, all-apart, all-sourced}
 use Rattle.events.proofs.Stage.{core}
 use Rattle.events.proofs.Steps.{event-ok}
-use Rattle.events.proofs.Stored.{heldOf}
 use Rattle.events.proofs.Whole.{whole-fresh, whole-entry, whole-step}
 
 -- what every run keeps

@@ -1,5 +1,5 @@
 -- Each completion entry, and so each write, keeps the invariant and leaves the queue alone. Assumes nothing.
-use Prim.Native.Nat.{ℕ, zero, suc, _+_, _*_, _/_, _≤_, _<_}
+use Prim.Native.Nat.{ℕ, zero, suc, _+_, _*_, _/_, _<_}
 use mathlib.Core.Path.{_≡_, refl, sym, ap, _∙_, subst}
 use mathlib.Core.Bool.{Bool, true, false, not, cond, _||_}
 use mathlib.Core.List.{List, [], _∷_, _++_}
@@ -7,14 +7,12 @@ use native.Mathlib.Omega.{arith}
 use native.Mathlib.Nat.{add-zero}
 use lib.Dec.{eqb}
 use lib.ListN.{length}
-use Rattle.closes.specs.declared.Reason.the-variants.{Refused}
-use Rattle.error.specs.declared.Result.{Result}
 use Rattle.error.specs.declared.Result.the-variants.{Ok, Err}
 use Rattle.fd_list.specs.declared.List.{List as Fds}
 use Rattle.fd_list.specs.Lists.{numbers}
 use Rattle.flag.specs.Flags.{within, eventFlags, fobtainFdFlags}
 use Rattle.handles.specs.declared.Handles.{Handles}
-use Rattle.handles.specs.Handles.{emptied, obtainOf}
+use Rattle.handles.specs.Handles.{obtainOf}
 use Rattle.holds.specs.declared.Holds.{Holds}
 use Rattle.parse_cqe.specs.Parsed.{parsedBy, eventIf, obtainIf}
 use Rattle.schemev2.specs.declared.Cqe.{Cqe}
@@ -24,14 +22,14 @@ use Rattle.schemev2.specs.Entry.{kindOf, extraOf, cqeOpcodeOf}
 use Rattle.slot.specs.declared.Phase.{Phase}
 use Rattle.slot.specs.declared.Phase.the-variants.{Vacant, Placeholder, Waiting, Responded, Fmap}
 use Rattle.slot.specs.declared.Slot.{Slot}
-use Rattle.slot.specs.Slots.{phaseOf, vacantSlot, respondedOf, withFdsOf}
+use Rattle.slot.specs.Slots.{phaseOf, respondedOf, withFdsOf}
 use Rattle.table.specs.Reached.{idle}
 use Rattle.table.specs.Table.{slotAt, putAt, vacateAt}
 use Rattle.table.proofs.Chain.{occupied-within}
 use Rattle.events.specs.World.{World, tableOf, holdsOf, handlesOf, slotIn, phaseIn, withTable, tableWith, withHandles}
-use Rattle.events.specs.Outcome.{Response, Answer, Outcome, outcome, ok, no, row}
+use Rattle.events.specs.Outcome.{Outcome, outcome}
 use Rattle.events.specs.Wake.{responseOf}
-use Rattle.events.specs.Complete.{Entered, accepted, rejected, reject, Offer, result, one, listed, responseTo, storedAs, keptFds, isVacant, isWaiting, inHandle, servedBy, respondBy, handleRows, byDescriptor, obtainRows, obtained, obtainEntryOf, dropped, closesOf, entryBy, entryOf, stopped, onEntered, writeOn}
+use Rattle.events.specs.Complete.{Entered, accepted, rejected, reject, Offer, result, one, listed, responseTo, storedAs, keptFds, isWaiting, inHandle, servedBy, respondBy, handleRows, byDescriptor, obtainRows, obtained, obtainEntryOf, entryBy, entryOf, stopped, onEntered, writeOn}
 use Rattle.events.specs.History.{Place, Fact, serve, hands, counted, isReply, offerOf, reading, worldOf, pour}
 use Rattle.events.specs.Demand3.{unreadIn}
 use Rattle.events.specs.Whole.{Whole}
@@ -138,7 +136,7 @@ module _ (w : World) (h : List Fact) (whole : Whole w) (i : InvOf w h) where
     kind-go RespondRegular = respond-go q (e .tag) (offerOf RespondRegular w e) (handlesOf w) (handlesOf w) (holdsOf w) (holdsOf w) [] (phaseIn w (e .tag)) refl
     kind-go RespondWithFd =
         checked-cases (Entered-ok w h (toldBy RespondWithFd)) (reject w) (handleRows w (e .result)) (byDescriptor w (e .tag) (e .result)) (λ m. (i, refl))
-        (λ f. respond-go q (e .tag) (one (inHandle w (e .result))) (emptied (handlesOf w) (e .result)) (emptied (handlesOf w) (e .result)) (dropped (holdsOf w) (inHandle w (e .result) ∷ [])) (holdsOf w) (closesOf Refused (holdsOf w) (inHandle w (e .result) ∷ [])) (phaseIn w (e .tag)) refl)
+        (λ f. respond-go q (e .tag) (one (inHandle w (e .result))) _ _ _ _ _ (phaseIn w (e .tag)) refl)
     kind-go SendFevent = event-go (within eventFlags (e .tag))
     kind-go ObtainFd = obtain-go (within fobtainFdFlags (extraOf e))
     kind-go RespondWithMultipleFds = respond-go q (e .tag) listed (handlesOf w) (handlesOf w) (holdsOf w) (holdsOf w) [] (phaseIn w (e .tag)) refl

@@ -1,13 +1,12 @@
 -- Runs that reach each clause of the claims, computed. Assumes nothing.
-use Prim.Native.Nat.{ℕ}
 use mathlib.Core.Path.{_≡_, refl}
-use mathlib.Core.Bool.{Bool, true, false}
+use mathlib.Core.Bool.{true, false}
 use mathlib.Core.List.{List, [], _∷_, _++_}
 use lib.Count.{ones}
 use lib.ListN.{replicate}
 use Rattle.handles.specs.Handles.{heldAt}
 use Rattle.schemev2.specs.Entry.{sqeBytes}
-use Rattle.slot.specs.declared.Phase.the-variants.{Vacant, Placeholder, Waiting, Responded, Fmap}
+use Rattle.slot.specs.declared.Phase.the-variants.{Vacant}
 use Rattle.wait_queue.specs.Queue.{wordsFrom}
 use Rattle.events.specs.World.{handlesOf, queueOf, phaseIn}
 use Rattle.events.specs.Outcome.{ok, no, blocked, reply, success, error, descriptor, many}

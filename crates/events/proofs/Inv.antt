@@ -1,12 +1,12 @@
 -- The invariant: what the slots have to do with what happened, and that each thing that happens keeps it. Assumes nothing.
-use Prim.Native.Nat.{ℕ, zero, suc, _+_, _≤_, _<_}
+use Prim.Native.Nat.{ℕ, zero, suc, _+_}
 use mathlib.Core.Path.{_≡_, refl, sym, ap, _∙_, subst}
-use mathlib.Core.Bool.{Bool, true, false, not, cond, _||_}
+use mathlib.Core.Bool.{Bool, true, false, cond, _||_}
 use mathlib.Core.List.{List, [], _∷_, map}
 use native.Mathlib.Omega.{arith}
 use native.Mathlib.Decide.{ℕ-discrete}
 use lib.Dec.{eqb, ltb}
-use lib.ListN.{getD, length, List·getD-map}
+use lib.ListN.{getD, List·getD-map}
 use borrow.Author.Tests.{eq-eqb, ne-eqb}
 use Rattle.fd_list.specs.declared.List.{List as Fds}
 use Rattle.host_ended.specs.Ended.{markedBy, markedOf, endedTable}
@@ -21,11 +21,11 @@ use Rattle.table.specs.declared.Table.{Table}
 use Rattle.table.specs.Table.{noSlot, slotAt}
 use Rattle.events.specs.Outcome.{Response}
 use Rattle.events.specs.Wake.{responseBy, responseOf}
-use Rattle.events.specs.History.{Place, Fact, gave, asked, took, serve, block, break, pass, filled, end, Call, made, begin, book, turn}
+use Rattle.events.specs.History.{Place, Fact, gave, asked, took, serve, block, break, pass, filled, end, Call, made, begin, book}
 use Rattle.events.specs.Demand3.{Every, fair, accepted, handed, dropped}
 use Rattle.events.proofs.Sane.{unpassed, unwoken, map-alone}
-use Rattle.events.proofs.Stage.{Core, vacant, placeholder, waiting, responded, mapping, coreBy, core, phaseIs, callerIs, cancelingIs, endedIs, returnedIs, readsIs, callStage, mapStage, stageOf, dress, wanted, core-phase, dress-phase, plain-vacant, plain-placeholder, plain-waiting, plain-responded, is-vacant, is-placeholder, is-waiting, is-responded, is-mapping}
-use Rattle.events.proofs.Stored.{Stored, holding, heldBy, held-is, heldOf}
+use Rattle.events.proofs.Stage.{Core, vacant, placeholder, waiting, responded, mapping, coreBy, core, phaseIs, callerIs, endedIs, returnedIs, readsIs, stageOf, dress, wanted, core-phase, dress-phase, plain-placeholder, plain-waiting, plain-responded, is-vacant, is-placeholder, is-waiting, is-responded, is-mapping}
+use Rattle.events.proofs.Stored.{Stored, holding, held-is, heldOf}
 
 abbrev pub Balance : ℕ → List Fact → Type 0
 Balance held h = accepted h ≡ handed h + (held + dropped h)

@@ -1,8 +1,8 @@
 -- What a history alone says of its entries: none is accepted twice, no call is served twice, and a reply has its source.
 -- Assumes nothing.
-use Prim.Native.Nat.{ℕ, zero, suc, _+_, _≤_, _<_}
+use Prim.Native.Nat.{ℕ, zero, suc, _≤_, _<_}
 use mathlib.Core.Path.{_≡_, refl, sym, ap, _∙_, subst}
-use mathlib.Core.Logic.{_⊎_, inl, inr}
+use mathlib.Core.Logic.{inl, inr}
 use mathlib.Core.Bool.{Bool, true, false, cond, _||_}
 use mathlib.Core.List.{List, [], _∷_}
 use native.Mathlib.Omega.{arith}
@@ -11,11 +11,11 @@ use borrow.Author.Tests.{eq-eqb, eqb-true}
 use Rattle.schemev2.specs.declared.Cqe.{Cqe}
 use Rattle.schemev2.specs.Entry.{kindOf, cqeOpcodeOf}
 use Rattle.events.specs.World.{World}
-use Rattle.events.specs.Outcome.{Response, success, Answer, ok, no, wait, blocked, reply}
+use Rattle.events.specs.Outcome.{Response, Answer, ok, no, wait, blocked, reply}
 use Rattle.events.specs.Complete.{entryOf, entriesOf}
 use Rattle.events.specs.Event.{Event, hostOpen, hostCopy, hostDrop, hostPut, hostEnded, reserve, submit, call, generic, stdfs, fmap, close, detach, wake, read, write, move, obtain, supply}
 use Rattle.events.specs.History.{Place, Fact, gave, asked, took, serve, block, break, pass, filled, end, Call, book, turn, tell, began, pour, reading, worldOf, onOk, onReply, isOk, isBlocked, isNo, counted, isReply}
-use Rattle.events.specs.Demand3.{fair, Every, Some, Two, Serves, Hands, apart, source, sourced, isServe}
+use Rattle.events.specs.Demand3.{fair, Every, Some, Two, Serves, apart, source, sourced, isServe}
 use Rattle.events.proofs.Stage.{clash}
 use Rattle.events.proofs.Sane.{either}
 

@@ -1,16 +1,15 @@
 -- A refusal changes nothing but in the four cases that 01 names, and a read that would wait nothing at all (demand 1).
 -- Assumes nothing.
 use Prim.Native.Nat.{ℕ, suc}
-use mathlib.Core.Path.{_≡_, refl, sym, ap, _∙_, subst}
+use mathlib.Core.Path.{_≡_, refl, ap, _∙_, subst}
 use mathlib.Core.Bool.{Bool, true, false, not, cond, _||_}
 use mathlib.Core.List.{List, [], _∷_, _++_, append-nil}
 use native.Mathlib.Omega.{arith}
 use lib.Dec.{ltb, eqb}
-use lib.ListN.{getD, take, length}
+use lib.ListN.{getD, take}
 use borrow.Author.Tests.{eqb-true}
 use Rattle.answer.specs.Answer as numbered
 use Rattle.error.specs.Errors.{demuxOf}
-use Rattle.fd_list.specs.Lists.{numbers}
 use Rattle.flag.specs.Flags.{within, eventFlags, fobtainFdFlags}
 use Rattle.handles.specs.declared.Handles.{Handles}
 use Rattle.handles.specs.Handles.{heldAt, emptied, isFree}
@@ -35,15 +34,16 @@ use Rattle.table.specs.Table.{putAt, vacateAt}
 use Rattle.wait_queue.specs.Queue.{unread}
 use Rattle.wait_queue_receive.specs.Receive.{copied, receivedIf, receiveAnswer}
 use Rattle.events.specs.World.{World, tableOf, holdsOf, handlesOf, queueOf, slotIn, phaseIn, withTable, withHolds, withHandles, withQueue, queueFull}
-use Rattle.events.specs.Outcome.{Answer, no, wait, answered, Outcome, outcome, Row, row, checked, refuse}
+use Rattle.events.specs.Outcome.{Answer, no, wait, answered, Outcome, outcome, Row, checked, refuse}
 use Rattle.events.specs.Submit.{reserveRows, submitRows, callRows, genericRows, stdfsRows, fmapRows, queueRows}
 use Rattle.events.specs.Wake.{wakeable, wakeRows, blockedBy, waitedBy, wokenBy}
-use Rattle.events.specs.Complete.{handleRows, obtainRows, writeRows, byDescriptor, obtained, Entered, accepted, rejected, reject, Offer, result, one, listed, servedBy, respondBy, inHandle, dropped, isVacant, isWaiting, entryBy, entryOf, entriesOf, stopped, onEntered, writeOn}
+use Rattle.events.specs.Complete.{obtainRows, shortWords, byDescriptor, obtained, Entered, accepted, rejected, reject, Offer, result, one, listed, servedBy, respondBy, inHandle, dropped, isVacant, isWaiting, entryBy, entryOf, entriesOf, stopped, onEntered, writeOn}
 use Rattle.events.specs.Descriptors.{requestOf, wrongWords, requestRows, listRows, broughtBack, moved}
 use Rattle.events.specs.Supply.{pageRows, suppliedAs, suppliedBy}
 use Rattle.events.specs.Event.{Event, hostOpen, hostCopy, hostDrop, hostPut, hostEnded, reserve, submit, call, generic, stdfs, fmap, close, detach, wake, read, write, move, obtain, supply, step}
 use Rattle.events.specs.Exactly.{goes, verdict, isWait}
 use Rattle.events.specs.Refusals.{Nothing, leftBy, leftEntry, leftFirst, left, Demand1}
+use Rattle.events.proofs.Checked.{checked-cases}
 
 -- what holds of both outcomes of a test
 either : {A : Type 0} (P : A → Type 0) (b : Bool) {x y : A} → P x → P y → P (cond b x y)
@@ -84,10 +84,10 @@ module _ {w : World} {L : ℕ → World} where
   spared [] o l s = s
   spared (r ∷ rs) o l s = either (Spares w L) (r .due) (leaves (r .number) w refl (l .0)) (spared rs o (l .1) s)
 
--- an entry that is turned down leaves l; 204 is no entry's number
+-- an entry that is turned down leaves l
 abbrev Turned : World → Entered → Type 0
 Turned l (accepted fx u) = Unit {0}
-Turned l (rejected k fx u) = (fx ≡ []) × (u ≡ l) × (eqb k 204 ≡ false)
+Turned l (rejected k fx u) = (fx ≡ []) × (u ≡ l)
 
 module _ (w : World) (e : Cqe) where
   turned-served : (l : World) (b : Bool) (u : World) (n : ℕ) (o : Offer) → Turned l (servedBy b u n o)
@@ -95,32 +95,26 @@ module _ (w : World) (e : Cqe) where
   turned-served l false u n o = tt
 
   turned-respond : (l u : World) (n : ℕ) (o : Offer) (p : Phase) → Turned l (respondBy p l [] u n o)
-  turned-respond l u n o Vacant = (refl, refl, refl)
-  turned-respond l u n o Placeholder = (refl, refl, refl)
+  turned-respond l u n o Vacant = (refl, refl)
+  turned-respond l u n o Placeholder = (refl, refl)
   turned-respond l u n o Waiting = turned-served l (slotIn u n .ended) u n o
-  turned-respond l u n o Responded = (refl, refl, refl)
-  turned-respond l u n o Fmap = (refl, refl, refl)
+  turned-respond l u n o Responded = (refl, refl)
+  turned-respond l u n o Fmap = (refl, refl)
 
   turned-event : (b : Bool) → Turned w (entryBy (eventIf b e) w)
   turned-event true = tt
-  turned-event false = (refl, refl, refl)
+  turned-event false = (refl, refl)
 
-  turned-obtain : (a b : Bool) → Turned w (cond a (reject w 22) (cond b (reject w 2) (obtained w (e .tag) (e .result))))
-  turned-obtain true b = (refl, refl, refl)
-  turned-obtain false true = (refl, refl, refl)
-  turned-obtain false false = tt
-
-  turned-obtains : (b : Bool) → Turned w (entryBy (obtainIf b e) w)
-  turned-obtains true =
-      turned-obtain (isVacant (phaseIn w (e .tag))) (not (isWaiting (phaseIn w (e .tag))) || eqb (length (numbers (slotIn w (e .tag) .fds))) 0)
-  turned-obtains false = (refl, refl, refl)
+  turned-obtain : (b : Bool) → Turned w (entryBy (obtainIf b e) w)
+  turned-obtain true = checked-cases (Turned w) (reject w) (obtainRows w (e .tag)) (obtained w (e .tag) (e .result)) (λ k. (refl, refl)) (λ p. tt)
+  turned-obtain false = (refl, refl)
 
   -- with an empty handle nothing changes; else the handle is emptied and the hold dropped
   turned-descriptor :
       (b : Bool)
       → Turned (cond b w (withHandles (withHolds w (dropped (holdsOf w) (inHandle w (e .result) ∷ []))) (emptied (handlesOf w) (e .result))))
       (cond b (reject w 22) (byDescriptor w (e .tag) (e .result)))
-  turned-descriptor true = (refl, refl, refl)
+  turned-descriptor true = (refl, refl)
   turned-descriptor false =
       turned-respond (withHandles (withHolds w (dropped (holdsOf w) (inHandle w (e .result) ∷ []))) (emptied (handlesOf w) (e .result)))
       (withHandles w (emptied (handlesOf w) (e .result))) (e .tag) (one (inHandle w (e .result))) (phaseIn w (e .tag))
@@ -129,16 +123,16 @@ module _ (w : World) (e : Cqe) where
   turned-by RespondRegular = turned-respond w w (e .tag) (result (demuxOf (e .result)) (e .«extra_raw» .0) false) (phaseIn w (e .tag))
   turned-by RespondWithFd = turned-descriptor (eqb (heldAt (handlesOf w) (e .result)) 0)
   turned-by SendFevent = turned-event (within eventFlags (e .tag))
-  turned-by ObtainFd = turned-obtains (within fobtainFdFlags (extraOf e))
+  turned-by ObtainFd = turned-obtain (within fobtainFdFlags (extraOf e))
   turned-by RespondWithMultipleFds = turned-respond w w (e .tag) listed (phaseIn w (e .tag))
   turned-by RespondAndNotifyOnDetach = turned-respond w w (e .tag) (result (demuxOf (e .result)) (e .«extra_raw» .0) true) (phaseIn w (e .tag))
-  turned-by Unknown = (refl, refl, refl)
+  turned-by Unknown = (refl, refl)
 
   turned : Turned (leftEntry w e) (entryOf w e)
   turned = turned-by (cqeOpcodeOf (kindOf e))
 
 turned-as : (w : World) (e : Cqe) (k : ℕ) (fx : List ℕ) (u : World) → entryOf w e ≡ rejected k fx u → (fx ≡ []) × (u ≡ leftEntry w e)
-turned-as w e k fx u q = let t = subst (Turned (leftEntry w e)) q (turned w e) in (t .0, t .1)
+turned-as w e k fx u q = subst (Turned (leftEntry w e)) q (turned w e)
 
 stops-at :
     (w : World) (e : Cqe) (k : ℕ) (gx : List ℕ) (u : World) → entryOf w e ≡ rejected k gx u
@@ -161,15 +155,20 @@ wrote (e ∷ es) w n fx = go (entryOf w e) (wrote es)
     go (accepted gx u) more = more u (suc n) (fx ++ gx)
     go (rejected k gx u) more = (refl, refl)
 
-write-spares : (w : World) (es : List Cqe) → Spares w (λ k. cond (eqb k 204) w (leftFirst w es)) (writeOn w es 0 [])
+write-spares : (w : World) (es : List Cqe) → Spares w (λ k. leftFirst w es) (writeOn w es 0 [])
 write-spares w [] = went refl refl
 write-spares w (e ∷ es) = go (entryOf w e) (turned w e)
   where
     go :
         (x : Entered) → Turned (leftEntry w e) x
-        → Spares w (λ k. cond (eqb k 204) w (leftEntry w e)) (onEntered x (λ gx u. writeOn u es 1 ([] ++ gx)) (λ k gx u. outcome (stopped 0 k) ([] ++ gx) u))
+        → Spares w (λ k. leftEntry w e) (onEntered x (λ gx u. writeOn u es 1 ([] ++ gx)) (λ k gx u. outcome (stopped 0 k) ([] ++ gx) u))
     go (accepted gx u) t = let r = wrote es u 0 gx in went (r .0) (r .1)
-    go (rejected k gx u) t = leaves k u (t .0) (t .1 ∙ ap (λ (b : Bool). cond b w (leftEntry w e)) (sym (t .2)))
+    go (rejected k gx u) t = leaves k u (t .0) (t .1)
+
+-- for want of words nothing is looked at
+short-spares : (w : World) (es : List Cqe) (b : Bool) → Spares w (λ k. cond b w (leftFirst w es)) (cond b (refuse w 204) (writeOn w es 0 []))
+short-spares w es true = leaves 204 w refl refl
+short-spares w es false = write-spares w es
 
 -- events that go by the slot's phase
 module _ (w : World) (n : ℕ) where
@@ -274,7 +273,7 @@ spares w (detach id pid) = spared (queueRows w) _ (refl, tt) (went refl refl)
 spares w (wake n c killed base count) =
     spared (wakeRows (ltb 1 killed) (phaseIn w n) (wakeable (slotIn w n) c)) _ (refl, (refl, (refl, tt))) (woken-spares w n _ killed (phaseIn w n))
 spares w (read len flags) = read-spares w len flags _ refl
-spares w (write words bs) = spared (writeRows words bs) _ (refl, tt) (write-spares w (entriesOf bs))
+spares w (write words bs) = short-spares w (entriesOf bs) (shortWords words bs)
 spares w (move ms ds) =
     spared (listRows w ds) _ (refl, (refl, tt))
     (move-spares w ms ds (wrongWords 1 ms || isVacant (phaseIn w (requestOf ms))) (not (isWaiting (phaseIn w (requestOf ms)))))

@@ -1,21 +1,20 @@
 -- Each event keeps the invariant, hands over exactly when it has to, and adds to the queue what it has to. Assumes nothing.
-use Prim.Native.Nat.{ℕ, zero, suc, _+_, _*_, _/_, _%_, _≤_, _<_, min}
+use Prim.Native.Nat.{ℕ, _+_, _/_, _%_, _<_}
 use mathlib.Core.Path.{_≡_, refl, sym, ap, ap₂, _∙_, subst}
 use mathlib.Core.Bool.{Bool, true, false, not, cond, _||_, _&&_}
 use mathlib.Core.List.{List, [], _∷_, _++_, append-nil}
 use native.Mathlib.Omega.{arith}
 use native.Mathlib.Nat.{zero-add}
 use lib.Dec.{eqb, leb, ltb}
-use lib.ListN.{length, drop}
+use lib.ListN.{drop}
 use lib.Seq.{sets}
-use borrow.Author.Tests.{eqb-true, eqb-false, leb-false, ltb-true, ltb-false, lt-leb, le-leb, not-true, not-false}
+use borrow.Author.Tests.{eqb-true, leb-false, ltb-true, ltb-false, lt-leb, le-leb, not-true, not-false}
 use Rattle.answer.specs.Answer as numbered
 use Rattle.fd_list.specs.declared.List.{List as Fds}
-use Rattle.fd_list.specs.Lists.{listOf, numbers}
+use Rattle.fd_list.specs.Lists.{listOf}
 use Rattle.holds.specs.declared.Holds.{Holds}
 use Rattle.host_holds.specs.Host.{openOf, openAnswer, copyOf, copyAnswer, dropOf, dropAnswer}
 use Rattle.host_put.specs.Put.{putOf, putAnswer}
-use Rattle.le.specs.Le.{bytesOf}
 use Rattle.schemev2.specs.declared.Args.{Args}
 use Rattle.schemev2.specs.declared.Sqe.{Sqe}
 use Rattle.schemev2.specs.Entry.{sqeWords, sqeBytes}
@@ -23,34 +22,29 @@ use Rattle.slot.specs.declared.PageSpan.{PageSpan}
 use Rattle.slot.specs.declared.Phase.{Phase}
 use Rattle.slot.specs.declared.Phase.the-variants.{Vacant, Placeholder, Waiting, Responded, Fmap}
 use Rattle.slot.specs.declared.Slot.{Slot}
-use Rattle.slot.specs.Slots.{phaseOf, vacantSlot, placeholderOf, waitingOf, mapRequestOf, canceledOf, interruptedOf, withFdsOf, noFds}
-use Rattle.table.specs.declared.Table.{Table}
+use Rattle.slot.specs.Slots.{placeholderOf, waitingOf, mapRequestOf, canceledOf, interruptedOf, withFdsOf, noFds}
 use Rattle.table.specs.Table.{slotAt, putAt, givenOut, vacateAt}
-use Rattle.table.proofs.Access.{Sized}
 use Rattle.table.proofs.Chain.{head-vacant}
-use Rattle.wait_queue.specs.declared.WaitQueue.{WaitQueue}
-use Rattle.wait_queue.specs.Queue.{unread, sentIf, sentOf, sentWords, placeOf, removed}
+use Rattle.wait_queue.specs.Queue.{unread, sentIf, placeOf}
 use Rattle.wait_queue.proofs.Unread.{unread-more, unread-sent, unread-removed}
-use Rattle.wait_queue_receive.specs.declared.ReceiveAnswer.{ReceiveAnswer}
-use Rattle.wait_queue_receive.specs.Receive.{copied, emptyBy, emptyOf, receivedIf, receivedOf, receiveAnswer}
-use Rattle.events.specs.World.{World, tableOf, holdsOf, handlesOf, queueOf, slotIn, phaseIn, withTable, tableWith, queueFull, queued}
-use Rattle.events.specs.Outcome.{Response, Answer, Outcome, outcome, ok, no, wait, blocked, reply, valued, answered, refuse, checked}
-use Rattle.events.specs.Submit.{badOpcode, badList, longList, isPlaceholder, submittable, tableFull, reserveRows, reserved, submitRows, submitted, takenHolds, begun, callRows, genericRows, stdfsRows, fmapRows, queueRows, notified, submitEntry, callEntry, genericEntry, stdMeta, fmapEntry, closeEntry, detachEntry}
-use Rattle.events.specs.Wake.{responseOf, cancelEntry, handedOver, blockedBy, waitedBy, wokenBy, wakeable, wakeRows}
-use Rattle.events.specs.Read.{readOf}
+use Rattle.wait_queue_receive.specs.Receive.{copied, emptyBy, receivedIf, receivedOf, receiveAnswer}
+use Rattle.events.specs.World.{World, tableOf, holdsOf, handlesOf, queueOf, slotIn, phaseIn, withTable, queueFull, queued}
+use Rattle.events.specs.Outcome.{Answer, Outcome, outcome, reply, valued, answered, refuse, checked}
+use Rattle.events.specs.Submit.{badOpcode, badList, longList, isPlaceholder, submittable, tableFull, reserveRows, reserved, takenHolds, begun, callRows, genericRows, stdfsRows, fmapRows, queueRows, notified, submitEntry, callEntry, genericEntry, stdMeta, fmapEntry, closeEntry, detachEntry}
+use Rattle.events.specs.Wake.{cancelEntry, blockedBy, waitedBy, wokenBy, wakeable, wakeRows}
 use Rattle.events.specs.Complete.{isWaiting, writeRows, writeOn, entriesOf}
 use Rattle.events.specs.Descriptors.{requestOf, requestRows, listRows, broughtBack, moved, givenUp}
 use Rattle.events.specs.Supply.{wrongPages, suppliedAs, suppliedBy}
 use Rattle.events.specs.Event.{Event, hostOpen, hostCopy, hostDrop, hostPut, hostEnded, reserve, submit, call, generic, stdfs, fmap, close, detach, wake, read, write, move, obtain, supply, step}
-use Rattle.events.specs.History.{Fact, gave, asked, took, block, break, pass, filled, end, Call, book, tell, began, pour, hands, isBlocked, counted, onOk}
+use Rattle.events.specs.History.{Fact, gave, took, filled, Call, book, tell, pour, hands}
 use Rattle.events.specs.Demand3.{due, added, taken, unreadIn, ownBytes}
 use Rattle.events.specs.Whole.{Whole}
 use Rattle.events.proofs.Checked.{checked-cases}
 use Rattle.events.proofs.Entries.{InvOf, Keeps, in-range, same-core, waiting-is, write-ok}
-use Rattle.events.proofs.Inv.{Inv, in-stage, in-phase, inv-same, inv-gave, inv-began, inv-asked, inv-took, inv-block, inv-break, inv-pass, inv-filled, inv-end}
+use Rattle.events.proofs.Inv.{in-stage, in-phase, inv-same, inv-gave, inv-began, inv-asked, inv-took, inv-block, inv-break, inv-pass, inv-filled, inv-end}
 use Rattle.events.proofs.Sane.{lost-ended, map-alone}
-use Rattle.events.proofs.Stage.{Core, core, clash, callStage, stageOf, dress, callerIs, cancelingIs, endedIs, returnedIs, plain-vacant, is-placeholder, is-waiting, is-responded, is-mapping}
-use Rattle.events.proofs.Stored.{Stored, holding, heldOf, put-stored, vacate-stored, give-stored}
+use Rattle.events.proofs.Stage.{Core, clash, callStage, stageOf, callerIs, cancelingIs, endedIs, returnedIs, plain-vacant, is-placeholder, is-waiting, is-responded, is-mapping}
+use Rattle.events.proofs.Stored.{holding, heldOf, put-stored, vacate-stored, give-stored}
 
 pub record Ok (j : ℕ) (e : Event) (w : World) (h : List Fact) (o : Outcome) : Type 0 where
   pub inv : InvOf (o .world) (tell j e w (o .answer) h)

@@ -284,7 +284,7 @@ whole-step w (hostPut d k) i = whole-handles _ (whole-holds w i _) _
 whole-step w (hostEnded c) i = whole-table w i (endedTable (tableOf w) c) (holdsOf w) (sound-ended (tableOf w) c (sound w i))
 whole-step w (reserve c) i = kept w i (reserveRows w) _ (λ p. whole-give w i (placeholderOf c) (holdsOf w) (p .0) refl refl)
 whole-step w (submit n c op fl args pid ds) i =
-    kept w i (submitRows w n c op ds) _
+    checked-cases (λ (u : Outcome). Whole (u .world)) (refuse _) (submitRows w n c op ds) _ (λ k. whole-holds w i _)
     (λ p.
     whole-queued _
     (whole-put w i n (waitingOf c (listOf ds)) _ (placeholder-occupied (phaseIn w n) _ (not-false _ (p .1 .1 .0))) refl (listOf-length ds))

@@ -1,5 +1,5 @@
 -- The driver writes completions (01, "Completions"; src/scheme/user.rs: `write` 743, `handle_parsed` 792 to 846, `respond` 926).
-use Prim.Native.Nat.{ℕ, zero, suc, _+_, _-_, _*_, _/_}
+use Prim.Native.Nat.{ℕ, zero, suc, _-_, _*_, _/_}
 use mathlib.Core.Bool.{Bool, true, false, not, cond, _||_}
 use mathlib.Core.List.{List, [], _∷_, _++_}
 use lib.Dec.{ltb, eqb}
@@ -13,7 +13,6 @@ use Rattle.error.specs.declared.Result.the-variants.{Ok, Err}
 use Rattle.error.specs.Reference.{asUsize}
 use Rattle.fd_list.specs.declared.List.{List as Fds}
 use Rattle.fd_list.specs.Lists.{numbers}
-use Rattle.handles.specs.declared.Handles.{Handles}
 use Rattle.handles.specs.declared.Obtained.{Obtained}
 use Rattle.handles.specs.Handles.{heldAt, emptied, obtainOf, obtainCloses}
 use Rattle.holds.specs.declared.Holds.{Holds}
@@ -29,7 +28,6 @@ use Rattle.slot.specs.declared.Phase.the-variants.{Vacant, Placeholder, Waiting
 use Rattle.slot.specs.declared.Reply.{Reply}
 use Rattle.slot.specs.declared.Slot.{Slot}
 use Rattle.slot.specs.Slots.{noFds, respondedOf, withFdsOf}
-use Rattle.table.specs.declared.Table.{Table}
 use Rattle.table.specs.Table.{putAt, vacateAt}
 use Rattle.events.specs.World.{World, tableOf, holdsOf, handlesOf, slotIn, phaseIn, withTable, tableWith, withHolds, withHandles}
 use Rattle.events.specs.Outcome.{Response, success, error, descriptor, many, Answer, Outcome, outcome, ok, no, refuse, Row, row, checked, wakeEffect, unmapEffect, eventEffect}

@@ -1,9 +1,9 @@
 -- Demand 3 (document 00) with the terms of 01's "Runs": one claim about any list of events from a fresh state.
 -- What happened is in History: a list of facts, newest first, so that what stands behind a fact is what had happened before it.
-use Prim.Native.Nat.{ℕ, zero, suc, _+_, _*_, _/_}
+use Prim.Native.Nat.{ℕ, _+_, _*_, _/_}
 use mathlib.Core.Path.{_≡_}
 use mathlib.Core.Logic.{_⊎_}
-use mathlib.Core.Bool.{Bool, true, false, not, cond, _||_, _&&_}
+use mathlib.Core.Bool.{Bool, true, false, not, cond, _&&_}
 use mathlib.Core.List.{List, [], _∷_, _++_}
 use lib.Count.{ones}
 use lib.Dec.{leb, eqb}
@@ -11,7 +11,6 @@ use lib.ListN.{drop, length}
 use Rattle.le.specs.Le.{bytesOf}
 use Rattle.schemev2.specs.declared.Sqe.{Sqe}
 use Rattle.schemev2.specs.Entry.{sqeWords, sqeBytes}
-use Rattle.slot.specs.declared.Slot.{Slot}
 use Rattle.status.specs.declared.Status.the-variants.{Responded}
 use Rattle.status.specs.Status.{isIn, wordOf}
 use Rattle.wait_queue.specs.Queue.{unread}

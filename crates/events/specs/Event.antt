@@ -1,6 +1,6 @@
 -- The nineteen events of 01's runs, with any numbers, lists and bytes, and the step that each makes.
 use Prim.Native.Nat.{ℕ}
-use mathlib.Core.List.{List, [], _∷_}
+use mathlib.Core.List.{List}
 use Rattle.schemev2.specs.declared.Args.{Args}
 use Rattle.events.specs.World.{World}
 use Rattle.events.specs.Outcome.{Outcome}

@@ -1,6 +1,6 @@
 -- When each number is answered (01, "Where each refusal is checked"): exactly when its row's condition holds and no earlier
 -- row's does. The conditions are written over slots, queue and counts.
-use Prim.Native.Nat.{ℕ, zero, suc, _+_, _*_, _/_, _%_, _≤_}
+use Prim.Native.Nat.{ℕ, _*_, _/_, _%_, _≤_}
 use mathlib.Core.Path.{_≡_}
 use mathlib.Core.Bool.{Bool, true, false, not, cond, _||_, _&&_}
 use mathlib.Core.List.{List, [], _∷_}

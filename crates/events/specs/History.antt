@@ -1,7 +1,7 @@
 -- What happened in a run, and what that says of each tag's call (01, "Runs"). It is told by the events and their answers; a
 -- state is looked at for one thing alone, the reading of an accepted reply entry, which 01 leaves to demand 2's definition.
-use Prim.Native.Nat.{ℕ, zero, suc, _+_, _/_}
-use mathlib.Core.Bool.{Bool, true, false, not, cond, _||_, _&&_}
+use Prim.Native.Nat.{ℕ, zero, suc, _/_}
+use mathlib.Core.Bool.{Bool, true, false, cond, _||_}
 use mathlib.Core.List.{List, [], _∷_}
 use lib.Dec.{eqb}
 use Rattle.error.specs.Errors.{demuxOf}

@@ -1,7 +1,7 @@
 -- What an event answers and leaves: its answer, effects, the bytes that it stored and the state; and how refusals are
 -- written down, as rows in 01's order.
 use Prim.Native.Nat.{ℕ}
-use mathlib.Core.Bool.{Bool, true, false, cond}
+use mathlib.Core.Bool.{Bool, cond}
 use mathlib.Core.List.{List, [], _∷_}
 use Rattle.answer.specs.Answer as numbered
 use Rattle.flag.specs.Flags.{eventRead}

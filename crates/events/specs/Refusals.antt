@@ -1,10 +1,11 @@
 -- Demand 1: a refusal changes no state and no lent buffer, but for the four cases that 01 names ("Where each refusal is checked",
 -- last lines); "would wait" changes nothing either. Over every event and every state, reached by a run or not.
-use Prim.Native.Nat.{ℕ}
+use Prim.Native.Nat.{ℕ, _*_, _/_}
 use mathlib.Core.Path.{_≡_}
-use mathlib.Core.Bool.{Bool, cond, _||_}
+use mathlib.Core.Bool.{cond, _||_}
 use mathlib.Core.List.{List, [], _∷_}
-use lib.Dec.{eqb}
+use lib.Dec.{eqb, ltb}
+use lib.ListN.{length}
 use Rattle.handles.specs.Handles.{heldAt, emptied}
 use Rattle.schemev2.specs.declared.Cqe.{Cqe}
 use Rattle.schemev2.specs.declared.CqeOpcode.{CqeOpcode}
@@ -13,9 +14,9 @@ use Rattle.schemev2.specs.Entry.{kindOf, cqeOpcodeOf}
 use Rattle.slot.specs.Slots.{interruptedOf}
 use Rattle.table.specs.Table.{putAt, vacateAt}
 use Rattle.events.specs.World.{World, tableOf, holdsOf, handlesOf, slotIn, withTable, withHolds, withHandles}
-use Rattle.events.specs.Outcome.{Outcome, outcome, Answer, no, wait}
+use Rattle.events.specs.Outcome.{Outcome, outcome, no, wait}
 use Rattle.events.specs.Submit.{takenHolds}
-use Rattle.events.specs.Complete.{dropped, inHandle, Entered, accepted, rejected, entryOf, entriesOf, stopped, writeOn}
+use Rattle.events.specs.Complete.{dropped, inHandle, rejected, entryOf, entriesOf, stopped, writeOn}
 use Rattle.events.specs.Event.{Event, hostOpen, hostCopy, hostDrop, hostPut, hostEnded, reserve, submit, call, generic, stdfs, fmap, close, detach, wake, read, write, move, obtain, supply, step}
 
 -- no effect was made and no byte stored, so that lent words and bytes keep what they held
@@ -39,7 +40,7 @@ leftBy Unknown w e = w
 abbrev pub leftEntry : World → Cqe → World
 leftEntry w e = leftBy (cqeOpcodeOf (kindOf e)) w e
 
--- a write that is refused is refused for its first entry, or with 204
+-- a write that is refused is refused for its first entry, or for want of words
 abbrev pub leftFirst : World → List Cqe → World
 leftFirst w [] = w
 leftFirst w (e ∷ es) = leftEntry w e
@@ -63,7 +64,7 @@ left w (detach id pid) k = w
 left w (wake n c killed base count) k =
     cond (eqb k 4) (withTable w (putAt (tableOf w) n (interruptedOf (slotIn w n) (record { base = base; count = count })))) w
 left w (read len flags) k = w
-left w (write words bs) k = cond (eqb k 204) w (leftFirst w (entriesOf bs))
+left w (write words bs) k = cond (ltb words (54 * (length bs / 16))) w (leftFirst w (entriesOf bs))
 -- "a move refused by 22 or 2 drops what it brought"
 left w (move ms ds) k = cond (eqb k 22 || eqb k 2) (withHolds w (dropped (takenHolds w ds) ds)) w
 left w (obtain ms) k = w

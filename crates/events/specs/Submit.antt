@@ -1,6 +1,6 @@
 -- Giving slots out and queuing entries (01, "Submitting"; src/scheme/user.rs: `next_id` 185, `call` 195, `call_inner` 225 to
 -- 261, `request_fmap` 756, `call_generic` 1384, `close` 1641, `detach` 1663, `translate_std_fs_call` 2048).
-use Prim.Native.Nat.{ℕ, zero, suc, _+_, _%_}
+use Prim.Native.Nat.{ℕ, _+_, _%_}
 use mathlib.Core.Bool.{Bool, true, false, not, cond, _||_, _&&_}
 use mathlib.Core.List.{List, [], _∷_}
 use lib.Dec.{ltb, leb, eqb}
@@ -15,7 +15,6 @@ use Rattle.slot.specs.declared.Phase.{Phase}
 use Rattle.slot.specs.declared.Phase.the-variants.{Vacant, Placeholder, Waiting, Responded, Fmap}
 use Rattle.slot.specs.declared.Slot.{Slot}
 use Rattle.slot.specs.Slots.{phaseOf, placeholderOf, waitingOf, mapRequestOf}
-use Rattle.table.specs.declared.Table.{Table}
 use Rattle.table.specs.Table.{putAt, givenOut}
 use Rattle.take_holds.specs.Take.{bad, takeOf}
 use Rattle.user_args.specs.Args.{mergeOf}

@@ -1,6 +1,6 @@
 -- One turn of `call_inner`'s loop (01, "Waking"; src/scheme/user.rs, lines 263 to 388), and what a slot holds for it.
 use Prim.Native.Nat.{ℕ, zero, suc}
-use mathlib.Core.Bool.{Bool, true, false, not, _||_, _&&_}
+use mathlib.Core.Bool.{Bool, true, false, not, _&&_}
 use mathlib.Core.List.{List, [], _∷_}
 use lib.Dec.{ltb, eqb}
 use Rattle.fd_list.specs.Lists.{numbers}
