@@ -1,10 +1,11 @@
 -- Runs that reach each clause of the claims, computed. Assumes nothing.
 use mathlib.Core.Path.{_≡_, refl}
 use mathlib.Core.Bool.{true, false}
-use mathlib.Core.List.{List, [], _∷_, _++_}
+use mathlib.Core.List.{List, [], _∷_, _++_, map}
 use lib.Count.{ones}
 use lib.ListN.{replicate}
 use Rattle.handles.specs.Handles.{heldAt}
+use Rattle.le.specs.Le.{bytesOf}
 use Rattle.schemev2.specs.Entry.{sqeBytes}
 use Rattle.slot.specs.declared.Phase.the-variants.{Vacant}
 use Rattle.wait_queue.specs.Queue.{wordsFrom}
@@ -12,7 +13,8 @@ use Rattle.events.specs.World.{handlesOf, queueOf, phaseIn}
 use Rattle.events.specs.Outcome.{ok, no, blocked, reply, success, error, descriptor, many}
 use Rattle.events.specs.Submit.{args6}
 use Rattle.events.specs.Wake.{cancelEntry}
-use Rattle.events.specs.Event.{Event, hostOpen, hostCopy, hostPut, hostEnded, reserve, call, fmap, wake, read, write, move, supply}
+use Rattle.events.specs.Replies.{intoRegularOf, callGenericOf, noticeOf, schemeLocal, external, failed, kopenatOf, kdupOf}
+use Rattle.events.specs.Event.{Event, hostOpen, hostCopy, hostPut, hostEnded, reserve, submit, call, generic, stdfs, fmap, close, detach, wake, read, write, move, supply}
 use Rattle.events.specs.History.{gave, asked, took, serve, block, break, pass, filled, end}
 use Rattle.events.specs.Examples.{line, linesOf, factsOf, countsOf, leaves, callBy, entry, woke, more}
 
@@ -198,3 +200,71 @@ ended-span = refl
 -- 15 bytes written: 0.
 fifteen : linesOf (write 0 (replicate 15 9) ∷ []) ≡ line (ok 0) [] ∷ []
 fifteen = refl
+
+-- Each event's entry as a driver reads it, eight words each: opcode, flags and tag; six arguments; the pid.
+abbrev entries : List Event
+entries =
+    reserve 9
+    ∷ submit 0 9 5 3 (args6 1 2 3 4 5 6) 77 []
+    ∷ call 9 6 (args6 1 2 3 4 5 6) 1 2 50 []
+    ∷ generic 9 51 (11 ∷ []) 12 13 (14 ∷ 15 ∷ 16 ∷ 17 ∷ [])
+    ∷ generic 9 52 (21 ∷ 22 ∷ []) 23 24 (25 ∷ 26 ∷ 27 ∷ [])
+    ∷ generic 9 53 (31 ∷ []) 32 33 []
+    ∷ stdfs 9 54 (41 ∷ []) 42 43 (0x101 ∷ 45 ∷ 46 ∷ [])
+    ∷ stdfs 9 55 (51 ∷ 52 ∷ []) 53 54 (16 ∷ 55 ∷ 56 ∷ [])
+    ∷ fmap 9 61 62 63 1 2 64
+    ∷ close 71
+    ∷ detach 81 82
+    ∷ read 704 0
+    ∷ []
+
+entries-lines :
+    linesOf entries
+    ≡ line (ok 0) []
+    ∷ line (ok 0) more
+    ∷ line (ok 1) more
+    ∷ line (ok 2) more
+    ∷ line (ok 3) more
+    ∷ line (ok 4) more
+    ∷ line (ok 5) more
+    ∷ line (ok 6) more
+    ∷ line (ok 7) more
+    ∷ line (ok 0) (5 ∷ 7 ∷ 5 ∷ [])
+    ∷ line (ok 0) more
+    ∷ record {
+      answer = ok 640;
+      effects = [];
+      bytes =
+          bytesOf
+          ((0x305 ∷ 1 ∷ 2 ∷ 3 ∷ 4 ∷ 5 ∷ 6 ∷ 77 ∷ [])
+          ++ (0x1_0000_0006 ∷ 1 ∷ 2 ∷ 3 ∷ 4 ∷ 5 ∷ 8589934593 ∷ 50 ∷ [])
+          ++ (0x2_0000_001c ∷ 11 ∷ 12 ∷ 13 ∷ 14 ∷ 15 ∷ 16 ∷ 51 ∷ [])
+          ++ (0x3_0000_021c ∷ 21 ∷ 23 ∷ 24 ∷ 25 ∷ 26 ∷ 22 ∷ 52 ∷ [])
+          ++ (0x4_0000_001c ∷ 31 ∷ 32 ∷ 33 ∷ 0 ∷ 0 ∷ 0 ∷ 53 ∷ [])
+          ++ (0x5_0000_0021 ∷ 41 ∷ 42 ∷ 43 ∷ 1 ∷ 45 ∷ 46 ∷ 54 ∷ [])
+          ++ (0x6_0000_0221 ∷ 51 ∷ 53 ∷ 54 ∷ 16 ∷ 55 ∷ 52 ∷ 55 ∷ [])
+          ++ (0x7_0000_0015 ∷ 61 ∷ 63 ∷ 62 ∷ 0 ∷ 0 ∷ 8589934593 ∷ 64 ∷ [])
+          ++ (0x1b ∷ 71 ∷ 0 ∷ 0 ∷ 0 ∷ 0 ∷ 0 ∷ 0 ∷ [])
+          ++ (0x22 ∷ 81 ∷ 0 ∷ 0 ∷ 0 ∷ 0 ∷ 0 ∷ 82 ∷ []));
+    }
+    ∷ []
+unfolding wordsFrom
+entries-lines = refl
+
+-- Reading replies: the error before extra0's bits, the notice even with an error, descriptors where none are expected.
+regular : map intoRegularOf (success 9 0 false ∷ error 7 0 false ∷ descriptor 3 ∷ many [] ∷ []) ≡ ok 9 ∷ no 7 ∷ no 5 ∷ no 5 ∷ []
+regular = refl
+
+generic-read : map callGenericOf (success 9 0 true ∷ error 7 0 true ∷ descriptor 3 ∷ many [] ∷ []) ≡ ok 9 ∷ no 7 ∷ no 5 ∷ no 5 ∷ []
+generic-read = refl
+
+notices : map noticeOf (success 9 0 true ∷ error 7 0 true ∷ success 9 0 false ∷ descriptor 3 ∷ many [] ∷ []) ≡ true ∷ true ∷ false ∷ false ∷ false ∷ []
+notices = refl
+
+opened :
+    map kopenatOf (success 9 1 false ∷ success 9 2 false ∷ error 7 2 false ∷ descriptor 3 ∷ many [] ∷ [])
+    ≡ schemeLocal 9 1 ∷ failed 22 ∷ failed 7 ∷ external 3 ∷ failed 5 ∷ []
+opened = refl
+
+duplicated : map kdupOf (success 9 1 false ∷ error 7 2 false ∷ many [] ∷ []) ≡ schemeLocal 9 1 ∷ failed 7 ∷ failed 5 ∷ []
+duplicated = refl
