@@ -161,6 +161,10 @@ by-handle :
     ≡ line (ok 0) [] ∷ line (ok 0) [] ∷ line (ok 0) more ∷ line (ok 16) (woke 1 0) ∷ line (reply (descriptor 9)) [] ∷ []
 by-handle = refl
 
+-- An event entry makes its event, and no reply: its flags stand in the tag's place.
+evented : linesOf (write 108 (entry 2 3 99 ++ entry 2 32 99) ∷ []) ≡ line (ok 16) (4 ∷ 99 ∷ 3 ∷ []) ∷ []
+evented = refl
+
 -- The slips that 01 rules out.
 
 -- Testing all 64 bits for an error: the low 32 decide.
