@@ -72,8 +72,11 @@ unmapEffect base count = 2 ∷ base ∷ count ∷ []
 abbrev pub eventEffect : ℕ → ℕ → List ℕ
 eventEffect number flags = 4 ∷ number ∷ flags ∷ []
 
+abbrev pub rootWords : ℕ → ℕ → List ℕ
+rootWords scheme flags = 5 ∷ scheme ∷ flags ∷ []
+
 abbrev pub rootEffect : World → ℕ → List ℕ
-rootEffect w flags = 5 ∷ schemeOf w ∷ flags ∷ []
+rootEffect w flags = rootWords (schemeOf w) flags
 
 -- an entry was queued
 abbrev pub readable : World → List ℕ

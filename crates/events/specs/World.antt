@@ -20,9 +20,12 @@ pub record World : Type 0 where
   pub state : State
   pub words : List ℕ
 
+abbrev pub world : State → List ℕ → World
+world s ws = record { state = s; words = ws }
+
 -- a fresh state with its scheme number; the queue's words are whatever the host lends
 abbrev pub freshWorld : ℕ → List ℕ → World
-freshWorld scheme words = record { state = freshState scheme; words = words }
+freshWorld scheme words = world (freshState scheme) words
 
 abbrev pub schemeOf : World → ℕ
 schemeOf w = w .state .driver .scheme
