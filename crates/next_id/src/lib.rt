@@ -14,18 +14,18 @@ pub enum NextIdAnswer {
     Full,
 }
 
-pub struct NextId {
+pub struct NextIdStep {
     pub answer: NextIdAnswer,
     pub state: State,
 }
 
-pub fn next_id(s: State, caller: u32) -> NextId
+pub fn next_id(s: State, caller: u32) -> NextIdStep
     ensures { λ r. ⌜ ((ws : List ℕ) → outcome (nextIdAnswer (r .answer)) [] (world (r .state) ws) ≡ reserveOf (world s ws) caller) ⌝ }
 {
     let mut t = s.table;
     let n = t.head;
     if 64 <= n {
-        return NextId {
+        return NextIdStep {
             answer: NextIdAnswer::Full,
             state: s,
         };
@@ -37,7 +37,7 @@ pub fn next_id(s: State, caller: u32) -> NextId
     t.head = next;
     let mut u = s;
     u.table = t;
-    NextId {
+    NextIdStep {
         answer: NextIdAnswer::Reserved(Tag(n as u64)),
         state: u,
     }

@@ -1,0 +1,3 @@
+pub mod Opcodes
+pub mod Taken
+pub mod Begun
