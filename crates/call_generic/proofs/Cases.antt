@@ -1,0 +1,87 @@
+-- The generic calls by their tests. Assumes nothing.
+use Prim.Native.Nat.{ℕ, _%_, _<_, _≤_}
+use mathlib.Core.Path.{_≡_, refl, sym, ap, _∙_}
+use mathlib.Core.Bool.{true, false, _||_}
+use mathlib.Core.List.{List, [], _∷_}
+use native.Mathlib.Omega.{arith}
+use lib.Dec.{eqb, ltb}
+use lib.ListN.{getD, length, List·getD-eq-default}
+use borrow.Author.Tests.{eq-eqb, ne-eqb, lt-ltb, le-ltb}
+use Rattle.fd_list.specs.declared.List.{List as Fds}
+use Rattle.fd_list.specs.Lists.{listOf}
+use Rattle.flag.specs.Flags.{sqeMultipleIds}
+use Rattle.slot.specs.declared.Slot.{Slot}
+use Rattle.slot.specs.Slots.{waitingOf}
+use Rattle.state.specs.declared.State.{State}
+use Rattle.events.specs.World.{World, world, holdsOf, queueFull}
+use Rattle.events.specs.Outcome.{Outcome, outcome, ok, no}
+use Rattle.events.specs.Submit.{args6, entry, wrongKind, kindByte, stdMeta, tableFull, begun, genericEntry, stdfsOf}
+use Rattle.events.proofs.Conditions.{kind-same}
+use Rattle.call_generic.specs.declared.GenericAnswer.{GenericAnswer}
+use Rattle.call_generic.specs.Generic.{genericAnswer, genericWith}
+
+pub no-word : (ws : List ℕ) (i : ℕ) → length ws ≤ i → 0 ≡ getD ws i 0
+no-word ws i h = sym (List·getD-eq-default ws 0 {n = i} h)
+
+-- the kind's three tests
+module _ (k : ℕ) where
+  pub kind-none : k < 1 → true ≡ wrongKind k
+  kind-none h = sym (kind-same k ∙ rw (eq-eqb k 0 (omega (arith, h))) refl)
+
+  pub kind-nine : 1 ≤ k → k ≡ 9 → true ≡ wrongKind k
+  kind-nine h e = sym (kind-same k ∙ rw (ne-eqb k 0 (λ z. omega (arith, h)), eq-eqb k 9 e) refl)
+
+  pub kind-some : 1 ≤ k → (k ≡ 9 → ⊥) → ltb 16 k ≡ wrongKind k
+  kind-some h e = sym (kind-same k ∙ rw (ne-eqb k 0 (λ z. omega (arith, h)), ne-eqb k 9 e) refl)
+
+module _ (op n pid base len : ℕ) (fds ms : List ℕ) (f m o : ℕ) (ef : f ≡ getD fds 0 0) (em : m ≡ getD ms 0 0) (eo : o ≡ getD ms 1 0) where
+  pub entry-two :
+      (g b : ℕ) → length fds ≡ 2 → g ≡ getD fds 1 0 → b ≡ sqeMultipleIds
+      → entry op b n (args6 f base len m o g) pid ≡ genericEntry op pid fds base len ms n
+  entry-two g b q eg eb = rw (eq-eqb (length fds) 2 q, ef, em, eo, eg, eb) refl
+
+  pub entry-one :
+      (p : ℕ) → (length fds ≡ 2 → ⊥) → p ≡ getD ms 2 0 → entry op 0 n (args6 f base len m o p) pid ≡ genericEntry op pid fds base len ms n
+  entry-one p q ep = rw (ne-eqb (length fds) 2 q, ef, em, eo, ep) refl
+
+module _ (s : State) (ws : List ℕ) (op c pid : ℕ) (fds : List ℕ) (base len : ℕ) (ms : List ℕ) where
+  abbrev Done : Outcome → Type 0
+  Done o = o ≡ genericWith op (world s ws) c pid fds base len ms
+
+  module _ (fx : List ℕ) (none : fx ≡ []) where
+    pub no-fds : length fds ≡ 0 → Done (outcome (no 22) fx (world s ws))
+    no-fds q = rw (eq-eqb (length fds) 0 q, none) refl
+
+    pub many-fds : (length fds ≡ 0 → ⊥) → 2 < length fds → Done (outcome (no 22) fx (world s ws))
+    many-fds q r = rw (ne-eqb (length fds) 0 q, lt-ltb 2 (length fds) r, none) refl
+
+    pub full : (length fds ≡ 0 → ⊥) → length fds ≤ 2 → tableFull (world s ws) ≡ true → Done (outcome (no 202) fx (world s ws))
+    full q r f = rw (ne-eqb (length fds) 0 q, le-ltb 2 (length fds) r, f, none) refl
+
+    pub queue-full :
+        (length fds ≡ 0 → ⊥) → length fds ≤ 2 → tableFull (world s ws) ≡ false → queueFull (world s ws) ≡ true
+        → Done (outcome (no 203) fx (world s ws))
+    queue-full q r f g = rw (ne-eqb (length fds) 0 q, le-ltb 2 (length fds) r, f, g, none) refl
+
+  pub called :
+      (length fds ≡ 0 → ⊥) → length fds ≤ 2 → tableFull (world s ws) ≡ false → queueFull (world s ws) ≡ false → (o : Outcome)
+      → o ≡ begun (world s ws) (waitingOf c (listOf [])) (holdsOf (world s ws)) (genericEntry op pid fds base len ms) → Done o
+  called q r f g o e = e ∙ rw (ne-eqb (length fds) 0 q, le-ltb 2 (length fds) r, f, g) refl
+
+module _ (s : State) (ws : List ℕ) (c pid : ℕ) (fds : List ℕ) (base len : ℕ) (ms : List ℕ) where
+  abbrev Is : Outcome → Type 0
+  Is o = o ≡ stdfsOf (world s ws) c pid fds base len ms
+
+  pub few-words : (fx : List ℕ) → fx ≡ [] → length ms < 3 → Is (outcome (no 22) fx (world s ws))
+  few-words fx none q = rw (lt-ltb (length ms) 3 q, none) refl
+
+  pub no-kind : (fx : List ℕ) → fx ≡ [] → 3 ≤ length ms → wrongKind (kindByte ms) ≡ true → Is (outcome (no 95) fx (world s ws))
+  no-kind fx none q r = rw (le-ltb (length ms) 3 q, r, none) refl
+
+  pub translated :
+      (o : Outcome) → 3 ≤ length ms → wrongKind (kindByte ms) ≡ false → o ≡ genericWith 33 (world s ws) c pid fds base len (stdMeta ms) → Is o
+  translated o q r e = e ∙ rw (le-ltb (length ms) 3 q, r) refl
+
+-- an answer of the one is one of the other
+pub again : (x y : GenericAnswer) (fx : List ℕ) (w : World) (o : Outcome) → x ≡ y → outcome (genericAnswer x) fx w ≡ o → outcome (genericAnswer y) fx w ≡ o
+again x y fx w o e q = ap (λ (z : GenericAnswer). outcome (genericAnswer z) fx w) (sym e) ∙ q
