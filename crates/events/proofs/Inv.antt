@@ -1,5 +1,5 @@
 -- The invariant: what the slots have to do with what happened, and that each thing that happens keeps it. Assumes nothing.
-use Prim.Native.Nat.{ℕ, zero, suc, _+_}
+use Prim.Native.Nat.{ℕ, suc, _+_}
 use mathlib.Core.Path.{_≡_, refl, sym, ap, _∙_, subst}
 use mathlib.Core.Bool.{Bool, true, false, cond, _||_}
 use mathlib.Core.List.{List, [], _∷_, map}
@@ -15,12 +15,12 @@ use Rattle.slot.specs.declared.Phase.{Phase}
 use Rattle.slot.specs.declared.Phase.the-variants.{Vacant, Placeholder, Waiting, Responded, Fmap}
 use Rattle.slot.specs.declared.Reply.{Reply}
 use Rattle.slot.specs.declared.Slot.{Slot}
-use Rattle.slot.specs.Slots.{phaseOf, vacantSlot, placeholderOf, waitingOf, mapRequestOf, canceledOf, interruptedOf, respondedOf, endedOf}
+use Rattle.slot.specs.Slots.{phaseOf, vacantSlot, placeholderOf, waitingOf, mapRequestOf, canceledOf, interruptedOf, respondedOf}
 use Rattle.status.specs.Status.{bit, countOf}
 use Rattle.table.specs.declared.Table.{Table}
 use Rattle.table.specs.Table.{noSlot, slotAt}
 use Rattle.events.specs.Outcome.{Response}
-use Rattle.events.specs.Wake.{responseBy, responseOf}
+use Rattle.events.specs.Wake.{responseOf}
 use Rattle.events.specs.History.{Place, Fact, gave, asked, took, serve, block, break, pass, filled, end, Call, made, begin, book}
 use Rattle.events.specs.Demand3.{Every, fair, accepted, handed, dropped}
 use Rattle.events.proofs.Sane.{unpassed, unwoken, map-alone}
@@ -225,12 +225,6 @@ or-false : (b : Bool) → b || false ≡ b
 or-false true = refl
 or-false false = refl
 
-same-reply : (k : ℕ) (v : Slot) → responseBy k (endedOf v) ≡ responseBy k v
-same-reply zero v = refl
-same-reply (suc zero) v = refl
-same-reply (suc (suc zero)) v = refl
-same-reply (suc (suc (suc k))) v = refl
-
 module _ (c : ℕ) where
   abbrev endCore : Core → Core
   endCore vacant = vacant
@@ -244,7 +238,7 @@ module _ (c : ℕ) where
   mine v Vacant e q = ap (λ (p : Phase). coreBy p v) e
   mine v Placeholder e q = rw (e, q)
   mine v Waiting e q = rw (e, q)
-  mine v Responded e q = rw (e, q) (ap (λ (r : Response). responded (v .caller) true (v .returned) r) (same-reply (v .reply .kind) v))
+  mine v Responded e q = rw (e, q)
   mine v Fmap e q = rw (e, q)
 
   others : (v : Slot) (p : Phase) → phaseOf v ≡ p → v .ended || eqb (v .caller) c ≡ v .ended → core v ≡ endCore (coreBy p v)

@@ -3,6 +3,7 @@ use Prim.Native.Nat.{ℕ, zero, suc}
 use mathlib.Core.Bool.{Bool, true, false, not, _&&_}
 use mathlib.Core.List.{List, [], _∷_}
 use lib.Dec.{ltb, eqb}
+use Rattle.fd_list.specs.declared.List.{List as Fds}
 use Rattle.fd_list.specs.Lists.{numbers}
 use Rattle.flag.specs.Flags.{sqeOneway}
 use Rattle.holds.specs.Holds.{outsideOf}
@@ -10,6 +11,7 @@ use Rattle.schemev2.specs.declared.Sqe.{Sqe}
 use Rattle.slot.specs.declared.PageSpan.{PageSpan}
 use Rattle.slot.specs.declared.Phase.{Phase}
 use Rattle.slot.specs.declared.Phase.the-variants.{Vacant, Placeholder, Waiting, Responded, Fmap}
+use Rattle.slot.specs.declared.Reply.{Reply}
 use Rattle.slot.specs.declared.Slot.{Slot}
 use Rattle.slot.specs.Slots.{canceledOf, interruptedOf}
 use Rattle.table.specs.Table.{putAt, vacateAt}
@@ -17,15 +19,19 @@ use Rattle.events.specs.World.{World, tableOf, holdsOf, slotIn, phaseIn,
 use Rattle.events.specs.Outcome.{Response, success, error, descriptor, many, Outcome, outcome, no, blocked, reply, refuse, Row, row, checked, readable}
 use Rattle.events.specs.Submit.{entry, args6}
 
--- the reply that a slot holds: by the stored kind, its word, and for many its list
-abbrev pub responseBy : ℕ → Slot → Response
-responseBy zero v = success (v .reply .word) (v .reply .extra0) (v .reply .notice)
-responseBy (suc zero) v = error (v .reply .word) (v .reply .extra0) (v .reply .notice)
-responseBy (suc (suc zero)) v = descriptor (v .reply .word)
-responseBy (suc (suc (suc k))) v = many (numbers (v .fds))
+-- a stored reply, and the list beside it, as the reply that it is: by the stored kind, its word, and for many the list
+abbrev pub responseBy : ℕ → Reply → Fds → Response
+responseBy zero r l = success (r .word) (r .extra0) (r .notice)
+responseBy (suc zero) r l = error (r .word) (r .extra0) (r .notice)
+responseBy (suc (suc zero)) r l = descriptor (r .word)
+responseBy (suc (suc (suc k))) r l = many (numbers l)
 
+abbrev pub responseFrom : Reply → Fds → Response
+responseFrom r l = responseBy (r .kind) r l
+
+-- the reply that a slot holds
 abbrev pub responseOf : Slot → Response
-responseOf v = responseBy (v .reply .kind) v
+responseOf v = responseFrom (v .reply) (v .fds)
 
 -- the descriptions that a reply holds, in order
 abbrev pub heldIn : Response → List ℕ
