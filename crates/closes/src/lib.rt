@@ -4,7 +4,7 @@ use fd_list::List;
 use ids::Description;
 ghost use mathlib.Core.Path.{_≡_};
 ghost use mathlib.Core.List.{_∷_, []};
-ghost use Prim.Native.Nat.{_+_, _*_, _<_};
+ghost use Prim.Native.Nat.{_+_, _*_, _<_, _≤_};
 ghost use lib.ListN.{set, length};
 ghost use lib.Seq.{sets};
 ghost use Rattle.fd_list.specs.Lists.{numbers};
@@ -86,6 +86,7 @@ pub fn drop_all(a: &mut [u16], l: List, follows: bool, fx: &mut [u64], at: usize
     ensures { λ r. ⌜ r ≡ length (only follows (lasts (now (a .entry)) (numbers l))) ⌝ }
     ensures { λ r. ⌜ now (a .exit) ≡ lessAll (now (a .entry)) (numbers l) ⌝ }
     ensures { λ r. ⌜ now (fx .exit) ≡ sets (now (fx .entry)) at (closes (only follows (lasts (now (a .entry)) (numbers l)))) ⌝ }
+    ensures { λ r. ⌜ r ≤ 16 ⌝ }
 {
     let n = fd_list::size(l);
     let mut i = 0;

@@ -4,6 +4,7 @@ use fd_list::List;
 use ids::Description;
 use ids::DescriptionFound;
 ghost use mathlib.Core.Path.{_≡_};
+ghost use Prim.Native.Nat.{_≤_};
 ghost use lib.ListN.{getD};
 ghost use lib.Seq.{sets};
 ghost use Rattle.closes.specs.Closes.{closing, only, closes};
@@ -52,6 +53,7 @@ pub fn drop_one(h: Holds, d: Description) -> Single
 pub fn drop_list(h: Holds, l: List, why: Reason, fx: &mut [u64], at: usize) -> Dropped
     ensures { λ r. ⌜ r ≡ droppedOf h (numbers l) (closing why) ⌝ }
     ensures { λ r. ⌜ now (fx .exit) ≡ sets (now (fx .entry)) at (closes (only (closing why) (lasts (h .holds) (numbers l)))) ⌝ }
+    ensures { λ r. ⌜ r .count ≤ 16 ⌝ }
 {
     let follows = closes::is_closing(why);
     let mut a = h.holds;

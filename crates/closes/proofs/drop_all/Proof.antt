@@ -61,7 +61,7 @@ returns c =
     let l = c .before .loop in
     let a = c .before .before .before .before .before .args in
     let b : length (numbers (a .l)) ≤ l .i = omega (arith, c .loop-test .left, c .before .before .size .ensures .0) in
-    (count-end (numbers (a .l)) (l .i) b (a .follows) (l .a) (l .k) _ (l .inv .5), (less-end (numbers (a .l)) (l .i) b (l .a) _ (l .inv .4), words-end (numbers (a .l)) (l .i) b (a .follows) (l .a) (l .fx) _ _ (l .inv .6)))
+    (count-end (numbers (a .l)) (l .i) b (a .follows) (l .a) (l .k) _ (l .inv .5), (less-end (numbers (a .l)) (l .i) b (l .a) _ (l .inv .4), (words-end (numbers (a .l)) (l .i) b (a .follows) (l .a) (l .fx) _ _ (l .inv .6), omega (arith, l .inv .0, l .inv .1, c .before .before .size .ensures .1))))
 
 pub drop-all-spec : {M : Type 1} → statement M
 drop-all-spec =

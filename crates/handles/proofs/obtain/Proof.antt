@@ -43,7 +43,7 @@ returns-3 : tie.Need-returns-3
 returns-3 c =
     let a = c .before .before .before .before .before .before .before .before .before .before .before .before .before .args in
     let s = c .before .before .before .drop-list in
-    obtain-drop (a .h) (a .n) (a .l) (a .k .0) (a .fx .now) (a .at) (some-length (a .l) _ (c .before .before .before .before .before .before .before .before .before .before .before .size .ensures .0) (c .before .before .before .before .before .before .before .before .before .before .if1 .left)) (c .before .before .before .before .before .before .before .before .before .pick .result .0) (picked (a .l) 0 (c .before .before .before .before .before .before .before .before .before .pick .result) (c .before .before .before .before .before .before .before .before .before .pick .ensures)) (c .before .before .before .before .before .before .before .before .rest .result) (c .before .before .before .before .before .before .before .before .rest .ensures) (same-test _ _ _ (c .before .before .before .before .before .before .before .is-free .ensures) (c .before .before .before .before .before .before .if2 .left)) (c .before .before .before .before .before .single .result) (c .before .before .before .before .before .single .ensures) (s .result) _ (s .ensures .0) (s .ensures .1)
+    obtain-drop (a .h) (a .n) (a .l) (a .k .0) (a .fx .now) (a .at) (some-length (a .l) _ (c .before .before .before .before .before .before .before .before .before .before .before .size .ensures .0) (c .before .before .before .before .before .before .before .before .before .before .if1 .left)) (c .before .before .before .before .before .before .before .before .before .pick .result .0) (picked (a .l) 0 (c .before .before .before .before .before .before .before .before .before .pick .result) (c .before .before .before .before .before .before .before .before .before .pick .ensures)) (c .before .before .before .before .before .before .before .before .rest .result) (c .before .before .before .before .before .before .before .before .rest .ensures) (same-test _ _ _ (c .before .before .before .before .before .before .before .is-free .ensures) (c .before .before .before .before .before .before .if2 .left)) (c .before .before .before .before .before .single .result) (c .before .before .before .before .before .single .ensures) (s .result) _ (s .ensures .0) (s .ensures .1 .0)
 
 pub obtain-spec : {M : Type 1} → statement M
 obtain-spec =

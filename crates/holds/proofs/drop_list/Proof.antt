@@ -23,7 +23,7 @@ returns c =
     let a = c .before .before .before .before .before .before .before .before .before .before .args in
     let s = c .before .before .before .before .drop-all in
     let t = c .before .before .before .before .before .before .before .before .is-closing in
-    (dropped-is (a .h) (numbers (a .l)) (t .result) (closing (a .why)) (s .result) _ (t .ensures) (s .ensures .0) (s .ensures .1 .0), dropped-words (a .h .holds) (numbers (a .l)) (t .result) (closing (a .why)) (a .fx .now) _ (a .at) (t .ensures) (s .ensures .1 .1))
+    (dropped-is (a .h) (numbers (a .l)) (t .result) (closing (a .why)) (s .result) _ (t .ensures) (s .ensures .0) (s .ensures .1 .0), (dropped-words (a .h .holds) (numbers (a .l)) (t .result) (closing (a .why)) (a .fx .now) _ (a .at) (t .ensures) (s .ensures .1 .1 .0), s .ensures .1 .1 .1))
 
 pub drop-list-spec : {M : Type 1} → statement M
 drop-list-spec =

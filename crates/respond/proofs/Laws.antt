@@ -1,0 +1,176 @@
+-- The reply's parts, and effects stored one run after the other. Assumes nothing.
+use Prim.Native.Nat.{ℕ, zero, suc, min, _+_, _*_, _<_, _≤_}
+use mathlib.Core.Path.{_≡_, refl, sym, ap, ap₂, _∙_}
+use mathlib.Core.Bool.{Bool, true, false, cond}
+use mathlib.Core.List.{List, [], _∷_, _++_}
+use native.Mathlib.Omega.{arith}
+use native.Mathlib.Decide.{decLt}
+use lib.Dec.{eqb, ltb}
+use lib.ListN.{length, set, length-append}
+use lib.Seq.{sets}
+use borrow.Author.Tests.{eq-eqb, ne-eqb, lt-ltb, le-ltb}
+use Rattle.answer.specs.Answer.{numberOf}
+use Rattle.closes.specs.declared.Reason.{Reason}
+use Rattle.closes.specs.declared.Reason.the-variants.{Replied, Ended}
+use Rattle.closes.specs.Closes.{closing, only, closes}
+use Rattle.closes.proofs.Laws.{closes-length, only-length}
+use Rattle.closes.proofs.Steps.{sets-out}
+use Rattle.counts.specs.Counts.{lasts}
+use Rattle.counts.proofs.Laws.{lasts-length}
+use Rattle.error.specs.declared.Error.{Error}
+use Rattle.error.specs.declared.Result.{Result}
+use Rattle.error.specs.declared.Result.the-variants.{Ok, Err}
+use Rattle.error.specs.Errors.{resultAnswer}
+use Rattle.fd_list.specs.declared.List.{List as Fds}
+use Rattle.fd_list.specs.Lists.{numbers, listOf}
+use Rattle.fd_list.proofs.Laws.{numbers-most}
+use Rattle.holds.specs.declared.Dropped.{Dropped}
+use Rattle.holds.specs.declared.Holds.{Holds}
+use Rattle.holds.specs.Holds.{droppedOf}
+use Rattle.slot.specs.declared.PageSpan.{PageSpan}
+use Rattle.slot.specs.declared.Phase.{Phase}
+use Rattle.slot.specs.declared.Phase.the-variants.{Waiting}
+use Rattle.slot.specs.declared.Reply.{Reply}
+use Rattle.slot.specs.declared.Slot.{Slot}
+use Rattle.slot.specs.Slots.{phaseOf, noFds, vacantSlot, respondedOf}
+use Rattle.events.specs.Outcome.{wakeEffect}
+use Rattle.events.specs.Complete as complete
+use Rattle.events.specs.Complete.{storedErrno, storedResult, storedAs, unmapOf, closesOf, dropped}
+use Rattle.respond.specs.declared.Act.the-variants.{Store, Vacate}
+use Rattle.respond.specs.declared.Offer.{Offer}
+use Rattle.respond.specs.declared.Offer.the-variants.{Regular, Fd, Listed}
+use Rattle.respond.specs.declared.Parts.{Parts}
+use Rattle.respond.specs.declared.Responded.{Responded as Decided}
+use Rattle.respond.specs.Respond.{offered, namedOf, partsOf, decided, releasedFx, storedFx, storedOf, lostFx, lostOf, servedOf, servedFx, respondOf, respondFx}
+
+pub errno-is : (c : Bool) (e : ℕ) (x y : Bool) → c ≡ x → (x ≡ true → eqb e 125 ≡ y) → (x ≡ false → eqb e 4 ≡ y) → cond x (cond y 4 e) (cond y 5 e) ≡ storedErrno c e
+errno-is c e true y q f g = rw (q, f refl) refl
+errno-is c e false y q f g = rw (q, g refl) refl
+
+pub stored-ok : (c : Bool) (r : Result) (w x : ℕ) (b : Bool) → r ≡ Ok w → _≡_ {A = Reply} (record { kind = 0; extra0 = x; notice = b; word = w }) (storedAs (storedResult c r x b))
+stored-ok c r w x b e = rw e refl
+
+pub stored-err :
+    (c : Bool) (r : Result) (f : Error) (k n x : ℕ) (b : Bool) → r ≡ Err f → k ≡ numberOf (resultAnswer r) → n ≡ storedErrno c k
+    → _≡_ {A = Reply} (record { kind = 1; extra0 = x; notice = b; word = n }) (storedAs (storedResult c r x b))
+stored-err c r f k n x b e ek en = rw (en, ek, e) refl
+
+pub named-none : (d : ℕ) (l : Fds) → 63 < d → l ≡ listOf [] → l ≡ namedOf d
+named-none d l q e = e ∙ sym (ap (λ (b : Bool). cond b (listOf []) (listOf (d ∷ []))) (lt-ltb 63 d q))
+
+pub named-one : (d : ℕ) (l : Fds) → d ≤ 63 → l ≡ listOf (d ∷ []) → l ≡ namedOf d
+named-one d l q e = e ∙ sym (ap (λ (b : Bool). cond b (listOf []) (listOf (d ∷ []))) (le-ltb 63 d q))
+
+-- the parts by the offer
+pub parts-regular :
+    (v : Slot) (o : Offer) (r : Result) (x : ℕ) (b : Bool) (y : Reply) (n m : Fds) → o ≡ Regular r x b → y ≡ storedAs (storedResult (v .canceling) r x b)
+    → n ≡ noFds → m ≡ noFds → _≡_ {A = Parts} (record { reply = y; kept = n; gone = v .fds; own = m }) (partsOf v (offered o))
+parts-regular v o r x b y n m e ey en em = rw (e, ey, en, em) refl
+
+pub parts-fd :
+    (v : Slot) (o : Offer) (d : ℕ) (n own : Fds) → o ≡ Fd d → n ≡ noFds → own ≡ namedOf d
+    → _≡_ {A = Parts} (record { reply = record { kind = 2; extra0 = 0; notice = false; word = d }; kept = n; gone = v .fds; own = own }) (partsOf v (offered o))
+parts-fd v o d n own e en eo = rw (e, en, eo) refl
+
+pub parts-listed :
+    (v : Slot) (o : Offer) (n : Fds) → o ≡ Listed → n ≡ noFds
+    → _≡_ {A = Parts} (record { reply = record { kind = 3; extra0 = 0; notice = false; word = 0 }; kept = v .fds; gone = n; own = v .fds }) (partsOf v (offered o))
+parts-listed v o n e en = rw (e, en) refl
+
+-- stores
+pub effect-is : (fx f g e : List ℕ) (j k a b : ℕ) → f ≡ set fx j k → g ≡ set f (j + 1) a → e ≡ set g (j + 2) b → e ≡ sets fx j (k ∷ a ∷ b ∷ [])
+effect-is fx f g e j k a b ef eg ee =
+    ee ∙ ap (λ (l : List ℕ). set l (j + 2) b) (eg ∙ ap (λ (l : List ℕ). set l (j + 1) a) ef) ∙ ap₂ (λ (x y : ℕ). set (set (set fx j k) x a) y b) one two
+  where
+    one : j + 1 ≡ suc j
+    one = omega arith
+
+    two : j + 2 ≡ suc (suc j)
+    two = omega arith
+
+pub sets-then : (xs ys l : List ℕ) (i : ℕ) → sets (sets l i xs) (i + length xs) ys ≡ sets l i (xs ++ ys)
+sets-then [] ys l i = ap (λ (k : ℕ). sets l k ys) plain
+  where
+    plain : i + 0 ≡ i
+    plain = omega arith
+sets-then (x ∷ xs) ys l i = ap (λ (k : ℕ). sets (sets (set l i x) (suc i) xs) k ys) next ∙ sets-then xs ys (set l i x) (suc i)
+  where
+    next : i + suc (length xs) ≡ suc i + length xs
+    next = omega arith
+
+pub two-runs : (l f g xs ys : List ℕ) (i k : ℕ) → f ≡ sets l i xs → k ≡ length xs → g ≡ sets f (i + k) ys → g ≡ sets l i (xs ++ ys)
+two-runs l f g xs ys i k ef ek eg = eg ∙ ap₂ (λ (m : List ℕ) (j : ℕ). sets m (i + j) ys) ef ek ∙ sets-then xs ys l i
+
+-- a place past the end is as good as the end
+pub place-same : (l xs : List ℕ) (i : ℕ) → sets l (min i (length l)) xs ≡ sets l i xs
+place-same l xs i = go (decLt (length l) i)
+  where
+    go : Dec (length l < i) → sets l (min i (length l)) xs ≡ sets l i xs
+    go (yes h) = sym (sets-out l (min i (length l)) xs (omega (arith, h))) ∙ sets-out l i xs (omega (arith, h))
+    go (no h) = ap (λ (k : ℕ). sets l k xs) (let z : min i (length l) ≡ i = omega (arith, h) in z)
+
+pub unmap-none : (s : PageSpan) (fx : List ℕ) (at : ℕ) → s .count ≡ 0 → (0 ≡ length (unmapOf (eqb (s .count) 0) s)) × ((0 ≤ 3) × (fx ≡ sets fx at (unmapOf (eqb (s .count) 0) s)))
+unmap-none s fx at q = rw (eq-eqb (s .count) 0 q) (refl, (omega arith, refl))
+
+pub unmap-some :
+    (s : PageSpan) (fx gx : List ℕ) (at : ℕ) → (s .count ≡ 0 → ⊥) → gx ≡ sets fx at (2 ∷ s .base ∷ s .count ∷ [])
+    → (3 ≡ length (unmapOf (eqb (s .count) 0) s)) × ((3 ≤ 3) × (gx ≡ sets fx at (unmapOf (eqb (s .count) 0) s)))
+unmap-some s fx gx at q e = rw (ne-eqb (s .count) 0 q) (refl, (omega arith, e))
+
+-- a list's closes: three words each, at most 16
+module _ (h : Holds) (l : Fds) (why : Reason) (d : Dropped) (is : d ≡ droppedOf h (numbers l) (closing why)) where
+  pub count-is : 3 * d .count ≡ length (closesOf why h (numbers l))
+  count-is = ap (λ (x : Dropped). 3 * x .count) is ∙ sym (closes-length (only (closing why) (lasts (h .holds) (numbers l))))
+
+  pub count-le : length (l .at) ≡ 16 → d .count ≤ 16
+  count-le q =
+      omega (arith, ap (λ (x : Dropped). x .count) is, only-length (closing why) (lasts (h .holds) (numbers l)), lasts-length (numbers l) (h .holds), numbers-most l q)
+
+pub words-are : (xs ys : List ℕ) (n m : ℕ) → n ≡ length xs → m ≡ length ys → n + m ≡ length (xs ++ ys)
+words-are xs ys n m p q = omega (arith, p, q, length-append xs ys)
+
+pub stored-is :
+    (v u : Slot) (n : ℕ) (p : Parts) (h g : Holds) (k : ℕ) → u ≡ respondedOf v (p .reply) (p .kept) → g ≡ dropped h (numbers (p .gone))
+    → k ≡ length (releasedFx v (numbers (p .gone)) h) → decided 0 Store u g (3 + k) ≡ storedOf v n p h
+stored-is v u n p h g k eu eg ek = λ i. decided 0 Store (eu i) (eg i) (w i)
+  where
+    w : 3 + k ≡ length (storedFx v n p h)
+    w = omega (arith, ek)
+
+pub lost-is :
+    (v u : Slot) (p : Parts) (h g f : Holds) (j k : ℕ) → u ≡ vacantSlot → g ≡ dropped h (numbers (p .gone)) → f ≡ dropped g (numbers (p .own))
+    → j ≡ length (releasedFx v (numbers (p .gone)) h) → k ≡ length (closesOf Ended g (numbers (p .own)))
+    → decided 0 Vacate u f (j + k) ≡ lostOf v p h
+lost-is v u p h g f j k eu eg ef ej ek =
+    λ i. decided 0 Vacate (eu i) (y i) (w i)
+  where
+    y : f ≡ dropped (dropped h (numbers (p .gone))) (numbers (p .own))
+    y = ef ∙ ap (λ (x : Holds). dropped x (numbers (p .own))) eg
+
+    w : j + k ≡ length (lostFx v p h)
+    w = words-are (releasedFx v (numbers (p .gone)) h) (closesOf Ended (dropped h (numbers (p .gone))) (numbers (p .own))) j k ej (ek ∙ ap (λ (x : Holds). length (closesOf Ended x (numbers (p .own)))) eg)
+
+pub lost-fx :
+    (v : Slot) (p : Parts) (h g : Holds) (fx f e : List ℕ) (at j : ℕ) → g ≡ dropped h (numbers (p .gone)) → f ≡ sets fx at (releasedFx v (numbers (p .gone)) h)
+    → j ≡ length (releasedFx v (numbers (p .gone)) h) → e ≡ sets f (at + j) (closesOf Ended g (numbers (p .own))) → e ≡ sets fx at (lostFx v p h)
+lost-fx v p h g fx f e at j eg ef ej ee =
+    two-runs fx f e (releasedFx v (numbers (p .gone)) h) (closesOf Ended (dropped h (numbers (p .gone))) (numbers (p .own))) at j ef ej
+    (ee ∙ ap (λ (x : Holds). sets f (at + j) (closesOf Ended x (numbers (p .own)))) eg)
+
+-- respond by the slot's phase
+module _ (v : Slot) (n : ℕ) (o : Offer) (h : Holds) (fx : List ℕ) (at : ℕ) where
+  abbrev Done : Decided → List ℕ → Type 0
+  Done d gx = (d ≡ respondOf (phaseOf v) v n (offered o) h) × (gx ≡ sets fx at (respondFx (phaseOf v) v n (offered o) h))
+
+  pub turned : (p : Phase) (d : Decided) → phaseOf v ≡ p → d ≡ respondOf p v n (offered o) h → respondFx p v n (offered o) h ≡ [] → Done d fx
+  turned p d q e z = rw q (e, ap (sets fx at) (sym z))
+
+  pub waiting :
+      (b : Bool) (p : Parts) (k : ℕ) (d : Decided) (gx : List ℕ) → phaseOf v ≡ Waiting → v .ended ≡ b → p ≡ partsOf v (offered o) → k ≡ min at (length fx)
+      → d ≡ servedOf b v n p h → gx ≡ sets fx k (servedFx b v n p h) → Done d gx
+  waiting b p k d gx q e ep ek ed eg =
+      rw q (
+        ed ∙ ap₂ (λ (x : Parts) (y : Bool). servedOf y v n x h) ep (sym e),
+        eg ∙ ap₂ (λ (x : Parts) (y : Bool). sets fx k (servedFx y v n x h)) ep (sym e) ∙ ap (λ (j : ℕ). sets fx j (servedFx (v .ended) v n (partsOf v (offered o)) h)) ek
+            ∙ place-same fx (servedFx (v .ended) v n (partsOf v (offered o)) h) at,
+      )

@@ -1,0 +1,47 @@
+-- `respond::stored_in` meets its contract. Assumes nothing.
+use borrow.Author.Needs.{needs}
+use Rattle.respond.proofs.stored_in.Statement.{statement}
+use Rattle.respond.proofs.stored_in.Tie as tie
+use mathlib.Core.Path.{refl}
+use native.Mathlib.Omega.{arith}
+use Rattle.fd_list.specs.Lists.{numbers}
+use Rattle.events.specs.Outcome.{wakeEffect}
+use Rattle.respond.specs.Respond.{releasedFx}
+use Rattle.respond.proofs.Laws.{stored-is, two-runs}
+
+cast-effect : tie.Need-cast-effect
+cast-effect c = search needs
+
+effect-requires : tie.Need-effect-requires
+effect-requires c κs = search needs
+
+add-release : tie.Need-add-release
+add-release c = search needs
+
+release-requires : tie.Need-release-requires
+release-requires c κs = let a = c .before .before .before .before .before .before .before .before .before .before .args in omega (arith, c .before .before .before .before .before .before .before .before .before .before .pre)
+
+responded-requires : tie.Need-responded-requires
+responded-requires c κs = search needs
+
+add-t19 : tie.Need-add-t19
+add-t19 c = search needs
+
+same-length : tie.Need-same-length
+same-length c = search needs
+
+returns : tie.Need-returns
+returns c = let a = c .before .before .before .before .before .before .before .before .before .before .before .before .before .before .before .before .args in let r = c .before .before .before .before .before .release .ensures in (stored-is (a .v) _ (a .tag) (a .p) (a .h) _ _ (c .before .responded .ensures) (r .0) (r .1 .0), two-runs (a .fx .now) _ _ (wakeEffect (a .v .caller) (a .tag)) (releasedFx (a .v) (numbers (a .p .gone)) (a .h)) (a .at) 3 (c .before .before .before .before .before .before .before .before .before .effect .ensures) refl (r .1 .1 .1))
+
+pub stored-in-spec : {M : Type 1} → statement M
+stored-in-spec =
+    tie.close
+    (tie.spec
+    cast-effect
+    effect-requires
+    add-release
+    release-requires
+    responded-requires
+    add-t19
+    same-length
+    returns)

@@ -1,0 +1,20 @@
+-- `respond::unmap` meets its contract. Assumes nothing.
+use borrow.Author.Needs.{needs}
+use Rattle.respond.proofs.unmap.Statement.{statement}
+use Rattle.respond.proofs.unmap.Tie as tie
+use Rattle.respond.proofs.Laws.{unmap-none, unmap-some}
+
+returns : tie.Need-returns
+returns c = let a = c .before .before .args in unmap-none (a .span) (a .fx .now) (a .at) (c .if1 .taken)
+
+effect-requires : tie.Need-effect-requires
+effect-requires c κs = search needs
+
+same-length : tie.Need-same-length
+same-length c = search needs
+
+returns-2 : tie.Need-returns-2
+returns-2 c = let a = c .before .before .before .before .before .before .args in unmap-some (a .span) (a .fx .now) _ (a .at) (c .before .before .before .before .if1 .left) (c .before .before .effect .ensures)
+
+pub unmap-spec : {M : Type 1} → statement M
+unmap-spec = tie.close (tie.spec returns effect-requires same-length returns-2)
