@@ -1,5 +1,5 @@
 -- How a reply is read by whoever made the call (01, "Reading replies"; src/scheme/user.rs: `into_regular` 71, `call_generic`
--- 1428 to 1444, `kopenat` 1473, `kdup` 1704; `from_extra0`, src/context/file.rs, line 92).
+-- 1431 to 1445, `kopenat` 1472, `kdup` 1705; `from_extra0`, src/context/file.rs, line 92).
 use Prim.Native.Nat.{ℕ}
 use mathlib.Core.Bool.{Bool, true, false}
 use Rattle.flag.specs.Flags.{within, newFdFlags}

@@ -1,4 +1,4 @@
--- Map supply (01, "Map supply"; `ProvideMmap` in `handle_parsed`, src/scheme/user.rs, lines 847 to 919): it alone vacates a
+-- Map supply (01, "Map supply"; `ProvideMmap` in `handle_parsed`, src/scheme/user.rs, lines 849 to 919): it alone vacates a
 -- map request's slot.
 use Prim.Native.Nat.{ℕ, _%_}
 use mathlib.Core.Bool.{Bool, true, false, not, _||_}
