@@ -65,7 +65,14 @@ descriptorOf v t k h n = byHandle (eqb (heldAt n k) 0) v t k h n
 abbrev pub descriptorFx : Slot → ℕ → ℕ → Holds → Handles → List ℕ
 descriptorFx v t k h n = byHandleFx (eqb (heldAt n k) 0) v t k h n
 
--- an obtain entry: is the list empty
+-- an obtain entry: the first of the list, and the closes that follow
+abbrev pub obtainedFrom : Slot → ℕ → Holds → Handles → Obtained
+obtainedFrom v k h n = handle.obtainOf h n (v .fds) k
+
+abbrev pub closesFrom : Slot → ℕ → Holds → Handles → List ℕ
+closesFrom v k h n = obtainCloses h n (v .fds) k
+
+-- is the list empty
 abbrev pub obtainedOf : Bool → Slot → Obtained → Holds → Handles → Handled
 obtainedOf true v o h n = refusedOf 2 v h n
 obtainedOf false v o h n = decided 0 Store (withFdsOf v (o .list)) (o .holds) (o .handles) (3 * o .count)
@@ -73,7 +80,7 @@ obtainedOf false v o h n = decided 0 Store (withFdsOf v (o .list)) (o .holds) (o
 abbrev pub obtainBy : Phase → Slot → ℕ → Holds → Handles → Handled
 obtainBy Vacant v k h n = refusedOf 22 v h n
 obtainBy Placeholder v k h n = refusedOf 2 v h n
-obtainBy Waiting v k h n = obtainedOf (eqb (length (numbers (v .fds))) 0) v (handle.obtainOf h n (v .fds) k) h n
+obtainBy Waiting v k h n = obtainedOf (eqb (length (numbers (v .fds))) 0) v (obtainedFrom v k h n) h n
 obtainBy Responded v k h n = refusedOf 2 v h n
 obtainBy Fmap v k h n = refusedOf 2 v h n
 
@@ -83,7 +90,7 @@ obtainOf v k h n = obtainBy (phaseOf v) v k h n
 abbrev pub obtainFxBy : Phase → Slot → ℕ → Holds → Handles → List ℕ
 obtainFxBy Vacant v k h n = []
 obtainFxBy Placeholder v k h n = []
-obtainFxBy Waiting v k h n = cond (eqb (length (numbers (v .fds))) 0) [] (obtainCloses h n (v .fds) k)
+obtainFxBy Waiting v k h n = cond (eqb (length (numbers (v .fds))) 0) [] (closesFrom v k h n)
 obtainFxBy Responded v k h n = []
 obtainFxBy Fmap v k h n = []
 
