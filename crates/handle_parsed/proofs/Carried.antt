@@ -85,8 +85,8 @@ module _ (w : World) (size : length (holdsOf w .holds) ≡ 64) (n : ℕ) (k : Ha
       let g = dropped h (numbers (v .fds)) in
       let z : length (g .holds) ≡ 64 = lessAll-length (numbers (v .fds)) (h .holds) ∙ size in
       λ i.
-        accepted (releaseOf w v (one d) ++ sym (own-closes g z d Ended) i)
-        (withHandles (withTable w (tableWith (vacateAt (tableOf w) n) (sym (own-less g z d) i))) k)
+      accepted (releaseOf w v (one d) ++ sym (own-closes g z d Ended) i)
+      (withHandles (withTable w (tableWith (vacateAt (tableOf w) n) (sym (own-less g z d) i))) k)
   served-is true listed = refl
 
   respond-is : (p : Phase) (o : Offer) → respondBy p (withHandles w k) [] (withHandles w k) n o ≡ carried w n (handled (respondOf p v n o h) k) (respondFx p v n o h)
@@ -112,7 +112,7 @@ module _ (w : World) (size : length (holdsOf w .holds) ≡ 64) (n x : ℕ) (k : 
   At p =
       respondBy p (withHandles (withHolds w (dropped (holdsOf w) (x ∷ []))) k) (closesOf Refused (holdsOf w) (x ∷ [])) (withHandles w k) n (one x)
       ≡ carried w n (byTag (eqb (respondOf p (slotIn w n) n (one x) (holdsOf w) .number) 0) (respondOf p (slotIn w n) n (one x) (holdsOf w)) (slotIn w n) x (holdsOf w) k)
-        (byTagFx (eqb (respondOf p (slotIn w n) n (one x) (holdsOf w) .number) 0) (respondFx p (slotIn w n) n (one x) (holdsOf w)) x (holdsOf w))
+      (byTagFx (eqb (respondOf p (slotIn w n) n (one x) (holdsOf w) .number) 0) (respondFx p (slotIn w n) n (one x) (holdsOf w)) x (holdsOf w))
 
   tag-is : (p : Phase) → At p
   tag-is Vacant = turned 77
@@ -123,7 +123,7 @@ module _ (w : World) (size : length (holdsOf w .holds) ≡ 64) (n x : ℕ) (k : 
           (b : Bool)
           → servedBy b (withHandles w k) n (one x)
           ≡ carried w n (byTag (eqb (servedOf b (slotIn w n) n (partsOf (slotIn w n) (one x)) (holdsOf w) .number) 0) (servedOf b (slotIn w n) n (partsOf (slotIn w n) (one x)) (holdsOf w)) (slotIn w n) x (holdsOf w) k)
-            (byTagFx (eqb (servedOf b (slotIn w n) n (partsOf (slotIn w n) (one x)) (holdsOf w) .number) 0) (servedFx b (slotIn w n) n (partsOf (slotIn w n) (one x)) (holdsOf w)) x (holdsOf w))
+          (byTagFx (eqb (servedOf b (slotIn w n) n (partsOf (slotIn w n) (one x)) (holdsOf w) .number) 0) (servedFx b (slotIn w n) n (partsOf (slotIn w n) (one x)) (holdsOf w)) x (holdsOf w))
       go true = served-is w size n k true (one x)
       go false = served-is w size n k false (one x)
   tag-is Responded = turned 22

@@ -49,13 +49,13 @@ quiet Fmap v t x h z = refl
 
 module _ (v : Slot) (t k : ℕ) (h : Holds) (n : Handles) (fx : List ℕ) (at : ℕ) where
   abbrev Desc : Handled → List ℕ → Type 0
-  Desc d gx = (d ≡ descriptorOf v t k h n) × (gx ≡ sets fx at (descriptorFx v t k h n))
+  Desc d gx = (d ≡ descriptorOf v t k h n) × ((gx ≡ sets fx at (descriptorFx v t k h n)) × (d .words ≤ 99))
 
-  by : (b : Bool) (d : Handled) (gx : List ℕ) → eqb (heldAt n k) 0 ≡ b → d ≡ byHandle b v t k h n → gx ≡ sets fx at (byHandleFx b v t k h n) → Desc d gx
-  by b d gx e q r = (q ∙ ap (λ (x : Bool). byHandle x v t k h n) (sym e), r ∙ ap (λ (x : Bool). sets fx at (byHandleFx x v t k h n)) (sym e))
+  by : (b : Bool) (d : Handled) (gx : List ℕ) → eqb (heldAt n k) 0 ≡ b → d ≡ byHandle b v t k h n → gx ≡ sets fx at (byHandleFx b v t k h n) → d .words ≤ 99 → Desc d gx
+  by b d gx e q r few = (q ∙ ap (λ (x : Bool). byHandle x v t k h n) (sym e), (r ∙ ap (λ (x : Bool). sets fx at (byHandleFx x v t k h n)) (sym e), few))
 
   pub handle-empty : (x : ℕ) (d : Handled) → x ≡ heldAt n k → x ≡ 0 → d ≡ refusedOf 22 v h n → Desc d fx
-  handle-empty x d e z q = by true d fx (eq-eqb (heldAt n k) 0 (sym e ∙ z)) q refl
+  handle-empty x d e z q = by true d fx (eq-eqb (heldAt n k) 0 (sym e ∙ z)) q refl (omega (arith, ap (λ (y : Handled). y .words) q))
 
   module _ (x : ℕ) (e : x ≡ heldAt n k) (z : x ≡ 0 → ⊥) (r : Decided) (er : r ≡ respondOf (phaseOf v) v t (one (x - 1)) h) (m : Handles) (em : m ≡ emptied n k) where
     full : eqb (heldAt n k) 0 ≡ false
@@ -64,36 +64,38 @@ module _ (v : Slot) (t k : ℕ) (h : Holds) (n : Handles) (fx : List ℕ) (at : 
     er' : r ≡ respondOf (phaseOf v) v t (one (inHandle n k)) h
     er' = er ∙ ap (λ (y : ℕ). respondOf (phaseOf v) v t (one (y - 1)) h) e
 
-    pub handle-served : (d : Handled) (gx : List ℕ) → r .number ≡ 0 → d ≡ handled r m → gx ≡ sets fx at (respondFx (phaseOf v) v t (one (x - 1)) h) → Desc d gx
-    handle-served d gx q ed eg =
+    pub handle-served : (d : Handled) (gx : List ℕ) → r .number ≡ 0 → d ≡ handled r m → gx ≡ sets fx at (respondFx (phaseOf v) v t (one (x - 1)) h) → r .words ≤ 99 → Desc d gx
+    handle-served d gx q ed eg few =
         let zero : eqb (respondOf (phaseOf v) v t (one (inHandle n k)) h .number) 0 ≡ true =
-              eq-eqb _ 0 (ap (λ (y : Decided). y .number) (sym er') ∙ q) in
+        eq-eqb _ 0 (ap (λ (y : Decided). y .number) (sym er') ∙ q) in
         by false d gx full
         (ed ∙ ap₂ (λ (y : Decided) (j : Handles). handled y j) er' em
-         ∙ ap (λ (b : Bool). byTag b (respondOf (phaseOf v) v t (one (inHandle n k)) h) v (inHandle n k) h (emptied n k)) (sym zero))
+        ∙ ap (λ (b : Bool). byTag b (respondOf (phaseOf v) v t (one (inHandle n k)) h) v (inHandle n k) h (emptied n k)) (sym zero))
         (eg ∙ ap (λ (y : ℕ). sets fx at (respondFx (phaseOf v) v t (one (y - 1)) h)) e
-         ∙ ap (λ (b : Bool). sets fx at (byTagFx b (respondFx (phaseOf v) v t (one (inHandle n k)) h) (inHandle n k) h)) (sym zero))
+        ∙ ap (λ (b : Bool). sets fx at (byTagFx b (respondFx (phaseOf v) v t (one (inHandle n k)) h) (inHandle n k) h)) (sym zero))
+        (omega (arith, ap (λ (y : Handled). y .words) ed, few))
 
     pub handle-refused :
         (o : Fds) (d : Dropped) (f gx : List ℕ) → (r .number ≡ 0 → ⊥) → f ≡ sets fx at (respondFx (phaseOf v) v t (one (x - 1)) h) → o ≡ namedOf (x - 1)
-        → d ≡ droppedOf h (numbers o) (closing Refused) → gx ≡ sets f at (closesOf Refused h (numbers o))
+        → d ≡ droppedOf h (numbers o) (closing Refused) → gx ≡ sets f at (closesOf Refused h (numbers o)) → d .count ≤ 16
         → Desc (decided (r .number) Leave v (d .holds) m (3 * d .count)) gx
-    handle-refused o d f gx q ef eo ed eg =
+    handle-refused o d f gx q ef eo ed eg few =
         let some : eqb (respondOf (phaseOf v) v t (one (inHandle n k)) h .number) 0 ≡ false =
-              ne-eqb _ 0 (λ y. q (ap (λ (s : Decided). s .number) er' ∙ y)) in
+        ne-eqb _ 0 (λ y. q (ap (λ (s : Decided). s .number) er' ∙ y)) in
         let no-fx : f ≡ fx =
-              ef ∙ ap (sets fx at) (quiet (phaseOf v) v t (x - 1) h (λ y. q (ap (λ (s : Decided). s .number) er ∙ y))) in
+        ef ∙ ap (sets fx at) (quiet (phaseOf v) v t (x - 1) h (λ y. q (ap (λ (s : Decided). s .number) er ∙ y))) in
         let name : namedOf (x - 1) ≡ namedOf (inHandle n k) = ap (λ (y : ℕ). namedOf (y - 1)) e in
         let own : o ≡ namedOf (inHandle n k) = eo ∙ name in
         let holds : d .holds ≡ droppedOf h (numbers (namedOf (inHandle n k))) (closing Refused) .holds =
-              ap (λ (s : Dropped). s .holds) (ed ∙ ap (λ (l : Fds). droppedOf h (numbers l) (closing Refused)) own) in
+        ap (λ (s : Dropped). s .holds) (ed ∙ ap (λ (l : Fds). droppedOf h (numbers l) (closing Refused)) own) in
         let words : 3 * d .count ≡ length (closesOf Refused h (numbers (namedOf (inHandle n k)))) =
-              count-is h o Refused d ed ∙ ap (λ (l : Fds). length (closesOf Refused h (numbers l))) own in
+        count-is h o Refused d ed ∙ ap (λ (l : Fds). length (closesOf Refused h (numbers l))) own in
         by false (decided (r .number) Leave v (d .holds) m (3 * d .count)) gx full
         ((λ i. decided (er' i .number) Leave v (holds i) (em i) (words i))
-         ∙ ap (λ (b : Bool). byTag b (respondOf (phaseOf v) v t (one (inHandle n k)) h) v (inHandle n k) h (emptied n k)) (sym some))
+        ∙ ap (λ (b : Bool). byTag b (respondOf (phaseOf v) v t (one (inHandle n k)) h) v (inHandle n k) h (emptied n k)) (sym some))
         (eg ∙ ap₂ (λ (y : List ℕ) (l : Fds). sets y at (closesOf Refused h (numbers l))) no-fx own
-         ∙ ap (λ (b : Bool). sets fx at (byTagFx b (respondFx (phaseOf v) v t (one (inHandle n k)) h) (inHandle n k) h)) (sym some))
+        ∙ ap (λ (b : Bool). sets fx at (byTagFx b (respondFx (phaseOf v) v t (one (inHandle n k)) h) (inHandle n k) h)) (sym some))
+        (omega (arith, few))
 
 -- at most one close follows an obtain
 pub obtain-few : (h : Holds) (n : Handles) (l : Fds) (k : ℕ) (o : Obtained) → o ≡ handle.obtainOf h n l k → o .count ≤ 1
@@ -109,13 +111,13 @@ obtain-few h n l k o e = omega (arith, ap (λ (x : Obtained). x .count) e, go (n
 
 module _ (v : Slot) (k : ℕ) (h : Holds) (n : Handles) (fx : List ℕ) (at : ℕ) where
   abbrev Got : Handled → List ℕ → Type 0
-  Got d gx = (d ≡ obtainOf v k h n) × (gx ≡ sets fx at (obtainFx v k h n))
+  Got d gx = (d ≡ obtainOf v k h n) × ((gx ≡ sets fx at (obtainFx v k h n)) × (d .words ≤ 99))
 
-  pub obtain-turned : (p : Phase) (d : Handled) → phaseOf v ≡ p → d ≡ obtainBy p v k h n → obtainFxBy p v k h n ≡ [] → Got d fx
-  obtain-turned p d q e z = rw q (e, ap (sets fx at) (sym z))
+  pub obtain-turned : (p : Phase) (d : Handled) → phaseOf v ≡ p → d ≡ obtainBy p v k h n → obtainFxBy p v k h n ≡ [] → obtainBy p v k h n .words ≡ 0 → Got d fx
+  obtain-turned p d q e z y = rw q (e, (ap (sets fx at) (sym z), omega (arith, ap (λ (x : Handled). x .words) e, y)))
 
   pub obtain-none : (d : Handled) (s : ℕ) → phaseOf v ≡ Waiting → s ≡ length (numbers (v .fds)) → s ≡ 0 → d ≡ refusedOf 2 v h n → Got d fx
-  obtain-none d s q es z e = let b = eq-eqb (length (numbers (v .fds))) 0 (sym es ∙ z) in rw (q, b) (e, refl)
+  obtain-none d s q es z e = let b = eq-eqb (length (numbers (v .fds))) 0 (sym es ∙ z) in rw (q, b) (e, (refl, omega (arith, ap (λ (x : Handled). x .words) e)))
 
   pub obtain-some :
       (s : ℕ) (o : Obtained) (w : Slot) (gx : List ℕ) → phaseOf v ≡ Waiting → s ≡ length (numbers (v .fds)) → (s ≡ 0 → ⊥)
@@ -123,12 +125,20 @@ module _ (v : Slot) (k : ℕ) (h : Holds) (n : Handles) (fx : List ℕ) (at : �
       → Got (decided 0 Store w (o .holds) (o .handles) (3 * o .count)) gx
   obtain-some s o w gx q es z eo ew eg =
       let b = ne-eqb (length (numbers (v .fds))) 0 (λ y. z (es ∙ y)) in
-      rw (q, b) ((λ i. decided 0 Store (ew i) (o .holds) (o .handles) (3 * o .count)) ∙ ap (λ (x : Obtained). decided 0 Store (withFdsOf v (x .list)) (x .holds) (x .handles) (3 * x .count)) eo, eg)
+      rw (q, b) ((λ i. decided 0 Store (ew i) (o .holds) (o .handles) (3 * o .count)) ∙ ap (λ (x : Obtained). decided 0 Store (withFdsOf v (x .list)) (x .holds) (x .handles) (3 * x .count)) eo, (eg, omega (arith, obtain-few h n (v .fds) k o eo)))
 
 -- by what the entry asks for
 module _ (p q : ParsedCqe) (v : Slot) (h : Holds) (n : Handles) (fx gx : List ℕ) (at : ℕ) (d : Handled) (e : p ≡ q) where
-  pub asked : d ≡ handledOf q v h n → gx ≡ sets fx at (handledFx q v h n) → (d ≡ handledOf p v h n) × (gx ≡ sets fx at (handledFx p v h n))
-  asked a b = (a ∙ ap (λ (x : ParsedCqe). handledOf x v h n) (sym e), b ∙ ap (λ (x : ParsedCqe). sets fx at (handledFx x v h n)) (sym e))
+  pub asked :
+      d ≡ handledOf q v h n → gx ≡ sets fx at (handledFx q v h n) → d .words ≤ 99
+      → (d ≡ handledOf p v h n) × ((gx ≡ sets fx at (handledFx p v h n)) × (d .words ≤ 99))
+  asked a b few = (a ∙ ap (λ (x : ParsedCqe). handledOf x v h n) (sym e), (b ∙ ap (λ (x : ParsedCqe). sets fx at (handledFx x v h n)) (sym e), few))
 
 pub with-handles : (r s : Decided) (n : Handles) (d : Handled) → d ≡ handled r n → r ≡ s → d ≡ handled s n
 with-handles r s n d e f = e ∙ ap (λ (x : Decided). handled x n) f
+
+pub with-words : (r : Decided) (n : Handles) (d : Handled) → d ≡ handled r n → r .words ≤ 99 → d .words ≤ 99
+with-words r n d e few = omega (arith, ap (λ (x : Handled). x .words) e, few)
+
+pub no-words : (k : ℕ) (v : Slot) (h : Holds) (n : Handles) (d : Handled) → d ≡ refusedOf k v h n → d .words ≤ 99
+no-words k v h n d e = omega (arith, ap (λ (x : Handled). x .words) e)

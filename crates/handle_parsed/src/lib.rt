@@ -68,6 +68,7 @@ fn descriptor(
 ) -> Handled
     ensures { λ r. ⌜ r ≡ descriptorOf v tag (fd .0) h n ⌝ }
     ensures { λ r. ⌜ now (fx .exit) ≡ sets (now (fx .entry)) at (descriptorFx v tag (fd .0) h n) ⌝ }
+    ensures { λ r. ⌜ r .words ≤ 99 ⌝ }
 {
     let held = handles::held_at(n, fd);
     if held == 0 {
@@ -96,6 +97,7 @@ fn descriptor(
 fn obtain(v: Slot, fd: Handle, h: Holds, n: Handles, fx: &mut [u64], at: usize) -> Handled
     ensures { λ r. ⌜ r ≡ obtainOf v (fd .0) h n ⌝ }
     ensures { λ r. ⌜ now (fx .exit) ≡ sets (now (fx .entry)) at (obtainFx v (fd .0) h n) ⌝ }
+    ensures { λ r. ⌜ r .words ≤ 99 ⌝ }
 {
     let p = slot::phase_of(v);
     match p {
@@ -155,6 +157,7 @@ pub fn handle_parsed(
 ) -> Handled
     ensures { λ r. ⌜ r ≡ handledOf p v h n ⌝ }
     ensures { λ r. ⌜ now (fx .exit) ≡ sets (now (fx .entry)) at (handledFx p v h n) ⌝ }
+    ensures { λ r. ⌜ r .words ≤ 99 ⌝ }
 {
     match p {
         ParsedCqe::TriggerFevent { number, flags } => {

@@ -160,17 +160,17 @@ lost-fx v p h g fx f e at j eg ef ej ee =
 -- respond by the slot's phase
 module _ (v : Slot) (n : ℕ) (o : Offer) (h : Holds) (fx : List ℕ) (at : ℕ) where
   abbrev Done : Decided → List ℕ → Type 0
-  Done d gx = (d ≡ respondOf (phaseOf v) v n (offered o) h) × (gx ≡ sets fx at (respondFx (phaseOf v) v n (offered o) h))
+  Done d gx = (d ≡ respondOf (phaseOf v) v n (offered o) h) × ((gx ≡ sets fx at (respondFx (phaseOf v) v n (offered o) h)) × (d .words ≤ 99))
 
-  pub turned : (p : Phase) (d : Decided) → phaseOf v ≡ p → d ≡ respondOf p v n (offered o) h → respondFx p v n (offered o) h ≡ [] → Done d fx
-  turned p d q e z = rw q (e, ap (sets fx at) (sym z))
+  pub turned : (p : Phase) (d : Decided) → phaseOf v ≡ p → d ≡ respondOf p v n (offered o) h → respondFx p v n (offered o) h ≡ [] → respondOf p v n (offered o) h .words ≡ 0 → Done d fx
+  turned p d q e z y = rw q (e, (ap (sets fx at) (sym z), omega (arith, ap (λ (x : Decided). x .words) e, y)))
 
   pub waiting :
       (b : Bool) (p : Parts) (k : ℕ) (d : Decided) (gx : List ℕ) → phaseOf v ≡ Waiting → v .ended ≡ b → p ≡ partsOf v (offered o) → k ≡ min at (length fx)
-      → d ≡ servedOf b v n p h → gx ≡ sets fx k (servedFx b v n p h) → Done d gx
-  waiting b p k d gx q e ep ek ed eg =
-      rw q (
-        ed ∙ ap₂ (λ (x : Parts) (y : Bool). servedOf y v n x h) ep (sym e),
-        eg ∙ ap₂ (λ (x : Parts) (y : Bool). sets fx k (servedFx y v n x h)) ep (sym e) ∙ ap (λ (j : ℕ). sets fx j (servedFx (v .ended) v n (partsOf v (offered o)) h)) ek
-            ∙ place-same fx (servedFx (v .ended) v n (partsOf v (offered o)) h) at,
-      )
+      → d ≡ servedOf b v n p h → gx ≡ sets fx k (servedFx b v n p h) → d .words ≤ 99 → Done d gx
+  waiting b p k d gx q e ep ek ed eg few =
+      let words : gx ≡ sets fx at (servedFx (v .ended) v n (partsOf v (offered o)) h) =
+      eg ∙ ap₂ (λ (x : Parts) (y : Bool). sets fx k (servedFx y v n x h)) ep (sym e)
+      ∙ ap (λ (j : ℕ). sets fx j (servedFx (v .ended) v n (partsOf v (offered o)) h)) ek
+      ∙ place-same fx (servedFx (v .ended) v n (partsOf v (offered o)) h) at in
+      rw q (ed ∙ ap₂ (λ (x : Parts) (y : Bool). servedOf y v n x h) ep (sym e), (words, few))

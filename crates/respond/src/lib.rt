@@ -211,6 +211,7 @@ fn stored_in(v: Slot, tag: u64, p: Parts, h: Holds, fx: &mut [u64], at: usize) -
     requires { ⌜ at ≤ 0x1000_0000_0000_0000 ⌝ }
     ensures { λ r. ⌜ r ≡ storedOf v tag p h ⌝ }
     ensures { λ r. ⌜ now (fx .exit) ≡ sets (now (fx .entry)) at (storedFx v tag p h) ⌝ }
+    ensures { λ r. ⌜ r .words ≤ 99 ⌝ }
 {
     let reply = p.reply;
     let kept = p.kept;
@@ -233,6 +234,7 @@ fn lost_in(v: Slot, p: Parts, h: Holds, fx: &mut [u64], at: usize) -> Responded
     requires { ⌜ at ≤ 0x1000_0000_0000_0000 ⌝ }
     ensures { λ r. ⌜ r ≡ lostOf v p h ⌝ }
     ensures { λ r. ⌜ now (fx .exit) ≡ sets (now (fx .entry)) at (lostFx v p h) ⌝ }
+    ensures { λ r. ⌜ r .words ≤ 99 ⌝ }
 {
     let gone = p.gone;
     let own = p.own;
@@ -275,6 +277,7 @@ fn place(fx: &[u64], at: usize) -> usize
 pub fn respond(v: Slot, tag: u64, offer: Offer, h: Holds, fx: &mut [u64], at: usize) -> Responded
     ensures { λ r. ⌜ r ≡ respondOf (phaseOf v) v tag (offered offer) h ⌝ }
     ensures { λ r. ⌜ now (fx .exit) ≡ sets (now (fx .entry)) at (respondFx (phaseOf v) v tag (offered offer) h) ⌝ }
+    ensures { λ r. ⌜ r .words ≤ 99 ⌝ }
 {
     let p = slot::phase_of(v);
     match p {

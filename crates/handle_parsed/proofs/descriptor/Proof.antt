@@ -32,7 +32,7 @@ same-length : tie.Need-same-length
 same-length c = search needs
 
 returns-2 : tie.Need-returns-2
-returns-2 c = let a = c .before .before .before .before .before .before .before .before .before .before .before .args in handle-served (a .v) (a .tag) (a .fd .0) (a .h) (a .n) (a .fx .now) (a .at) _ (c .before .before .before .before .before .before .before .before .before .held-at .ensures) (c .before .before .before .before .before .before .before .before .if1 .left) _ (c .before .before .before .before .before .respond .ensures .0) _ (c .before .before .before .before .before .before .before .empty-handle .ensures) _ _ (c .before .if2 .taken) (c .with-handles .ensures) (c .before .before .before .before .before .respond .ensures .1)
+returns-2 c = let a = c .before .before .before .before .before .before .before .before .before .before .before .args in handle-served (a .v) (a .tag) (a .fd .0) (a .h) (a .n) (a .fx .now) (a .at) _ (c .before .before .before .before .before .before .before .before .before .held-at .ensures) (c .before .before .before .before .before .before .before .before .if1 .left) _ (c .before .before .before .before .before .respond .ensures .0) _ (c .before .before .before .before .before .before .before .empty-handle .ensures) _ _ (c .before .if2 .taken) (c .with-handles .ensures) (c .before .before .before .before .before .respond .ensures .1 .0) (c .before .before .before .before .before .respond .ensures .1 .1)
 
 one-or-none-requires : tie.Need-one-or-none-requires
 one-or-none-requires c κs = search needs
@@ -47,7 +47,7 @@ same-length-2 : tie.Need-same-length-2
 same-length-2 c = search needs
 
 returns-3 : tie.Need-returns-3
-returns-3 c = let a = c .before .before .before .before .before .before .before .before .before .before .before .before .before .before .before .before .before .args in handle-refused (a .v) (a .tag) (a .fd .0) (a .h) (a .n) (a .fx .now) (a .at) _ (c .before .before .before .before .before .before .before .before .before .before .before .before .before .before .before .held-at .ensures) (c .before .before .before .before .before .before .before .before .before .before .before .before .before .before .if1 .left) _ (c .before .before .before .before .before .before .before .before .before .before .before .respond .ensures .0) _ (c .before .before .before .before .before .before .before .before .before .before .before .before .before .empty-handle .ensures) _ _ _ _ (c .before .before .before .before .before .before .before .if2 .left) (c .before .before .before .before .before .before .before .before .before .before .before .respond .ensures .1) (c .before .before .before .before .before .before .one-or-none .ensures) (c .before .before .before .before .drop-list .ensures .0) (c .before .before .before .before .drop-list .ensures .1 .0)
+returns-3 c = let a = c .before .before .before .before .before .before .before .before .before .before .before .before .before .before .before .before .before .args in handle-refused (a .v) (a .tag) (a .fd .0) (a .h) (a .n) (a .fx .now) (a .at) _ (c .before .before .before .before .before .before .before .before .before .before .before .before .before .before .before .held-at .ensures) (c .before .before .before .before .before .before .before .before .before .before .before .before .before .before .if1 .left) _ (c .before .before .before .before .before .before .before .before .before .before .before .respond .ensures .0) _ (c .before .before .before .before .before .before .before .before .before .before .before .before .before .empty-handle .ensures) _ _ _ _ (c .before .before .before .before .before .before .before .if2 .left) (c .before .before .before .before .before .before .before .before .before .before .before .respond .ensures .1 .0) (c .before .before .before .before .before .before .one-or-none .ensures) (c .before .before .before .before .drop-list .ensures .0) (c .before .before .before .before .drop-list .ensures .1 .0) (c .before .before .before .before .drop-list .ensures .1 .1)
 
 pub descriptor-spec : {M : Type 1} → statement M
 descriptor-spec =

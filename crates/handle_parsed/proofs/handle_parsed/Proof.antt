@@ -3,7 +3,8 @@ use borrow.Author.Needs.{needs}
 use Rattle.handle_parsed.proofs.handle_parsed.Statement.{statement}
 use Rattle.handle_parsed.proofs.handle_parsed.Tie as tie
 use mathlib.Core.Path.{refl}
-use Rattle.handle_parsed.proofs.Laws.{asked, with-handles}
+use native.Mathlib.Omega.{arith}
+use Rattle.handle_parsed.proofs.Laws.{asked, with-handles, with-words, no-words}
 
 enum-known-p : tie.Need-enum-known-p
 enum-known-p c = search needs
@@ -15,7 +16,7 @@ same-length : tie.Need-same-length
 same-length c = search needs
 
 returns : tie.Need-returns
-returns c = let a = c .before .before .before .before .before .before .before .before .args in asked (a .p) _ (a .v) (a .h) (a .n) (a .fx .now) _ (a .at) _ (c .before .before .before .before .before .p .given .1) refl (c .before .before .event .ensures)
+returns c = let a = c .before .before .before .before .before .before .before .before .args in asked (a .p) _ (a .v) (a .h) (a .n) (a .fx .now) _ (a .at) _ (c .before .before .before .before .before .p .given .1) refl (c .before .before .event .ensures) (omega arith)
 
 enum-known-p-2 : tie.Need-enum-known-p-2
 enum-known-p-2 c = search needs
@@ -30,7 +31,7 @@ same-length-2 : tie.Need-same-length-2
 same-length-2 c = search needs
 
 returns-2 : tie.Need-returns-2
-returns-2 c = let a = c .before .before .before .before .before .before .before .before .before .args in asked (a .p) _ (a .v) (a .h) (a .n) (a .fx .now) _ (a .at) _ (c .before .before .before .before .before .before .p2 .given .1) (with-handles _ _ (a .n) _ (c .with-handles .ensures) (c .before .before .before .respond .ensures .0)) (c .before .before .before .respond .ensures .1)
+returns-2 c = let a = c .before .before .before .before .before .before .before .before .before .args in asked (a .p) _ (a .v) (a .h) (a .n) (a .fx .now) _ (a .at) _ (c .before .before .before .before .before .before .p2 .given .1) (with-handles _ _ (a .n) _ (c .with-handles .ensures) (c .before .before .before .respond .ensures .0)) (c .before .before .before .respond .ensures .1 .0) (with-words _ (a .n) _ (c .with-handles .ensures) (c .before .before .before .respond .ensures .1 .1))
 
 enum-known-p-3 : tie.Need-enum-known-p-3
 enum-known-p-3 c = search needs
@@ -42,7 +43,7 @@ same-length-3 : tie.Need-same-length-3
 same-length-3 c = search needs
 
 returns-3 : tie.Need-returns-3
-returns-3 c = let a = c .before .before .before .before .before .before .before .before .args in asked (a .p) _ (a .v) (a .h) (a .n) (a .fx .now) _ (a .at) _ (c .before .before .before .before .before .p3 .given .1) (c .before .before .descriptor .ensures .0) (c .before .before .descriptor .ensures .1)
+returns-3 c = let a = c .before .before .before .before .before .before .before .before .args in asked (a .p) _ (a .v) (a .h) (a .n) (a .fx .now) _ (a .at) _ (c .before .before .before .before .before .p3 .given .1) (c .before .before .descriptor .ensures .0) (c .before .before .descriptor .ensures .1 .0) (c .before .before .descriptor .ensures .1 .1)
 
 enum-known-p-4 : tie.Need-enum-known-p-4
 enum-known-p-4 c = search needs
@@ -57,7 +58,7 @@ same-length-4 : tie.Need-same-length-4
 same-length-4 c = search needs
 
 returns-4 : tie.Need-returns-4
-returns-4 c = let a = c .before .before .before .before .before .before .before .before .before .args in asked (a .p) _ (a .v) (a .h) (a .n) (a .fx .now) _ (a .at) _ (c .before .before .before .before .before .before .p4 .given .1) (with-handles _ _ (a .n) _ (c .with-handles2 .ensures) (c .before .before .before .respond2 .ensures .0)) (c .before .before .before .respond2 .ensures .1)
+returns-4 c = let a = c .before .before .before .before .before .before .before .before .before .args in asked (a .p) _ (a .v) (a .h) (a .n) (a .fx .now) _ (a .at) _ (c .before .before .before .before .before .before .p4 .given .1) (with-handles _ _ (a .n) _ (c .with-handles2 .ensures) (c .before .before .before .respond2 .ensures .0)) (c .before .before .before .respond2 .ensures .1 .0) (with-words _ (a .n) _ (c .with-handles2 .ensures) (c .before .before .before .respond2 .ensures .1 .1))
 
 enum-known-p-5 : tie.Need-enum-known-p-5
 enum-known-p-5 c = search needs
@@ -69,7 +70,7 @@ same-length-5 : tie.Need-same-length-5
 same-length-5 c = search needs
 
 returns-5 : tie.Need-returns-5
-returns-5 c = let a = c .before .before .before .before .before .before .before .before .args in asked (a .p) _ (a .v) (a .h) (a .n) (a .fx .now) _ (a .at) _ (c .before .before .before .before .before .p5 .given .1) (c .before .before .obtain .ensures .0) (c .before .before .obtain .ensures .1)
+returns-5 c = let a = c .before .before .before .before .before .before .before .before .args in asked (a .p) _ (a .v) (a .h) (a .n) (a .fx .now) _ (a .at) _ (c .before .before .before .before .before .p5 .given .1) (c .before .before .obtain .ensures .0) (c .before .before .obtain .ensures .1 .0) (c .before .before .obtain .ensures .1 .1)
 
 enum-known-p-6 : tie.Need-enum-known-p-6
 enum-known-p-6 c = search needs
@@ -84,7 +85,7 @@ same-length-6 : tie.Need-same-length-6
 same-length-6 c = search needs
 
 returns-6 : tie.Need-returns-6
-returns-6 c = let a = c .before .before .before .before .before .before .before .before .before .args in asked (a .p) _ (a .v) (a .h) (a .n) (a .fx .now) _ (a .at) _ (c .before .before .before .before .before .before .p6 .given .1) (with-handles _ _ (a .n) _ (c .with-handles3 .ensures) (c .before .before .before .respond3 .ensures .0)) (c .before .before .before .respond3 .ensures .1)
+returns-6 c = let a = c .before .before .before .before .before .before .before .before .before .args in asked (a .p) _ (a .v) (a .h) (a .n) (a .fx .now) _ (a .at) _ (c .before .before .before .before .before .before .p6 .given .1) (with-handles _ _ (a .n) _ (c .with-handles3 .ensures) (c .before .before .before .respond3 .ensures .0)) (c .before .before .before .respond3 .ensures .1 .0) (with-words _ (a .n) _ (c .with-handles3 .ensures) (c .before .before .before .respond3 .ensures .1 .1))
 
 enum-told : tie.Need-enum-told
 enum-told c = search needs
@@ -105,13 +106,13 @@ refused-requires-3 : tie.Need-refused-requires-3
 refused-requires-3 c κs = search needs
 
 returns-7 : tie.Need-returns-7
-returns-7 c = let a = c .before .before .before .before .args in asked (a .p) _ (a .v) (a .h) (a .n) (a .fx .now) _ (a .at) _ (c .before .enum-told .given .1) (c .refused .ensures) refl
+returns-7 c = let a = c .before .before .before .before .args in asked (a .p) _ (a .v) (a .h) (a .n) (a .fx .now) _ (a .at) _ (c .before .enum-told .given .1) (c .refused .ensures) refl (no-words 22 (a .v) (a .h) (a .n) _ (c .refused .ensures))
 
 returns-8 : tie.Need-returns-8
-returns-8 c = let a = c .before .before .before .before .args in asked (a .p) _ (a .v) (a .h) (a .n) (a .fx .now) _ (a .at) _ (c .before .enum-told2 .given .1) (c .refused2 .ensures) refl
+returns-8 c = let a = c .before .before .before .before .args in asked (a .p) _ (a .v) (a .h) (a .n) (a .fx .now) _ (a .at) _ (c .before .enum-told2 .given .1) (c .refused2 .ensures) refl (no-words 22 (a .v) (a .h) (a .n) _ (c .refused2 .ensures))
 
 returns-9 : tie.Need-returns-9
-returns-9 c = let a = c .before .before .before .before .args in asked (a .p) _ (a .v) (a .h) (a .n) (a .fx .now) _ (a .at) _ (c .before .enum-told3 .given .1) (c .refused3 .ensures) refl
+returns-9 c = let a = c .before .before .before .before .args in asked (a .p) _ (a .v) (a .h) (a .n) (a .fx .now) _ (a .at) _ (c .before .enum-told3 .given .1) (c .refused3 .ensures) refl (no-words 22 (a .v) (a .h) (a .n) _ (c .refused3 .ensures))
 
 pub handle-parsed-spec : {M : Type 1} → statement M
 handle-parsed-spec =

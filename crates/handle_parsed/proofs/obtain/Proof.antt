@@ -62,16 +62,16 @@ returns-2 : tie.Need-returns-2
 returns-2 c = let a = c .before .before .before .before .before .before .before .before .before .before .before .before .before .before .before .before .args in obtain-some (a .v) (a .fd .0) (a .h) (a .n) (a .fx .now) (a .at) _ _ _ _ (sym (c .before .before .before .before .before .before .before .before .before .before .before .before .before .before .phase-of .ensures) ∙ c .before .before .before .before .before .before .before .before .before .before .before .before .enum-told5 .given .1) (c .before .before .before .before .before .before .before .before .before .before .size .ensures .0) (c .before .before .before .before .before .before .before .before .before .if1 .left) (c .before .before .before .before .before .before .before .obtain .ensures .0) (c .before .with-fds .ensures) (c .before .before .before .before .before .before .before .obtain .ensures .1)
 
 returns-3 : tie.Need-returns-3
-returns-3 c = let a = c .before .before .before .before .before .args in obtain-turned (a .v) (a .fd .0) (a .h) (a .n) (a .fx .now) (a .at) Vacant _ (sym (c .before .before .before .phase-of .ensures) ∙ c .before .enum-told .given .1) (c .refused .ensures) refl
+returns-3 c = let a = c .before .before .before .before .before .args in obtain-turned (a .v) (a .fd .0) (a .h) (a .n) (a .fx .now) (a .at) Vacant _ (sym (c .before .before .before .phase-of .ensures) ∙ c .before .enum-told .given .1) (c .refused .ensures) refl refl
 
 returns-4 : tie.Need-returns-4
-returns-4 c = let a = c .before .before .before .before .before .args in obtain-turned (a .v) (a .fd .0) (a .h) (a .n) (a .fx .now) (a .at) Placeholder _ (sym (c .before .before .before .phase-of .ensures) ∙ c .before .enum-told2 .given .1) (c .refused2 .ensures) refl
+returns-4 c = let a = c .before .before .before .before .before .args in obtain-turned (a .v) (a .fd .0) (a .h) (a .n) (a .fx .now) (a .at) Placeholder _ (sym (c .before .before .before .phase-of .ensures) ∙ c .before .enum-told2 .given .1) (c .refused2 .ensures) refl refl
 
 returns-5 : tie.Need-returns-5
-returns-5 c = let a = c .before .before .before .before .before .args in obtain-turned (a .v) (a .fd .0) (a .h) (a .n) (a .fx .now) (a .at) Responded _ (sym (c .before .before .before .phase-of .ensures) ∙ c .before .enum-told3 .given .1) (c .refused3 .ensures) refl
+returns-5 c = let a = c .before .before .before .before .before .args in obtain-turned (a .v) (a .fd .0) (a .h) (a .n) (a .fx .now) (a .at) Responded _ (sym (c .before .before .before .phase-of .ensures) ∙ c .before .enum-told3 .given .1) (c .refused3 .ensures) refl refl
 
 returns-6 : tie.Need-returns-6
-returns-6 c = let a = c .before .before .before .before .before .args in obtain-turned (a .v) (a .fd .0) (a .h) (a .n) (a .fx .now) (a .at) Fmap _ (sym (c .before .before .before .phase-of .ensures) ∙ c .before .enum-told4 .given .1) (c .refused4 .ensures) refl
+returns-6 c = let a = c .before .before .before .before .before .args in obtain-turned (a .v) (a .fd .0) (a .h) (a .n) (a .fx .now) (a .at) Fmap _ (sym (c .before .before .before .phase-of .ensures) ∙ c .before .enum-told4 .given .1) (c .refused4 .ensures) refl refl
 
 pub obtain-spec : {M : Type 1} → statement M
 obtain-spec =

@@ -30,7 +30,7 @@ same-length : tie.Need-same-length
 same-length c = search needs
 
 returns : tie.Need-returns
-returns c = let a = c .before .before .before .before .before .before .before .before .before .before .before .before .before .before .before .before .before .args in let r = c .before .before .before .before .before .before .before .before .before .before .before .before .release .ensures in let d = c .before .before .before .before .before .before .drop-list .ensures in (lost-is (a .v) _ (a .p) (a .h) _ _ _ _ (c .before .before .vacant .ensures) (r .0) (ap (λ (x : Dropped). x .holds) (d .0)) (r .1 .0) (count-is _ (a .p .own) Ended _ (d .0)), lost-fx (a .v) (a .p) (a .h) _ (a .fx .now) _ _ (a .at) _ (r .0) (r .1 .1 .1) (r .1 .0) (d .1 .0))
+returns c = let a = c .before .before .before .before .before .before .before .before .before .before .before .before .before .before .before .before .before .args in let r = c .before .before .before .before .before .before .before .before .before .before .before .before .release .ensures in let d = c .before .before .before .before .before .before .drop-list .ensures in (lost-is (a .v) _ (a .p) (a .h) _ _ _ _ (c .before .before .vacant .ensures) (r .0) (ap (λ (x : Dropped). x .holds) (d .0)) (r .1 .0) (count-is _ (a .p .own) Ended _ (d .0)), (lost-fx (a .v) (a .p) (a .h) _ (a .fx .now) _ _ (a .at) _ (r .0) (r .1 .1 .1) (r .1 .0) (d .1 .0), omega (arith, r .1 .1 .0, d .1 .1)))
 
 pub lost-in-spec : {M : Type 1} → statement M
 lost-in-spec =

@@ -31,7 +31,7 @@ same-length : tie.Need-same-length
 same-length c = search needs
 
 returns : tie.Need-returns
-returns c = let a = c .before .before .before .before .before .before .before .before .before .before .before .before .before .before .before .before .args in let r = c .before .before .before .before .before .release .ensures in (stored-is (a .v) _ (a .tag) (a .p) (a .h) _ _ (c .before .responded .ensures) (r .0) (r .1 .0), two-runs (a .fx .now) _ _ (wakeEffect (a .v .caller) (a .tag)) (releasedFx (a .v) (numbers (a .p .gone)) (a .h)) (a .at) 3 (c .before .before .before .before .before .before .before .before .before .effect .ensures) refl (r .1 .1 .1))
+returns c = let a = c .before .before .before .before .before .before .before .before .before .before .before .before .before .before .before .before .args in let r = c .before .before .before .before .before .release .ensures in (stored-is (a .v) _ (a .tag) (a .p) (a .h) _ _ (c .before .responded .ensures) (r .0) (r .1 .0), (two-runs (a .fx .now) _ _ (wakeEffect (a .v .caller) (a .tag)) (releasedFx (a .v) (numbers (a .p .gone)) (a .h)) (a .at) 3 (c .before .before .before .before .before .before .before .before .before .effect .ensures) refl (r .1 .1 .1), omega (arith, r .1 .1 .0)))
 
 pub stored-in-spec : {M : Type 1} → statement M
 stored-in-spec =
