@@ -1,0 +1,148 @@
+-- `write::write` meets its contract. Assumes nothing.
+use borrow.Author.Needs.{needs}
+use Rattle.write.proofs.write.Statement.{statement}
+use Rattle.write.proofs.write.Tie as tie
+use Prim.Native.Nat.{ℕ, _-_, _*_, _≤_}
+use mathlib.Core.List.{List, []}
+use mathlib.Core.Path.{_≡_, refl, sym, ap, _∙_}
+use native.Mathlib.Omega.{arith}
+use lib.ListN.{length}
+use lib.Seq.{sets, length-sets}
+use Rattle.handle_parsed.specs.declared.Handled.{Handled}
+use Rattle.handle_parsed.specs.Handled.{handledFx}
+use Rattle.schemev2.specs.Entry.{cqeOf}
+use Rattle.events.specs.Outcome.{Outcome}
+use Rattle.write.proofs.Loop.{Left, begins, goes-on-as, stops-as, refused-is, stops-lent, stops-words, ends, with-room, too-short, parts, four, part-is, holds-size}
+
+abbrev Inv-loop : tie.InvT-loop
+Inv-loop s fx₀ bytes n t₀ d₀ i₀ j₀ fx t d i j = (i ≤ n) × (j ≤ 99 * i) × (length fx ≡ length fx₀) × (length (t .holds .holds) ≡ 64) × ((ws : List ℕ) → Left s ws fx₀ bytes n fx t d i j) × (n ≤ 0x80_0000_0000_0000)
+
+abbrev μ-loop : tie.MeasureT-loop
+μ-loop s fx₀ bytes n t₀ d₀ i₀ j₀ fx t d i j = n - i
+
+returns : tie.Need-returns Inv-loop μ-loop
+returns c = let a = c .before .before .before .args in (λ ws. ap (λ (x : Outcome). x .answer) (too-short (a .s) ws _ (a .bytes .now) (c .if1 .taken)), (λ ws. ap (λ (x : Outcome). x .world) (too-short (a .s) ws _ (a .bytes .now) (c .if1 .taken)), (λ ws. ap (λ (x : Outcome). sets (a .fx .now) 0 (x .effects)) (too-short (a .s) ws _ (a .bytes .now) (c .if1 .taken)), λ ws. ap (λ (x : Outcome). length (x .effects)) (too-short (a .s) ws _ (a .bytes .now) (c .if1 .taken)))))
+
+loop-holds : tie.Need-loop-holds Inv-loop μ-loop
+loop-holds c = let a = c .before .before .before .before .before .args in (omega arith, omega arith, refl, search needs, λ ws. begins (a .s) ws (a .fx .now) (a .bytes .now) _ refl, omega (arith, c .before .before .if1 .left))
+
+mul-cqe : tie.Need-mul-cqe Inv-loop μ-loop
+mul-cqe c = search needs
+
+sub-cqe : tie.Need-sub-cqe Inv-loop μ-loop
+sub-cqe c = search needs
+
+part-cqe-start : tie.Need-part-cqe-start Inv-loop μ-loop
+part-cqe-start c = search needs
+
+part-cqe-end : tie.Need-part-cqe-end Inv-loop μ-loop
+part-cqe-end c = search needs
+
+cqe-requires : tie.Need-cqe-requires Inv-loop μ-loop
+cqe-requires c κs = search needs
+
+parse-cqe-requires : tie.Need-parse-cqe-requires Inv-loop μ-loop
+parse-cqe-requires c κs = search needs
+
+cast-tag : tie.Need-cast-tag Inv-loop μ-loop
+cast-tag c = search needs
+
+mul-old : tie.Need-mul-old Inv-loop μ-loop
+mul-old c = search needs
+
+element-copy-out-old : tie.Need-element-copy-out-old Inv-loop μ-loop
+element-copy-out-old c = search needs
+
+look-requires : tie.Need-look-requires Inv-loop μ-loop
+look-requires c κs = search needs
+
+handle-parsed-requires : tie.Need-handle-parsed-requires Inv-loop μ-loop
+handle-parsed-requires c κs = search needs
+
+slot-after-requires : tie.Need-slot-after-requires Inv-loop μ-loop
+slot-after-requires c κs = search needs
+
+element-copy-out-next : tie.Need-element-copy-out-next Inv-loop μ-loop
+element-copy-out-next c = search needs
+
+next-after-requires : tie.Need-next-after-requires Inv-loop μ-loop
+next-after-requires c κs = search needs
+
+head-after-requires : tie.Need-head-after-requires Inv-loop μ-loop
+head-after-requires c κs = search needs
+
+mul-w : tie.Need-mul-w Inv-loop μ-loop
+mul-w c = search needs
+
+element-set-from-w : tie.Need-element-set-from-w Inv-loop μ-loop
+element-set-from-w c = search needs
+
+element-write-t : tie.Need-element-write-t Inv-loop μ-loop
+element-write-t c = search needs
+
+add-j : tie.Need-add-j Inv-loop μ-loop
+add-j c = omega (arith, c .before .before .before .before .before .before .before .before .before .before .before .before .before .before .before .before .before .before .before .before .before .loop .inv .1, c .before .before .before .before .before .before .before .before .before .before .before .before .before .before .before .before .before .before .before .before .before .loop .inv .5, c .before .before .before .before .before .before .before .before .before .before .handle-parsed .ensures .1 .1, c .before .before .before .before .before .before .before .before .before .before .before .before .before .before .before .before .before .before .before .before .loop-test .taken)
+
+stop-requires : tie.Need-stop-requires Inv-loop μ-loop
+stop-requires c κs = let a = c .before .before .before .before .before .before .before .before .before .before .before .before .before .before .before .before .before .before .before .before .before .before .before .before .before .before .before .before .args in let l = c .before .before .before .before .before .before .before .before .before .before .before .before .before .before .before .before .before .before .before .before .before .before .loop in (let ws = [] in refused-is (a .s) ws (a .fx .now) (a .bytes .now) _ (l .fx) (l .t) (l .d) (l .i) (l .j) (l .inv .4 ws) (c .before .before .before .before .before .before .before .before .before .before .before .before .before .before .before .before .before .before .before .before .before .loop-test .taken) (l .inv .3) (c .before .before .before .before .before .before .before .before .before .before .before .before .before .before .before .before .before .before .before .cqe .result) (c .before .before .before .before .before .before .before .before .before .before .before .before .before .before .before .before .before .before .before .cqe .ensures ∙ ap cqeOf (part-is (a .bytes .now) (16 * l .i))) (c .before .before .before .before .before .before .before .before .before .before .before .handle-parsed .result) (c .before .before .before .before .before .before .before .before .before .before .before .before .before .before .before .before .before .before .parse-cqe .result) (c .before .before .before .before .before .before .before .before .before .before .before .before .before .before .before .before .before .before .parse-cqe .ensures) (c .before .before .before .before .before .before .before .before .before .before .before .before .before .before .before .look .result) (c .before .before .before .before .before .before .before .before .before .before .before .before .before .before .before .look .ensures) (c .before .before .before .before .before .before .before .before .before .before .before .handle-parsed .ensures .0) _ (c .before .before .before .before .before .before .before .before .before .before .before .handle-parsed .ensures .1 .0) (c .if2 .taken), omega (arith, c .before .before .before .before .before .before .before .before .before .before .before .before .before .before .before .before .before .before .before .before .before .loop-test .taken, l .inv .5))
+
+same-length : tie.Need-same-length Inv-loop μ-loop
+same-length c = let a = c .before .before .before .before .before .before .before .before .before .before .before .before .before .before .before .before .before .before .before .before .before .before .before .before .before .before .before .before .before .args in let l = c .before .before .before .before .before .before .before .before .before .before .before .before .before .before .before .before .before .before .before .before .before .before .before .loop in ap length (c .before .before .before .before .before .before .before .before .before .before .before .before .handle-parsed .ensures .1 .0) ∙ length-sets (l .fx) (l .j) (handledFx (c .before .before .before .before .before .before .before .before .before .before .before .before .before .before .before .before .before .before .before .parse-cqe .result) (c .before .before .before .before .before .before .before .before .before .before .before .before .before .before .before .before .look .result) (l .t .holds) (l .d .handles)) ∙ l .inv .2
+
+returns-2 : tie.Need-returns-2 Inv-loop μ-loop
+returns-2 c = let a = c .before .before .before .before .before .before .before .before .before .before .before .before .before .before .before .before .before .before .before .before .before .before .before .before .before .before .before .before .before .args in let l = c .before .before .before .before .before .before .before .before .before .before .before .before .before .before .before .before .before .before .before .before .before .before .before .loop in four (λ ws. parts _ _ _ _ _ (a .fx .now) _ _ (c .stop .ensures) (with-room (a .s) ws _ (a .bytes .now) (c .before .before .before .before .before .before .before .before .before .before .before .before .before .before .before .before .before .before .before .before .before .before .before .before .before .before .if1 .left) _ (stops-as (a .s) ws (a .fx .now) (a .bytes .now) _ (l .fx) (l .t) (l .d) (l .i) (l .j) (l .inv .4 ws) (c .before .before .before .before .before .before .before .before .before .before .before .before .before .before .before .before .before .before .before .before .before .before .loop-test .taken) (l .inv .3) (c .before .before .before .before .before .before .before .before .before .before .before .before .before .before .before .before .before .before .before .before .cqe .result) (c .before .before .before .before .before .before .before .before .before .before .before .before .before .before .before .before .before .before .before .before .cqe .ensures ∙ ap cqeOf (part-is (a .bytes .now) (16 * l .i))) (c .before .before .before .before .before .before .before .before .before .before .before .before .handle-parsed .result) (c .before .before .before .before .before .before .before .before .before .before .before .before .before .before .before .before .before .before .before .parse-cqe .result) (c .before .before .before .before .before .before .before .before .before .before .before .before .before .before .before .before .before .before .before .parse-cqe .ensures) (c .before .before .before .before .before .before .before .before .before .before .before .before .before .before .before .before .look .result) (c .before .before .before .before .before .before .before .before .before .before .before .before .before .before .before .before .look .ensures) (c .before .before .before .before .before .before .before .before .before .before .before .before .handle-parsed .ensures .0) _ (c .before .before .before .before .before .before .before .before .before .before .before .before .handle-parsed .ensures .1 .0) _ _ _ (c .before .before .before .before .before .before .slot-after .ensures) (c .before .before .before .before .next-after .ensures) (c .before .before .before .head-after .ensures) (c .before .if2 .taken))) (stops-lent (a .s) ws (a .fx .now) (a .bytes .now) _ (l .fx) (l .t) (l .d) (l .i) (l .j) (l .inv .4 ws) (c .before .before .before .before .before .before .before .before .before .before .before .before .before .before .before .before .before .before .before .before .before .before .loop-test .taken) (l .inv .3) (c .before .before .before .before .before .before .before .before .before .before .before .before .before .before .before .before .before .before .before .before .cqe .result) (c .before .before .before .before .before .before .before .before .before .before .before .before .before .before .before .before .before .before .before .before .cqe .ensures ∙ ap cqeOf (part-is (a .bytes .now) (16 * l .i))) (c .before .before .before .before .before .before .before .before .before .before .before .before .handle-parsed .result) (c .before .before .before .before .before .before .before .before .before .before .before .before .before .before .before .before .before .before .before .parse-cqe .result) (c .before .before .before .before .before .before .before .before .before .before .before .before .before .before .before .before .before .before .before .parse-cqe .ensures) (c .before .before .before .before .before .before .before .before .before .before .before .before .before .before .before .before .look .result) (c .before .before .before .before .before .before .before .before .before .before .before .before .before .before .before .before .look .ensures) (c .before .before .before .before .before .before .before .before .before .before .before .before .handle-parsed .ensures .0) _ (c .before .before .before .before .before .before .before .before .before .before .before .before .handle-parsed .ensures .1 .0)) (stops-words (a .s) ws (a .fx .now) (a .bytes .now) _ (l .fx) (l .t) (l .d) (l .i) (l .j) (l .inv .4 ws) (c .before .before .before .before .before .before .before .before .before .before .before .before .before .before .before .before .before .before .before .before .before .before .loop-test .taken) (l .inv .3) (c .before .before .before .before .before .before .before .before .before .before .before .before .before .before .before .before .before .before .before .before .cqe .result) (c .before .before .before .before .before .before .before .before .before .before .before .before .before .before .before .before .before .before .before .before .cqe .ensures ∙ ap cqeOf (part-is (a .bytes .now) (16 * l .i))) (c .before .before .before .before .before .before .before .before .before .before .before .before .handle-parsed .result) (c .before .before .before .before .before .before .before .before .before .before .before .before .before .before .before .before .before .before .before .parse-cqe .result) (c .before .before .before .before .before .before .before .before .before .before .before .before .before .before .before .before .before .before .before .parse-cqe .ensures) (c .before .before .before .before .before .before .before .before .before .before .before .before .before .before .before .before .look .result) (c .before .before .before .before .before .before .before .before .before .before .before .before .before .before .before .before .look .ensures) (c .before .before .before .before .before .before .before .before .before .before .before .before .handle-parsed .ensures .0) _ (c .before .before .before .before .before .before .before .before .before .before .before .before .handle-parsed .ensures .1 .0)))
+
+add-i : tie.Need-add-i Inv-loop μ-loop
+add-i c = omega (arith, c .before .before .before .before .before .before .before .before .before .before .before .before .before .before .before .before .before .before .before .before .before .loop-test .taken, c .before .before .before .before .before .before .before .before .before .before .before .before .before .before .before .before .before .before .before .before .before .before .loop .inv .5)
+
+loop-less : tie.Need-loop-less Inv-loop μ-loop
+loop-less c = omega (arith, c .before .before .before .before .before .before .before .before .before .before .before .before .before .before .before .before .before .before .before .before .before .loop-test .taken)
+
+loop-again : tie.Need-loop-again Inv-loop μ-loop
+loop-again c = let a = c .before .before .before .before .before .before .before .before .before .before .before .before .before .before .before .before .before .before .before .before .before .before .before .before .before .before .before .before .args in let l = c .before .before .before .before .before .before .before .before .before .before .before .before .before .before .before .before .before .before .before .before .before .before .loop in (omega (arith, c .before .before .before .before .before .before .before .before .before .before .before .before .before .before .before .before .before .before .before .before .before .loop-test .taken), omega (arith, l .inv .1, c .before .before .before .before .before .before .before .before .before .before .before .handle-parsed .ensures .1 .1), ap length (c .before .before .before .before .before .before .before .before .before .before .before .handle-parsed .ensures .1 .0) ∙ length-sets (l .fx) (l .j) (handledFx (c .before .before .before .before .before .before .before .before .before .before .before .before .before .before .before .before .before .before .parse-cqe .result) (c .before .before .before .before .before .before .before .before .before .before .before .before .before .before .before .look .result) (l .t .holds) (l .d .handles)) ∙ l .inv .2, ap (λ (x : Handled). length (x .holds .holds)) (c .before .before .before .before .before .before .before .before .before .before .before .handle-parsed .ensures .0) ∙ holds-size (c .before .before .before .before .before .before .before .before .before .before .before .before .before .before .before .before .before .before .parse-cqe .result) (c .before .before .before .before .before .before .before .before .before .before .before .before .before .before .before .look .result) (l .t .holds) (l .d .handles) ∙ l .inv .3, λ ws. goes-on-as (a .s) ws (a .fx .now) (a .bytes .now) _ (l .fx) (l .t) (l .d) (l .i) (l .j) (l .inv .4 ws) (c .before .before .before .before .before .before .before .before .before .before .before .before .before .before .before .before .before .before .before .before .before .loop-test .taken) (l .inv .3) (c .before .before .before .before .before .before .before .before .before .before .before .before .before .before .before .before .before .before .before .cqe .result) (c .before .before .before .before .before .before .before .before .before .before .before .before .before .before .before .before .before .before .before .cqe .ensures ∙ ap cqeOf (part-is (a .bytes .now) (16 * l .i))) (c .before .before .before .before .before .before .before .before .before .before .before .handle-parsed .result) (c .before .before .before .before .before .before .before .before .before .before .before .before .before .before .before .before .before .before .parse-cqe .result) (c .before .before .before .before .before .before .before .before .before .before .before .before .before .before .before .before .before .before .parse-cqe .ensures) (c .before .before .before .before .before .before .before .before .before .before .before .before .before .before .before .look .result) (c .before .before .before .before .before .before .before .before .before .before .before .before .before .before .before .look .ensures) (c .before .before .before .before .before .before .before .before .before .before .before .handle-parsed .ensures .0) _ (c .before .before .before .before .before .before .before .before .before .before .before .handle-parsed .ensures .1 .0) _ _ _ (c .before .before .before .before .before .slot-after .ensures) (c .before .before .before .next-after .ensures) (c .before .before .head-after .ensures) (c .if2 .left), l .inv .5)
+
+mul-t55 : tie.Need-mul-t55 Inv-loop μ-loop
+mul-t55 c = search needs
+
+same-length-2 : tie.Need-same-length-2 Inv-loop μ-loop
+same-length-2 c = search needs
+
+returns-3 : tie.Need-returns-3 Inv-loop μ-loop
+returns-3 c = let a = c .before .before .before .before .before .before .before .args in let l = c .before .loop in four (λ ws. parts _ _ (l .inv .4 ws .made) _ _ (a .fx .now) _ _ refl (with-room (a .s) ws _ (a .bytes .now) (c .before .before .before .before .if1 .left) _ (ends (a .s) ws (a .fx .now) (a .bytes .now) _ (l .fx) (l .t) (l .d) (l .i) (l .j) (l .inv .4 ws) (omega (arith, l .inv .0, c .loop-test .left)))) (l .inv .4 ws .lent) (sym (l .inv .4 ws .words)))
+
+pub write-spec : {M : Type 1} → statement M
+write-spec =
+    tie.close
+    (tie.spec
+    Inv-loop
+    μ-loop
+    returns
+    loop-holds
+    mul-cqe
+    sub-cqe
+    part-cqe-start
+    part-cqe-end
+    cqe-requires
+    parse-cqe-requires
+    cast-tag
+    mul-old
+    element-copy-out-old
+    look-requires
+    handle-parsed-requires
+    slot-after-requires
+    element-copy-out-next
+    next-after-requires
+    head-after-requires
+    mul-w
+    element-set-from-w
+    element-write-t
+    add-j
+    stop-requires
+    same-length
+    returns-2
+    add-i
+    loop-less
+    loop-again
+    mul-t55
+    same-length-2
+    returns-3)

@@ -1,0 +1,166 @@
+// `write` (src/scheme/user.rs, lines 743 to 755): completions, entry after entry up to the first refusal. An entry's decision
+// is carried out on the table in place, with no branch: what stays is stored as it was.
+use handle_parsed::Handled;
+use handles::Handles;
+use ids::Tag;
+use respond::Act;
+use slot::Slot;
+use state::State;
+ghost use mathlib.Core.Path.{_≡_};
+ghost use mathlib.Core.List.{List};
+ghost use Prim.Native.Nat.{ℕ, _≤_, _<_};
+ghost use lib.Dec.{ltb};
+ghost use lib.ListN.{length};
+ghost use lib.Seq.{sets};
+ghost use Rattle.events.specs.World.{world};
+ghost use Rattle.events.specs.Complete.{stopped, writeOf};
+ghost use Rattle.write.specs.Write.{writeAnswer, lookOf, slotAfter, nextAfter, headAfter, refusal};
+
+pub enum WriteAnswer {
+    Written(u64),
+    ShortWords,
+    BadDescriptor,
+    Invalid,
+    NotFound,
+}
+
+// So many of the lent words hold effects, three to each.
+pub struct WriteStep {
+    pub answer: WriteAnswer,
+    pub words: usize,
+    pub state: State,
+}
+
+// What stands at a tag: one over 63 counts as vacant.
+fn look(tag: u64, v: Slot) -> Slot
+    ensures { λ r. ⌜ r ≡ lookOf (ltb tag 64) v ⌝ }
+{
+    if tag < 64 {
+        return v;
+    }
+    slot::vacant()
+}
+
+// The slot at the tag's place afterwards.
+fn slot_after(tag: u64, act: Act, new: Slot, old: Slot) -> Slot
+    ensures { λ r. ⌜ r ≡ slotAfter (ltb tag 64) act new old ⌝ }
+{
+    if 64 <= tag {
+        return old;
+    }
+    match act {
+        Act::Leave => old,
+        Act::Store => new,
+        Act::Vacate => slot::vacant(),
+    }
+}
+
+// The chain afterwards: a vacated slot is its first.
+fn next_after(tag: u64, act: Act, next: u8, head: u8) -> u8
+    ensures { λ r. ⌜ r ≡ nextAfter (ltb tag 64) act next head ⌝ }
+{
+    if 64 <= tag {
+        return next;
+    }
+    match act {
+        Act::Leave => next,
+        Act::Store => next,
+        Act::Vacate => head,
+    }
+}
+
+fn head_after(tag: u64, act: Act, head: u8) -> u8
+    ensures { λ r. ⌜ r ≡ headAfter (ltb tag 64) act tag head ⌝ }
+{
+    if 64 <= tag {
+        return head;
+    }
+    match act {
+        Act::Leave => head,
+        Act::Store => head,
+        Act::Vacate => tag as u8,
+    }
+}
+
+// A refusal after a good entry returns the bytes so far, a first one its number.
+fn stop(done: usize, number: u64) -> WriteAnswer
+    requires { ⌜ refusal number × (done < 0x800_0000_0000_0000) ⌝ }
+    ensures { λ r. ⌜ writeAnswer r ≡ stopped done number ⌝ }
+{
+    if 0 < done {
+        return WriteAnswer::Written(16 * done as u64);
+    }
+    if number == 77 {
+        return WriteAnswer::BadDescriptor;
+    }
+    if number == 22 {
+        return WriteAnswer::Invalid;
+    }
+    WriteAnswer::NotFound
+}
+
+pub fn write(s: State, fx: &mut [u64], bytes: &[u8]) -> WriteStep
+    ensures { λ r. ⌜ ((ws : List ℕ) → writeAnswer (r .answer) ≡ writeOf (world s ws) (length (now (fx .entry))) (now (bytes .entry)) .answer) ⌝ }
+    ensures { λ r. ⌜ ((ws : List ℕ) → world (r .state) ws ≡ writeOf (world s ws) (length (now (fx .entry))) (now (bytes .entry)) .world) ⌝ }
+    ensures { λ r. ⌜ ((ws : List ℕ) → now (fx .exit) ≡ sets (now (fx .entry)) 0 (writeOf (world s ws) (length (now (fx .entry))) (now (bytes .entry)) .effects)) ⌝ }
+    ensures { λ r. ⌜ ((ws : List ℕ) → r .words ≡ length (writeOf (world s ws) (length (now (fx .entry))) (now (bytes .entry)) .effects)) ⌝ }
+{
+    let n = bytes.len() / 16;
+    if fx.len() / 54 < n {
+        return WriteStep {
+            answer: WriteAnswer::ShortWords,
+            words: 0,
+            state: s,
+        };
+    }
+    let mut t = s.table;
+    let mut d = s.driver;
+    let mut i = 0;
+    let mut j = 0;
+    while i < n {
+        let e = decode::cqe(&bytes[16 * i..]);
+        let p = parse_cqe::parse_cqe(e);
+        let tag = e.tag as u64;
+        let at = (tag % 64) as usize;
+        let old = t.slots[at];
+        let v = look(tag, old);
+        let h = t.holds;
+        let k = d.handles;
+        let r = handle_parsed::handle_parsed(p, v, h, k, fx, j);
+        let act = r.act;
+        let new = r.slot;
+        let left = r.holds;
+        let handles = r.handles;
+        let w = slot_after(tag, act, new, old);
+        let next = t.next[at];
+        let head = t.head;
+        let after = next_after(tag, act, next, head);
+        let first = head_after(tag, act, head);
+        t.slots[at] = w;
+        t.next[at] = after;
+        t.head = first;
+        t.holds = left;
+        d.handles = handles;
+        j += r.words;
+        let number = r.number;
+        if number != 0 {
+            let mut u = s;
+            u.table = t;
+            u.driver = d;
+            return WriteStep {
+                answer: stop(i, number),
+                words: j,
+                state: u,
+            };
+        }
+        i += 1;
+    }
+    let mut u = s;
+    u.table = t;
+    u.driver = d;
+    WriteStep {
+        answer: WriteAnswer::Written(16 * n as u64),
+        words: j,
+        state: u,
+    }
+}
