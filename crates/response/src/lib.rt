@@ -4,7 +4,8 @@ use fd_list::List;
 use slot::Reply;
 ghost use mathlib.Core.Path.{_≡_};
 ghost use Rattle.events.specs.Replies.{intoRegularOf, callGenericOf, noticeOf, kopenatOf, kdupOf};
-ghost use Rattle.response.specs.Response.{kindNamed, responseFrom, regularAnswer, openedAs};
+ghost use Rattle.events.specs.Wake.{responseFrom};
+ghost use Rattle.response.specs.Response.{kindNamed, regularAnswer, openedAs};
 
 // The Rust's `Response` by its stored number.
 enum Kind {
