@@ -1,0 +1,20 @@
+-- `submit_step::next_id` meets its contract. Assumes nothing.
+use borrow.Author.Needs.{needs}
+use Rattle.submit_step.proofs.next_id.Statement.{statement}
+use Rattle.submit_step.proofs.next_id.Tie as tie
+use Rattle.answer_words.proofs.Laws.{told}
+
+next-id-requires : tie.Need-next-id-requires
+next-id-requires c κs = search needs
+
+next-id-words-requires : tie.Need-next-id-words-requires
+next-id-words-requires c κs = search needs
+
+none-requires : tie.Need-none-requires
+none-requires c κs = search needs
+
+returns : tie.Need-returns
+returns c = λ ws. told (c .before .next-id-words .ensures) (c .none .ensures) (c .before .before .before .next-id .ensures ws)
+
+pub next-id-spec : {M : Type 1} → statement M
+next-id-spec = tie.close (tie.spec next-id-requires next-id-words-requires none-requires returns)

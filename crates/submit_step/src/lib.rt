@@ -1,0 +1,270 @@
+// The callers' events but the wake, answered in numbers.
+use answer_words::AnswerWords;
+use answer_words::Step;
+use call::CallAnswer;
+use call_generic::GenericAnswer;
+use call_generic::StdFsAnswer;
+use ids::Tag;
+use next_id::NextIdAnswer;
+use request_fmap::FmapAnswer;
+use schemev2::Args;
+use state::State;
+use submit::SubmitAnswer;
+use wait_queue::SendAnswer;
+ghost use mathlib.Core.Path.{_≡_};
+ghost use mathlib.Core.List.{List};
+ghost use Prim.Native.Nat.{ℕ};
+ghost use Rattle.answer_words.specs.Words.{answerOf};
+ghost use Rattle.effect.specs.Effect.{effectWords};
+ghost use Rattle.call.specs.Call.{callAnswer};
+ghost use Rattle.call_generic.specs.Generic.{genericAnswer, stdfsAnswer};
+ghost use Rattle.next_id.specs.NextId.{nextIdAnswer};
+ghost use Rattle.request_fmap.specs.Fmap.{fmapAnswer};
+ghost use Rattle.submit.specs.Submit.{submitAnswer};
+ghost use Rattle.wait_queue.specs.Queue.{sendAnswer};
+ghost use Rattle.events.specs.World.{world};
+ghost use Rattle.events.specs.Outcome.{outcome, answered};
+ghost use Rattle.events.specs.Submit.{reserveOf, submitOf, callOf, genericOf, stdfsOf, fmapOf, closeOf, detachOf};
+
+fn next_id_words(a: NextIdAnswer) -> AnswerWords
+    ensures { λ r. ⌜ answerOf r ≡ nextIdAnswer a ⌝ }
+{
+    match a {
+        NextIdAnswer::Reserved(tag) => answer_words::done(tag.0),
+        NextIdAnswer::Full => answer_words::refused(202),
+    }
+}
+
+fn submit_words(a: SubmitAnswer) -> AnswerWords
+    ensures { λ r. ⌜ answerOf r ≡ submitAnswer a ⌝ }
+{
+    match a {
+        SubmitAnswer::Submitted(tag) => answer_words::done(tag.0),
+        SubmitAnswer::BadArgument => answer_words::refused(205),
+        SubmitAnswer::TooManyFds => answer_words::refused(206),
+        SubmitAnswer::NotYours => answer_words::refused(201),
+        SubmitAnswer::QueueFull => answer_words::refused(203),
+    }
+}
+
+fn call_words(a: CallAnswer) -> AnswerWords
+    ensures { λ r. ⌜ answerOf r ≡ callAnswer a ⌝ }
+{
+    match a {
+        CallAnswer::Called(tag) => answer_words::done(tag.0),
+        CallAnswer::BadArgument => answer_words::refused(205),
+        CallAnswer::TooManyFds => answer_words::refused(206),
+        CallAnswer::Full => answer_words::refused(202),
+        CallAnswer::QueueFull => answer_words::refused(203),
+    }
+}
+
+fn generic_words(a: GenericAnswer) -> AnswerWords
+    ensures { λ r. ⌜ answerOf r ≡ genericAnswer a ⌝ }
+{
+    match a {
+        GenericAnswer::Called(tag) => answer_words::done(tag.0),
+        GenericAnswer::Invalid => answer_words::refused(22),
+        GenericAnswer::Full => answer_words::refused(202),
+        GenericAnswer::QueueFull => answer_words::refused(203),
+    }
+}
+
+fn std_fs_words(a: StdFsAnswer) -> AnswerWords
+    ensures { λ r. ⌜ answerOf r ≡ stdfsAnswer a ⌝ }
+{
+    match a {
+        StdFsAnswer::Called(tag) => answer_words::done(tag.0),
+        StdFsAnswer::Invalid => answer_words::refused(22),
+        StdFsAnswer::NotSupported => answer_words::refused(95),
+        StdFsAnswer::Full => answer_words::refused(202),
+        StdFsAnswer::QueueFull => answer_words::refused(203),
+    }
+}
+
+fn fmap_words(a: FmapAnswer) -> AnswerWords
+    ensures { λ r. ⌜ answerOf r ≡ fmapAnswer a ⌝ }
+{
+    match a {
+        FmapAnswer::Requested(tag) => answer_words::done(tag.0),
+        FmapAnswer::Full => answer_words::refused(202),
+        FmapAnswer::QueueFull => answer_words::refused(203),
+    }
+}
+
+fn send_words(a: SendAnswer) -> AnswerWords
+    ensures { λ r. ⌜ answerOf r ≡ answered (sendAnswer a) ⌝ }
+{
+    match a {
+        SendAnswer::Queued => answer_words::done(0),
+        SendAnswer::Full => answer_words::refused(203),
+    }
+}
+
+pub fn next_id(s: State, caller: u32) -> Step
+    ensures { λ r. ⌜ ((ws : List ℕ) → outcome (answerOf (r .answer)) (effectWords (r .effect)) (world (r .state) ws) ≡ reserveOf (world s ws) caller) ⌝ }
+{
+    let r = next_id::next_id(s, caller);
+    let answer = r.answer;
+    let after = r.state;
+    let said = next_id_words(answer);
+    let fx = effect::none();
+    Step {
+        answer: said,
+        effect: fx,
+        state: after,
+    }
+}
+
+pub fn submit(
+    s: State,
+    words: &mut [u64; 1024],
+    tag: Tag,
+    caller: u32,
+    opcode: u64,
+    flags: u8,
+    args: Args,
+    pid: u64,
+    fds: &[u64],
+) -> Step
+    ensures { λ r. ⌜ outcome (answerOf (r .answer)) (effectWords (r .effect)) (world (r .state) (now (words .exit))) ≡ submitOf (world s (now (words .entry))) (tag .0) caller opcode flags args pid (now (fds .entry)) ⌝ }
+{
+    let r = submit::submit(s, words, tag, caller, opcode, flags, args, pid, fds);
+    let answer = r.answer;
+    let after = r.state;
+    let said = submit_words(answer);
+    let fx = r.effect;
+    Step {
+        answer: said,
+        effect: fx,
+        state: after,
+    }
+}
+
+pub fn call(
+    s: State,
+    words: &mut [u64; 1024],
+    caller: u32,
+    opcode: u64,
+    args: Args,
+    uid: u32,
+    gid: u32,
+    pid: u64,
+    fds: &[u64],
+) -> Step
+    ensures { λ r. ⌜ outcome (answerOf (r .answer)) (effectWords (r .effect)) (world (r .state) (now (words .exit))) ≡ callOf (world s (now (words .entry))) caller opcode args uid gid pid (now (fds .entry)) ⌝ }
+{
+    let r = call::call(s, words, caller, opcode, args, uid, gid, pid, fds);
+    let answer = r.answer;
+    let after = r.state;
+    let said = call_words(answer);
+    let fx = r.effect;
+    Step {
+        answer: said,
+        effect: fx,
+        state: after,
+    }
+}
+
+pub fn call_generic(
+    s: State,
+    words: &mut [u64; 1024],
+    caller: u32,
+    pid: u64,
+    fds: &[u64],
+    base: u64,
+    len: u64,
+    metadata: &[u64],
+) -> Step
+    ensures { λ r. ⌜ outcome (answerOf (r .answer)) (effectWords (r .effect)) (world (r .state) (now (words .exit))) ≡ genericOf (world s (now (words .entry))) caller pid (now (fds .entry)) base len (now (metadata .entry)) ⌝ }
+{
+    let r = call_generic::call_generic(s, words, caller, pid, fds, base, len, metadata);
+    let answer = r.answer;
+    let after = r.state;
+    let said = generic_words(answer);
+    let fx = r.effect;
+    Step {
+        answer: said,
+        effect: fx,
+        state: after,
+    }
+}
+
+pub fn translate_std_fs_call(
+    s: State,
+    words: &mut [u64; 1024],
+    caller: u32,
+    pid: u64,
+    fds: &[u64],
+    base: u64,
+    len: u64,
+    metadata: &[u64],
+) -> Step
+    ensures { λ r. ⌜ outcome (answerOf (r .answer)) (effectWords (r .effect)) (world (r .state) (now (words .exit))) ≡ stdfsOf (world s (now (words .entry))) caller pid (now (fds .entry)) base len (now (metadata .entry)) ⌝ }
+{
+    let r = call_generic::translate_std_fs_call(s, words, caller, pid, fds, base, len, metadata);
+    let answer = r.answer;
+    let after = r.state;
+    let said = std_fs_words(answer);
+    let fx = r.effect;
+    Step {
+        answer: said,
+        effect: fx,
+        state: after,
+    }
+}
+
+pub fn request_fmap(
+    s: State,
+    words: &mut [u64; 1024],
+    caller: u32,
+    id: u64,
+    pages: u64,
+    flags: u64,
+    uid: u32,
+    gid: u32,
+    pid: u64,
+) -> Step
+    ensures { λ r. ⌜ outcome (answerOf (r .answer)) (effectWords (r .effect)) (world (r .state) (now (words .exit))) ≡ fmapOf (world s (now (words .entry))) caller id pages flags uid gid pid ⌝ }
+{
+    let r = request_fmap::request_fmap(s, words, caller, id, pages, flags, uid, gid, pid);
+    let answer = r.answer;
+    let after = r.state;
+    let said = fmap_words(answer);
+    let fx = r.effect;
+    Step {
+        answer: said,
+        effect: fx,
+        state: after,
+    }
+}
+
+pub fn close(s: State, words: &mut [u64; 1024], id: u64) -> Step
+    ensures { λ r. ⌜ outcome (answerOf (r .answer)) (effectWords (r .effect)) (world (r .state) (now (words .exit))) ≡ closeOf (world s (now (words .entry))) id ⌝ }
+{
+    let r = close::close(s, words, id);
+    let answer = r.answer;
+    let after = r.state;
+    let said = send_words(answer);
+    let fx = r.effect;
+    Step {
+        answer: said,
+        effect: fx,
+        state: after,
+    }
+}
+
+pub fn detach(s: State, words: &mut [u64; 1024], id: u64, pid: u64) -> Step
+    ensures { λ r. ⌜ outcome (answerOf (r .answer)) (effectWords (r .effect)) (world (r .state) (now (words .exit))) ≡ detachOf (world s (now (words .entry))) id pid ⌝ }
+{
+    let r = close::detach(s, words, id, pid);
+    let answer = r.answer;
+    let after = r.state;
+    let said = send_words(answer);
+    let fx = r.effect;
+    Step {
+        answer: said,
+        effect: fx,
+        state: after,
+    }
+}
