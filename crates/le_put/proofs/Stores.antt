@@ -1,6 +1,6 @@
 -- Runs of stores, at places and past the end. Assumes nothing.
 use mathlib.Core.Path.{_≡_, refl, sym, ap, _∙_}
-use mathlib.Core.List.{List, [], _∷_}
+use mathlib.Core.List.{List, [], _∷_, _++_}
 use Prim.Native.Nat.{ℕ, suc, _+_, _/_, _≤_}
 use native.Mathlib.Omega.{arith}
 use lib.ListN.{length, set, length-set}
@@ -38,3 +38,14 @@ stores8 l m n k x p q =
   where
     four : k + 4 ≡ suc (suc (suc (suc k)))
     four = omega arith
+
+-- what is stored, and then what follows it
+pub sets-then : (xs ys l : List ℕ) (i : ℕ) → sets (sets l i xs) (i + length xs) ys ≡ sets l i (xs ++ ys)
+sets-then [] ys l i = ap (λ (k : ℕ). sets l k ys) plain
+  where
+    plain : i + 0 ≡ i
+    plain = omega arith
+sets-then (x ∷ xs) ys l i = ap (λ (k : ℕ). sets (sets (set l i x) (suc i) xs) k ys) next ∙ sets-then xs ys (set l i x) (suc i)
+  where
+    next : i + suc (length xs) ≡ suc i + length xs
+    next = omega arith

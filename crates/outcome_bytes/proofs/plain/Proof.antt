@@ -1,0 +1,24 @@
+use Rattle.outcome_bytes.proofs.plain.Statement.{statement}
+use Rattle.outcome_bytes.proofs.plain.Tie as tie
+use Rattle.outcome_bytes.proofs.plain.Reads as reads
+use Rattle.outcome_bytes.proofs.plain.Lts as lts
+use borrow.Author.Tests.{ne-eqb}
+
+-- src/lib.rt:95:9
+returns : tie.Need-returns
+returns c = simp (c .if1 .taken)
+
+-- src/lib.rt:98:9
+returns-2 : tie.Need-returns-2
+returns-2 c = simp (c .if2 .taken)
+
+-- src/lib.rt:101:9
+returns-3 : tie.Need-returns-3
+returns-3 c = simp (c .if3 .taken)
+
+-- src/lib.rt:90:1
+returns-4 : tie.Need-returns-4
+returns-4 c = simp (ne-eqb (c .before .before .before .args .a .kind) 0 (c .before .before .if1 .left), ne-eqb (c .before .before .before .args .a .kind) 1 (c .before .if2 .left), ne-eqb (c .before .before .before .args .a .kind) 2 (c .if3 .left))
+
+pub plain-spec : {M : Type 1} → statement M
+plain-spec = tie.close (tie.spec returns returns-2 returns-3 returns-4)

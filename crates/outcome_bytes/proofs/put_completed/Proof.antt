@@ -1,0 +1,62 @@
+-- `outcome_bytes::put_completed` meets its contract. Assumes nothing.
+use borrow.Author.Needs.{needs}
+use Rattle.outcome_bytes.proofs.put_completed.Statement.{statement}
+use Rattle.outcome_bytes.proofs.put_completed.Tie as tie
+use mathlib.Core.Path.{ap, _∙_}
+use lib.Seq.{sets}
+use lib.ListN.{length}
+use mathlib.Core.List.{List}
+use Prim.Native.Nat.{ℕ}
+use Rattle.le.specs.Le.{bytesOf}
+use Rattle.answer_words.specs.Words.{answerOf}
+use Rattle.outcome_bytes.specs.Output.{answerWords}
+use Rattle.outcome_bytes.proofs.Laws.{write-runs}
+
+plain-requires : tie.Need-plain-requires
+plain-requires c κs = search needs
+
+put-two-requires : tie.Need-put-two-requires
+put-two-requires c κs = search needs
+
+put8-requires : tie.Need-put8-requires
+put8-requires c κs = search needs
+
+put-words-requires : tie.Need-put-words-requires
+put-words-requires c κs = search needs
+
+mul-put8 : tie.Need-mul-put8
+mul-put8 c = search needs
+
+add-put8 : tie.Need-add-put8
+add-put8 c = search needs
+
+put8-requires-2 : tie.Need-put8-requires-2
+put8-requires-2 c κs = search needs
+
+mul-result : tie.Need-mul-result
+mul-result c = search needs
+
+add-result : tie.Need-add-result
+add-result c = search needs
+
+same-length : tie.Need-same-length
+same-length c = search needs
+
+returns : tie.Need-returns
+returns c = write-runs (c .before .before .before .before .before .before .before .before .before .before .before .before .before .before .before .before .before .before .before .args .out .now) _ _ _ _ (bytesOf (answerWords (answerOf (c .before .before .before .before .before .before .before .before .before .before .before .before .before .before .before .before .before .before .before .args .a)))) (c .before .before .before .before .before .before .before .before .before .before .before .before .before .before .before .before .before .before .before .args .fx .now) 16 (c .before .before .before .before .before .before .before .before .before .before .before .before .before .before .put-two .ensures ∙ ap (λ (w : List ℕ). sets (c .before .before .before .before .before .before .before .before .before .before .before .before .before .before .before .before .before .before .before .args .out .now) 0 (bytesOf w)) (c .before .before .before .before .before .before .before .before .before .before .before .before .before .before .before .before .plain .ensures)) (ap (λ (w : List ℕ). length (bytesOf w)) (c .before .before .before .before .before .before .before .before .before .before .before .before .before .before .before .before .plain .ensures)) (c .before .before .before .before .before .before .before .before .before .before .put8 .ensures) (c .before .before .before .before .before .before .put-words .ensures) (c .before .before .put82 .ensures)
+
+pub put-completed-spec : {M : Type 1} → statement M
+put-completed-spec =
+    tie.close
+    (tie.spec
+    plain-requires
+    put-two-requires
+    put8-requires
+    put-words-requires
+    mul-put8
+    add-put8
+    put8-requires-2
+    mul-result
+    add-result
+    same-length
+    returns)

@@ -1,0 +1,93 @@
+use Rattle.outcome_bytes.proofs.put_fds.Statement.{statement}
+use Rattle.outcome_bytes.proofs.put_fds.Tie as tie
+use Rattle.outcome_bytes.proofs.put_fds.Reads as reads
+use Rattle.outcome_bytes.proofs.put_fds.Lts as lts
+use Rattle.fd_list.proofs.pick.Reads as pick-reads
+use Rattle.fd_list.proofs.size.Reads as size-reads
+use Rattle.le_put.proofs.put8.Reads as put8-reads
+use borrow.Author.Needs.{needs}
+use Prim.Native.Nat.{ℕ, _-_, _≤_}
+use mathlib.Core.Path.{_≡_, refl, ap, _∙_}
+use mathlib.Core.List.{List}
+use native.Mathlib.Omega.{arith}
+use lib.ListN.{getD, length}
+use lib.Seq.{sets, length-sets}
+use Rattle.record.specs.Record.{each}
+use Rattle.le.specs.Le.{bytesOf}
+use Rattle.fd_list.specs.Lists.{desc, num, named, numbers}
+use lib.ListN.{List·getD-map}
+use mathlib.Core.Path.{sym}
+use Rattle.outcome_bytes.proofs.Laws.{word-more, each-all}
+
+abbrev Inv-loop : tie.InvT-loop
+Inv-loop out₀ at l n i₀ out i = (i ≤ n) × (out ≡ sets out₀ at (bytesOf (each (λ (j : ℕ). getD (numbers l) j 0) i)))
+
+abbrev μ-loop : tie.MeasureT-loop
+μ-loop out₀ at l n i₀ out i = n - i
+
+-- src/lib.rt:68:9
+size-requires : tie.Need-size-requires Inv-loop μ-loop
+size-requires c κs = search needs
+
+-- src/lib.rt:70:5
+loop-holds : tie.Need-loop-holds Inv-loop μ-loop
+loop-holds c = (omega arith, refl)
+
+-- src/lib.rt:71:13
+pick-requires : tie.Need-pick-requires Inv-loop μ-loop
+pick-requires c κs = search needs
+
+-- src/lib.rt:72:32
+mul-put8 : tie.Need-mul-put8 Inv-loop μ-loop
+mul-put8 c = omega (arith, c .before .before .loop-test .taken, c .before .before .before .before .size .ensures .1)
+
+-- src/lib.rt:72:27
+add-put8 : tie.Need-add-put8 Inv-loop μ-loop
+add-put8 c = omega (arith, c .before .before .loop-test .taken, c .before .before .before .before .size .ensures .1, c .before .before .before .before .before .before .pre)
+
+-- src/lib.rt:72:39
+cast-put8 : tie.Need-cast-put8 Inv-loop μ-loop
+cast-put8 c = search needs
+
+-- src/lib.rt:72:9
+put8-requires : tie.Need-put8-requires Inv-loop μ-loop
+put8-requires c κs = search needs
+
+-- src/lib.rt:73:9
+add-i : tie.Need-add-i Inv-loop μ-loop
+add-i c = omega (arith, c .before .before .before .before .before .before .loop-test .taken)
+
+-- src/lib.rt:70:5
+loop-less : tie.Need-loop-less Inv-loop μ-loop
+loop-less c = omega (arith, c .before .before .before .before .before .before .loop-test .taken)
+
+-- src/lib.rt:70:5
+loop-again : tie.Need-loop-again Inv-loop μ-loop
+loop-again c = (omega (arith, c .before .before .before .before .before .before .loop-test .taken), word-more (c .before .before .before .before .before .before .before .before .before .before .args .out .now) (c .before .before .before .before .before .before .before .loop .out) _ (λ (j : ℕ). getD (numbers (c .before .before .before .before .before .before .before .before .before .before .args .l)) j 0) (c .before .before .before .before .before .before .before .loop .i) _ (c .before .before .before .before .before .before .before .before .before .before .args .at) _ (c .before .before .before .before .before .before .before .loop .inv .1) (ap num (c .before .before .before .before .before .pick .ensures) ∙ sym (List·getD-map num (named (c .before .before .before .before .before .before .before .before .before .before .args .l)) (c .before .before .before .before .before .before .before .loop .i) (desc 0))) refl (c .before .before .put8 .ensures))
+
+-- src/lib.rt:64:1
+same-length : tie.Need-same-length Inv-loop μ-loop
+same-length c = ap length (c .before .loop .inv .1) ∙ length-sets (c .before .before .before .before .args .out .now) (c .before .before .before .before .args .at) (bytesOf (each (λ (j : ℕ). getD (numbers (c .before .before .before .before .args .l)) j 0) (c .before .loop .i)))
+
+-- src/lib.rt:64:1
+returns : tie.Need-returns Inv-loop μ-loop
+returns c = c .before .loop .inv .1 ∙ ap (λ (b : List ℕ). sets (c .before .before .before .before .args .out .now) (c .before .before .before .before .args .at) (bytesOf (b))) (ap (each (λ (j : ℕ). getD (numbers (c .before .before .before .before .args .l)) j 0)) (let z : c .before .loop .i ≡ length (numbers (c .before .before .before .before .args .l)) = omega (arith, c .loop-test .left, c .before .loop .inv .0, c .before .before .size .ensures .0) in z) ∙ each-all (numbers (c .before .before .before .before .args .l)))
+
+pub put-fds-spec : {M : Type 1} → statement M
+put-fds-spec =
+    tie.close
+    (tie.spec
+    Inv-loop
+    μ-loop
+    size-requires
+    loop-holds
+    pick-requires
+    mul-put8
+    add-put8
+    cast-put8
+    put8-requires
+    add-i
+    loop-less
+    loop-again
+    same-length
+    returns)

@@ -1,0 +1,53 @@
+-- `outcome_bytes::put_statuses` meets its contract. Assumes nothing.
+use borrow.Author.Needs.{needs}
+use Rattle.outcome_bytes.proofs.put_statuses.Statement.{statement}
+use Rattle.outcome_bytes.proofs.put_statuses.Tie as tie
+use mathlib.Core.Path.{refl, ap, _∙_}
+use mathlib.Core.List.{_++_}
+use Prim.Native.Nat.{_+_}
+use native.Mathlib.Omega.{arith}
+use Rattle.le.specs.Le.{bytesOf}
+use Rattle.status.specs.declared.Status.the-variants.{Placeholder, Waiting, Responded, Fmap}
+use Rattle.outcome_bytes.specs.Output.{statusPair}
+use Rattle.outcome_bytes.proofs.Laws.{next-run}
+
+put-status-requires : tie.Need-put-status-requires
+put-status-requires c κs = search needs
+
+add-put-status : tie.Need-add-put-status
+add-put-status c = search needs
+
+put-status-requires-2 : tie.Need-put-status-requires-2
+put-status-requires-2 c κs = search needs
+
+add-put-status-2 : tie.Need-add-put-status-2
+add-put-status-2 c = search needs
+
+put-status-requires-3 : tie.Need-put-status-requires-3
+put-status-requires-3 c κs = search needs
+
+add-put-status-3 : tie.Need-add-put-status-3
+add-put-status-3 c = search needs
+
+put-status-requires-4 : tie.Need-put-status-requires-4
+put-status-requires-4 c κs = search needs
+
+same-length : tie.Need-same-length
+same-length c = search needs
+
+returns : tie.Need-returns
+returns c = let l = c .before .before .before .before .before .before .before .before .before .before .before .before .before .before .before .before .before .args .out .now in let at = c .before .before .before .before .before .before .before .before .before .before .before .before .before .before .before .before .before .args .at in let p = bytesOf (statusPair (c .before .before .before .before .before .before .before .before .before .before .before .before .before .before .before .before .before .args .t) Placeholder) in let w = bytesOf (statusPair (c .before .before .before .before .before .before .before .before .before .before .before .before .before .before .before .before .before .args .t) Waiting) in let r = bytesOf (statusPair (c .before .before .before .before .before .before .before .before .before .before .before .before .before .before .before .before .before .args .t) Responded) in let f = bytesOf (statusPair (c .before .before .before .before .before .before .before .before .before .before .before .before .before .before .before .before .before .args .t) Fmap) in next-run l _ _ (p ++ w ++ r) f at (at + 48) 48 (next-run l _ _ (p ++ w) r at (at + 32) 32 (next-run l _ _ p w at (at + 16) 16 (c .before .before .before .before .before .before .before .before .before .before .before .before .before .before .put-status .ensures) refl refl (c .before .before .before .before .before .before .before .before .before .before .put-status2 .ensures)) refl refl (c .before .before .before .before .before .before .put-status3 .ensures)) refl refl (c .before .before .put-status4 .ensures)
+
+pub put-statuses-spec : {M : Type 1} → statement M
+put-statuses-spec =
+    tie.close
+    (tie.spec
+    put-status-requires
+    add-put-status
+    put-status-requires-2
+    add-put-status-2
+    put-status-requires-3
+    add-put-status-3
+    put-status-requires-4
+    same-length
+    returns)

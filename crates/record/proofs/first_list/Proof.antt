@@ -1,0 +1,20 @@
+-- `record::first_list` meets its contract. Assumes nothing.
+use borrow.Author.Needs.{needs}
+use Rattle.record.proofs.first_list.Statement.{statement}
+use Rattle.record.proofs.first_list.Tie as tie
+use Prim.Native.Nat.{ℕ}
+use mathlib.Core.Path.{ap, _∙_}
+use lib.Seq.{sets}
+use Rattle.record.specs.Record.{wordsAt}
+
+first-at-requires : tie.Need-first-at-requires
+first-at-requires c κs = search needs
+
+words-at-requires : tie.Need-words-at-requires
+words-at-requires c κs = search needs
+
+returns : tie.Need-returns
+returns c = c .words-at .ensures ∙ ap (λ (k : ℕ). sets (c .before .before .before .before .args .out .now) 0 (wordsAt (c .before .before .before .before .args .s .now) k (c .before .before .before .before .args .r .first))) (c .before .before .first-at .ensures .0)
+
+pub first-list-spec : {M : Type 1} → statement M
+first-list-spec = tie.close (tie.spec first-at-requires words-at-requires returns)

@@ -1,0 +1,20 @@
+-- `record::second_list` meets its contract. Assumes nothing.
+use borrow.Author.Needs.{needs}
+use Rattle.record.proofs.second_list.Statement.{statement}
+use Rattle.record.proofs.second_list.Tie as tie
+use Prim.Native.Nat.{ℕ}
+use mathlib.Core.Path.{ap, _∙_}
+use lib.Seq.{sets}
+use Rattle.record.specs.Record.{wordsAt}
+
+second-at-requires : tie.Need-second-at-requires
+second-at-requires c κs = search needs
+
+words-at-requires : tie.Need-words-at-requires
+words-at-requires c κs = search needs
+
+returns : tie.Need-returns
+returns c = c .words-at .ensures ∙ ap (λ (k : ℕ). sets (c .before .before .before .before .args .out .now) 0 (wordsAt (c .before .before .before .before .args .s .now) k (c .before .before .before .before .args .r .second))) (c .before .before .second-at .ensures .0)
+
+pub second-list-spec : {M : Type 1} → statement M
+second-list-spec = tie.close (tie.spec second-at-requires words-at-requires returns)

@@ -1,0 +1,162 @@
+-- The format of a run's events. A record is 16 bytes, then words, a first and a second list of words, and bytes:
+--   byte 0 the kind, 1 to 19 in the order of `Event`; byte 1 how many words the first list has, byte 2 the second; byte 3 a submit's
+--   flags; bytes 4 to 7 the caller, a read's flags or how many bytes a write has; bytes 8 to 11 uid, 12 to 15 gid.
+-- Numbers are little-endian, words have eight bytes. What an event lacks must be 0.
+use Prim.Native.Nat.{ℕ, zero, suc, _+_, _-_, _*_, min}
+use mathlib.Core.Bool.{Bool, cond, _&&_}
+use mathlib.Core.List.{List, [], _∷_, _++_}
+use lib.Dec.{eqb, leb}
+use lib.ListN.{length, getD, take, drop}
+use Rattle.le.specs.Le.{byte, half, word}
+use Rattle.schemev2.specs.declared.Args.{Args}
+use Rattle.events.specs.Event.{Event, hostOpen, hostCopy, hostDrop, hostPut, hostEnded, reserve, submit, call, generic, stdfs, fmap, close, detach, wake, read, write, move, obtain, supply}
+use Rattle.record.specs.declared.Nine.{Nine}
+use Rattle.record.specs.declared.Record.{Record}
+
+abbrev pub nineOf : List ℕ → Nine
+nineOf bs =
+    record {
+      0 = word bs 16;
+      1 = word bs 24;
+      2 = word bs 32;
+      3 = word bs 40;
+      4 = word bs 48;
+      5 = word bs 56;
+      6 = word bs 64;
+      7 = word bs 72;
+      8 = word bs 80;
+    }
+
+-- the record at the start of bytes
+abbrev pub recordOf : List ℕ → Record
+recordOf bs =
+    record {
+      kind = byte bs 0;
+      first = byte bs 1;
+      second = byte bs 2;
+      flags = byte bs 3;
+      number = half bs 4;
+      uid = half bs 8;
+      gid = half bs 12;
+      words = nineOf bs;
+    }
+
+-- by kind: how many words, and the most that each field may hold
+abbrev pub wordTable : List ℕ
+wordTable = 0 ∷ 1 ∷ 1 ∷ 1 ∷ 2 ∷ 0 ∷ 0 ∷ 9 ∷ 8 ∷ 3 ∷ 3 ∷ 4 ∷ 1 ∷ 2 ∷ 4 ∷ 1 ∷ 1 ∷ 0 ∷ 0 ∷ 4 ∷ []
+
+abbrev pub firstTable : List ℕ
+firstTable = 0 ∷ 0 ∷ 0 ∷ 0 ∷ 0 ∷ 0 ∷ 0 ∷ 255 ∷ 255 ∷ 255 ∷ 255 ∷ 0 ∷ 0 ∷ 0 ∷ 0 ∷ 0 ∷ 0 ∷ 255 ∷ 255 ∷ 0 ∷ []
+
+abbrev pub secondTable : List ℕ
+secondTable = 0 ∷ 0 ∷ 0 ∷ 0 ∷ 0 ∷ 0 ∷ 0 ∷ 0 ∷ 0 ∷ 255 ∷ 255 ∷ 0 ∷ 0 ∷ 0 ∷ 0 ∷ 0 ∷ 0 ∷ 255 ∷ 0 ∷ 0 ∷ []
+
+abbrev pub flagTable : List ℕ
+flagTable = 0 ∷ 0 ∷ 0 ∷ 0 ∷ 0 ∷ 0 ∷ 0 ∷ 255 ∷ 0 ∷ 0 ∷ 0 ∷ 0 ∷ 0 ∷ 0 ∷ 0 ∷ 0 ∷ 0 ∷ 0 ∷ 0 ∷ 0 ∷ []
+
+abbrev most : ℕ
+most = 0xffff_ffff
+
+abbrev pub numberTable : List ℕ
+numberTable = 0 ∷ 0 ∷ 0 ∷ 0 ∷ 0 ∷ most ∷ most ∷ most ∷ most ∷ most ∷ most ∷ most ∷ 0 ∷ 0 ∷ most ∷ most ∷ most ∷ 0 ∷ 0 ∷ 0 ∷ []
+
+abbrev pub userTable : List ℕ
+userTable = 0 ∷ 0 ∷ 0 ∷ 0 ∷ 0 ∷ 0 ∷ 0 ∷ 0 ∷ most ∷ 0 ∷ 0 ∷ most ∷ 0 ∷ 0 ∷ 0 ∷ 0 ∷ 0 ∷ 0 ∷ 0 ∷ 0 ∷ []
+
+-- how many bytes a write has
+abbrev pub tailOf : Record → ℕ
+tailOf r = cond (eqb (r .kind) 16) (r .number) 0
+
+-- where the lists, then the bytes begin, and where the record ends
+abbrev pub firstAt : Record → ℕ
+firstAt r = 16 + 8 * getD wordTable (r .kind) 0
+
+abbrev pub secondAt : Record → ℕ
+secondAt r = firstAt r + 8 * r .first
+
+abbrev pub tailAt : Record → ℕ
+tailAt r = secondAt r + 8 * r .second
+
+abbrev pub sizeOf : Record → ℕ
+sizeOf r = tailAt r + tailOf r
+
+-- a kind, nothing that its event lacks, and all its bytes among the n that there are
+abbrev pub isEvent : Record → ℕ → Bool
+isEvent r n =
+    leb 1 (r .kind)
+    && (leb (r .kind) 19
+    && (leb (r .first) (getD firstTable (r .kind) 0)
+    && (leb (r .second) (getD secondTable (r .kind) 0)
+    && (leb (r .flags) (getD flagTable (r .kind) 0)
+    && (leb (r .number) (getD numberTable (r .kind) 0)
+    && (leb (r .uid) (getD userTable (r .kind) 0)
+    && (leb (r .gid) (getD userTable (r .kind) 0)
+    && leb (sizeOf r) n)))))))
+
+-- the size of the event at the start of bytes, 0 where there is none
+abbrev pub nextOf : List ℕ → ℕ
+nextOf bs = cond (isEvent (recordOf bs) (length bs)) (sizeOf (recordOf bs)) 0
+
+-- f of 0, 1 and so on, n in all
+abbrev pub each : (ℕ → ℕ) → ℕ → List ℕ
+each f zero = []
+each f (suc n) = each f n ++ (f n ∷ [])
+
+-- n words from place k
+abbrev pub wordsAt : List ℕ → ℕ → ℕ → List ℕ
+wordsAt bs k n = each (λ i. word bs (k + 8 * i)) n
+
+-- the event of a record with lists xs and ys and bytes bs. A write is lent at most the words that there are.
+abbrev pub supplyOf : Nine → Event
+supplyOf a = supply (a .0) (a .1) (a .2) (a .3)
+
+abbrev pub eventOf : Record → List ℕ → List ℕ → List ℕ → ℕ → Event
+eventOf r xs ys bs lent =
+    let a = r .words in
+    let c = r .number in
+    getD
+    (supplyOf a
+    ∷ hostOpen (a .0)
+    ∷ hostCopy (a .0)
+    ∷ hostDrop (a .0)
+    ∷ hostPut (a .0) (a .1)
+    ∷ hostEnded c
+    ∷ reserve c
+    ∷ submit (a .0) c (a .1) (r .flags) (record { 0 = a .2; 1 = a .3; 2 = a .4; 3 = a .5; 4 = a .6; 5 = a .7 }) (a .8) xs
+    ∷ call c (a .0) (record { 0 = a .1; 1 = a .2; 2 = a .3; 3 = a .4; 4 = a .5; 5 = a .6 }) (r .uid) (r .gid) (a .7) xs
+    ∷ generic c (a .0) xs (a .1) (a .2) ys
+    ∷ stdfs c (a .0) xs (a .1) (a .2) ys
+    ∷ fmap c (a .0) (a .1) (a .2) (r .uid) (r .gid) (a .3)
+    ∷ close (a .0)
+    ∷ detach (a .0) (a .1)
+    ∷ wake (a .0) c (a .1) (a .2) (a .3)
+    ∷ read (a .0) c
+    ∷ write (min (a .0) lent) bs
+    ∷ move xs ys
+    ∷ obtain xs
+    ∷ [])
+    (r .kind)
+    (supplyOf a)
+
+-- the event of the record at the start of bytes
+abbrev pub eventAt : ℕ → List ℕ → Event
+eventAt lent bs =
+    let r = recordOf bs in eventOf r (wordsAt bs (firstAt r) (r .first)) (wordsAt bs (secondAt r) (r .second)) (take (tailOf r) (drop (tailAt r) bs)) lent
+
+-- bytes as events, up to the first record that is none: `left` so many bytes from there on
+pub record Decoded : Type 0 where
+  pub events : List Event
+  pub left : ℕ
+
+abbrev pub before : Event → Decoded → Decoded
+before e d = record { events = e ∷ d .events; left = d .left }
+
+-- a record has at least 16 bytes, so that as many turns as there are bytes are enough
+abbrev pub decodeIn : ℕ → ℕ → List ℕ → Decoded
+decodeIn zero lent bs = record { events = []; left = length bs }
+decodeIn (suc f) lent bs =
+    cond (eqb (nextOf bs) 0) (record { events = []; left = length bs })
+    (before (eventAt lent bs) (decodeIn f lent (drop (nextOf bs) bs)))
+
+abbrev pub decoded : ℕ → List ℕ → Decoded
+decoded lent bs = decodeIn (length bs) lent bs

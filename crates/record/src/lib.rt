@@ -1,0 +1,271 @@
+// One event as bytes: the record at the start of a slice, and its lists. What lies past the end of the slice reads as 0.
+ghost use mathlib.Core.Path.{_≡_};
+ghost use Prim.Native.Nat.{_≤_};
+ghost use lib.ListN.{length};
+ghost use lib.Seq.{sets};
+ghost use Rattle.record.specs.Record.{nineOf, recordOf, tailOf, firstAt, secondAt, tailAt, sizeOf, isEvent, nextOf, wordsAt};
+
+pub struct Nine(
+    pub u64,
+    pub u64,
+    pub u64,
+    pub u64,
+    pub u64,
+    pub u64,
+    pub u64,
+    pub u64,
+    pub u64,
+);
+
+pub struct Record {
+    pub kind: u8,
+    pub first: u8,
+    pub second: u8,
+    pub flags: u8,
+    pub number: u32,
+    pub uid: u32,
+    pub gid: u32,
+    pub words: Nine,
+}
+
+// By kind: how many words, and the most that each field may hold.
+const WORDS: [u8; 20] = [0, 1, 1, 1, 2, 0, 0, 9, 8, 3, 3, 4, 1, 2, 4, 1, 1, 0, 0, 4];
+
+const FIRST: [u8; 20] = [
+    0,
+    0,
+    0,
+    0,
+    0,
+    0,
+    0,
+    255,
+    255,
+    255,
+    255,
+    0,
+    0,
+    0,
+    0,
+    0,
+    0,
+    255,
+    255,
+    0,
+];
+
+const SECOND: [u8; 20] = [
+    0,
+    0,
+    0,
+    0,
+    0,
+    0,
+    0,
+    0,
+    0,
+    255,
+    255,
+    0,
+    0,
+    0,
+    0,
+    0,
+    0,
+    255,
+    0,
+    0,
+];
+
+const FLAGS: [u8; 20] = [0, 0, 0, 0, 0, 0, 0, 255, 0, 0, 0, 0, 0, 0, 0, 0, 0, 0, 0, 0];
+
+const NUMBER: [u32; 20] = [
+    0,
+    0,
+    0,
+    0,
+    0,
+    0xffff_ffff,
+    0xffff_ffff,
+    0xffff_ffff,
+    0xffff_ffff,
+    0xffff_ffff,
+    0xffff_ffff,
+    0xffff_ffff,
+    0,
+    0,
+    0xffff_ffff,
+    0xffff_ffff,
+    0xffff_ffff,
+    0,
+    0,
+    0,
+];
+
+const USERS: [u32; 20] = [
+    0,
+    0,
+    0,
+    0,
+    0,
+    0,
+    0,
+    0,
+    0xffff_ffff,
+    0,
+    0,
+    0xffff_ffff,
+    0,
+    0,
+    0,
+    0,
+    0,
+    0,
+    0,
+    0,
+];
+
+fn read_words(s: &[u8]) -> Nine
+    ensures { λ r. ⌜ r ≡ nineOf (now (s .entry)) ⌝ }
+{
+    Nine(
+        le::word(s, 16),
+        le::word(s, 24),
+        le::word(s, 32),
+        le::word(s, 40),
+        le::word(s, 48),
+        le::word(s, 56),
+        le::word(s, 64),
+        le::word(s, 72),
+        le::word(s, 80),
+    )
+}
+
+// The record at the start of a slice.
+pub fn record_at(s: &[u8]) -> Record
+    ensures { λ r. ⌜ r ≡ recordOf (now (s .entry)) ⌝ }
+{
+    let words = read_words(s);
+    Record {
+        kind: le::byte(s, 0),
+        first: le::byte(s, 1),
+        second: le::byte(s, 2),
+        flags: le::byte(s, 3),
+        number: le::half(s, 4),
+        uid: le::half(s, 8),
+        gid: le::half(s, 12),
+        words: words,
+    }
+}
+
+fn wide(x: u8) -> usize
+    ensures { λ r. ⌜ (r ≡ x) × (r ≤ 255) ⌝ }
+{
+    x as usize
+}
+
+// Where its lists begin.
+fn first_at(r: Record) -> usize
+    ensures { λ o. ⌜ (o ≡ firstAt r) × (o ≤ 2056) ⌝ }
+{
+    let k = r.kind as usize;
+    if 20 <= k {
+        return 16;
+    }
+    16 + 8 * wide(WORDS[k])
+}
+
+fn second_at(r: Record) -> usize
+    ensures { λ o. ⌜ (o ≡ secondAt r) × (o ≤ 4096) ⌝ }
+{
+    first_at(r) + 8 * wide(r.first)
+}
+
+// Where its bytes begin, and how many there are.
+pub fn tail_at(r: Record) -> usize
+    ensures { λ o. ⌜ (o ≡ tailAt r) × (o ≤ 6136) ⌝ }
+{
+    second_at(r) + 8 * wide(r.second)
+}
+
+pub fn tail(r: Record) -> usize
+    ensures { λ o. ⌜ (o ≡ tailOf r) × (o ≤ 0xffff_ffff) ⌝ }
+{
+    if r.kind == 16 {
+        return r.number as usize;
+    }
+    0
+}
+
+fn size(r: Record) -> usize
+    ensures { λ o. ⌜ o ≡ sizeOf r ⌝ }
+{
+    tail_at(r) + tail(r)
+}
+
+fn is_event(r: Record, left: usize) -> bool
+    ensures { λ o. ⌜ o ≡ isEvent r left ⌝ }
+{
+    let k = r.kind as usize;
+    if k < 1 {
+        return false;
+    }
+    if 19 < k {
+        return false;
+    }
+    if FIRST[k] < r.first {
+        return false;
+    }
+    if SECOND[k] < r.second {
+        return false;
+    }
+    if FLAGS[k] < r.flags {
+        return false;
+    }
+    if NUMBER[k] < r.number {
+        return false;
+    }
+    if USERS[k] < r.uid {
+        return false;
+    }
+    if USERS[k] < r.gid {
+        return false;
+    }
+    size(r) <= left
+}
+
+// The size of the event at the start of a slice, 0 where there is none.
+pub fn next(s: &[u8]) -> usize
+    ensures { λ r. ⌜ r ≡ nextOf (now (s .entry)) ⌝ }
+{
+    let r = record_at(s);
+    if is_event(r, s.len()) {
+        return size(r);
+    }
+    0
+}
+
+// So many words from a place, into the first of those lent.
+fn words_at(s: &[u8], at: usize, n: u8, out: &mut [u64; 255])
+    requires { ⌜ at ≤ 0x1_0000_0000 ⌝ }
+    ensures { λ r. ⌜ now (out .exit) ≡ sets (now (out .entry)) 0 (wordsAt (now (s .entry)) at n) ⌝ }
+{
+    let m = wide(n);
+    let mut i = 0;
+    while i < m {
+        out[i] = le::word(s, at + 8 * i);
+        i += 1;
+    }
+}
+
+pub fn first_list(s: &[u8], r: Record, out: &mut [u64; 255])
+    ensures { λ o. ⌜ now (out .exit) ≡ sets (now (out .entry)) 0 (wordsAt (now (s .entry)) (firstAt r) (r .first)) ⌝ }
+{
+    words_at(s, first_at(r), r.first, out);
+}
+
+pub fn second_list(s: &[u8], r: Record, out: &mut [u64; 255])
+    ensures { λ o. ⌜ now (out .exit) ≡ sets (now (out .entry)) 0 (wordsAt (now (s .entry)) (secondAt r) (r .second)) ⌝ }
+{
+    words_at(s, second_at(r), r.second, out);
+}
