@@ -110,8 +110,8 @@ wordsAt bs k n = each (λ i. word bs (k + 8 * i)) n
 abbrev pub supplyOf : Nine → Event
 supplyOf a = supply (a .0) (a .1) (a .2) (a .3)
 
-abbrev pub eventOf : Record → List ℕ → List ℕ → List ℕ → ℕ → Event
-eventOf r xs ys bs lent =
+abbrev pub eventNamed : ℕ → Record → List ℕ → List ℕ → List ℕ → ℕ → Event
+eventNamed kind r xs ys bs lent =
     let a = r .words in
     let c = r .number in
     getD
@@ -135,8 +135,11 @@ eventOf r xs ys bs lent =
     ∷ move xs ys
     ∷ obtain xs
     ∷ [])
-    (r .kind)
+    kind
     (supplyOf a)
+
+abbrev pub eventOf : Record → List ℕ → List ℕ → List ℕ → ℕ → Event
+eventOf r xs ys bs lent = eventNamed (r .kind) r xs ys bs lent
 
 -- the event of the record at the start of bytes
 abbrev pub eventAt : ℕ → List ℕ → Event

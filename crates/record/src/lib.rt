@@ -245,26 +245,26 @@ pub fn next(s: &[u8]) -> usize
     0
 }
 
-// So many words from a place, into the first of those lent.
-fn words_at(s: &[u8], at: usize, n: u8, out: &mut [u64; 255])
+// So many words from a place, into those lent from the first on.
+fn words_at(s: &[u8], at: usize, n: u8, out: &mut [u64])
     requires { ⌜ at ≤ 0x1_0000_0000 ⌝ }
     ensures { λ r. ⌜ now (out .exit) ≡ sets (now (out .entry)) 0 (wordsAt (now (s .entry)) at n) ⌝ }
 {
     let m = wide(n);
     let mut i = 0;
     while i < m {
-        out[i] = le::word(s, at + 8 * i);
+        word_put::put(out, i, le::word(s, at + 8 * i));
         i += 1;
     }
 }
 
-pub fn first_list(s: &[u8], r: Record, out: &mut [u64; 255])
+pub fn first_list(s: &[u8], r: Record, out: &mut [u64])
     ensures { λ o. ⌜ now (out .exit) ≡ sets (now (out .entry)) 0 (wordsAt (now (s .entry)) (firstAt r) (r .first)) ⌝ }
 {
     words_at(s, first_at(r), r.first, out);
 }
 
-pub fn second_list(s: &[u8], r: Record, out: &mut [u64; 255])
+pub fn second_list(s: &[u8], r: Record, out: &mut [u64])
     ensures { λ o. ⌜ now (out .exit) ≡ sets (now (out .entry)) 0 (wordsAt (now (s .entry)) (secondAt r) (r .second)) ⌝ }
 {
     words_at(s, second_at(r), r.second, out);

@@ -13,8 +13,11 @@ first-at-requires c κs = search needs
 words-at-requires : tie.Need-words-at-requires
 words-at-requires c κs = search needs
 
+same-length : tie.Need-same-length
+same-length c = search needs
+
 returns : tie.Need-returns
-returns c = c .words-at .ensures ∙ ap (λ (k : ℕ). sets (c .before .before .before .before .args .out .now) 0 (wordsAt (c .before .before .before .before .args .s .now) k (c .before .before .before .before .args .r .first))) (c .before .before .first-at .ensures .0)
+returns c = c .before .before .words-at .ensures ∙ ap (λ (k : ℕ). sets (c .before .before .before .before .before .before .before .args .out .now) 0 (wordsAt (c .before .before .before .before .before .before .before .args .s .now) k (c .before .before .before .before .before .before .before .args .r .first))) (c .before .before .before .before .first-at .ensures .0)
 
 pub first-list-spec : {M : Type 1} → statement M
-first-list-spec = tie.close (tie.spec first-at-requires words-at-requires returns)
+first-list-spec = tie.close (tie.spec first-at-requires words-at-requires same-length returns)

@@ -13,8 +13,11 @@ second-at-requires c κs = search needs
 words-at-requires : tie.Need-words-at-requires
 words-at-requires c κs = search needs
 
+same-length : tie.Need-same-length
+same-length c = search needs
+
 returns : tie.Need-returns
-returns c = c .words-at .ensures ∙ ap (λ (k : ℕ). sets (c .before .before .before .before .args .out .now) 0 (wordsAt (c .before .before .before .before .args .s .now) k (c .before .before .before .before .args .r .second))) (c .before .before .second-at .ensures .0)
+returns c = c .before .before .words-at .ensures ∙ ap (λ (k : ℕ). sets (c .before .before .before .before .before .before .before .args .out .now) 0 (wordsAt (c .before .before .before .before .before .before .before .args .s .now) k (c .before .before .before .before .before .before .before .args .r .second))) (c .before .before .before .before .second-at .ensures .0)
 
 pub second-list-spec : {M : Type 1} → statement M
-second-list-spec = tie.close (tie.spec second-at-requires words-at-requires returns)
+second-list-spec = tie.close (tie.spec second-at-requires words-at-requires same-length returns)

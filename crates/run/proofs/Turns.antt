@@ -1,0 +1,165 @@
+-- What the turns store: a front of a buffer that was lent, the bytes of a read, the effects of a write. Assumes nothing.
+use Prim.Native.Nat.{ℕ, zero, suc, min, _+_, _-_, _*_, _/_, _%_, _<_, _≤_}
+use mathlib.Core.Path.{_≡_, refl, sym, ap, ap₂, _∙_, subst}
+use mathlib.Core.Logic.{_⊎_, inl, inr}
+use mathlib.Core.Bool.{Bool, true, false, cond}
+use mathlib.Core.List.{List, [], _∷_, _++_}
+use native.Mathlib.Omega.{arith}
+use lib.Dec.{eqb, ltb}
+use native.Mathlib.Decide.{decLt}
+use lib.ListN.{length, set, take, drop, take-append-drop, length-take, length-set}
+use lib.Seq.{sets, sets-eq, set-append-left, take-at, length-take-le}
+use borrow.Author.Tests.{eq-eqb, ne-eqb, lt-ltb, le-ltb, ltb-false}
+use Rattle.events.specs.World.{World, queueOf, withQueue}
+use Rattle.events.specs.Outcome.{Answer, Outcome, outcome, answered, refuse}
+use Rattle.events.specs.Complete.{Entered, accepted, rejected, entryOf, entriesOf, stopped, onEntered, shortWords, writeOn, writeOf}
+use Rattle.schemev2.specs.declared.Cqe.{Cqe}
+use Rattle.events.specs.Event.{step, write}
+use Rattle.events.specs.Read.{readOf}
+use Rattle.events.specs.Whole.{Whole}
+use Rattle.events.proofs.Exact.{exact-at}
+use Rattle.outcome_bytes.specs.Output.{told, outcomeBytes}
+use Rattle.wait_queue.specs.declared.WaitQueue.{WaitQueue}
+use Rattle.wait_queue.specs.Queue.{wordsFrom, unread, removed}
+use Rattle.wait_queue.proofs.Unread.{length-bytes}
+use Rattle.wait_queue_receive.specs.declared.ReceiveAnswer.the-variants.{Bytes}
+use Rattle.wait_queue_receive.specs.Receive.{copied, emptyBy, receivedIf, receiveAnswer}
+
+-- a front that is there
+pub front-length : (l : List ℕ) (n : ℕ) → n ≤ length l → n ≡ length (take n l)
+front-length l n h = sym (length-take-le n l h)
+
+-- stores within a front leave the rest
+sets-front : (vs xs ys : List ℕ) (i : ℕ) → i + length vs ≤ length xs → sets (xs ++ ys) i vs ≡ sets xs i vs ++ ys
+sets-front [] xs ys i h = refl
+sets-front (v ∷ vs) xs ys i h =
+    ap (λ (l : List ℕ). sets l (suc i) vs) (set-append-left xs ys i v (omega (arith, h))) ∙ sets-front vs (set xs i v) ys (suc i) (omega (arith, h, length-set xs i v))
+
+-- a front was lent and holds xs now
+module _ (b front xs : List ℕ) (n k : ℕ) (size : n ≤ length b) (most : k ≤ n) (count : k ≡ length xs) (is : front ≡ sets (take n b) 0 xs) where
+  pub front-back : front ++ drop n b ≡ sets b 0 xs
+  front-back =
+      ap (λ (l : List ℕ). l ++ drop n b) is
+      ∙ sym (sets-front xs (take n b) (drop n b) 0 (omega (arith, size, most, count, length-take-le n b size)))
+      ∙ ap (λ (l : List ℕ). sets l 0 xs) (take-append-drop n b)
+
+  pub front-holds : take k (front ++ drop n b) ≡ xs
+  front-holds =
+      ap (take k) (front-back ∙ sets-eq xs b 0 (omega (arith, size, most, count)))
+      ∙ take-at xs (drop (0 + length xs) b) k (sym count)
+
+  pub front-counts : k ≡ length (take k (front ++ drop n b))
+  front-counts = count ∙ ap length (sym front-holds)
+
+-- the outcome of an event, told by its parts
+pub turned :
+    (l n : List ℕ) (k : ℕ) (o o' : Outcome) (a : Answer) (fx bs : List ℕ) (u : World)
+    → o ≡ o' → a ≡ o .answer → fx ≡ o .effects → bs ≡ o .bytes → u ≡ o .world → (n ≡ sets l 0 (told a fx bs)) × (k ≡ length (told a fx bs))
+    → (u ≡ o' .world) × ((n ≡ sets l 0 (outcomeBytes o')) × (k ≡ length (outcomeBytes o')))
+turned l n k o o' a fx bs u e ea ef eb eu p =
+    (
+      eu ∙ ap (λ (x : Outcome). x .world) e,
+      subst (λ (x : List ℕ). (n ≡ sets l 0 x) × (k ≡ length x)) ((λ i. told (ea i) (ef i) (eb i)) ∙ ap outcomeBytes e) p
+    )
+
+-- a read copies what fits, and what is unread has no more than 8,192 bytes
+length-words : (q : WaitQueue) (ws : List ℕ) (n i : ℕ) → length (wordsFrom q ws i n) ≡ n
+unfolding wordsFrom
+length-words q ws zero i = refl
+length-words q ws (suc n) i = ap suc (length-words q ws n (suc i))
+
+pub read-counts : (w : World) (len flags : ℕ) → min len (queueOf w .len * 64) ≡ length (readOf w len flags .bytes)
+read-counts w len flags =
+    sym (length-take (min len (queueOf w .len * 64)) (unread (queueOf w) (w .words)) ∙ (let z : min (min len (queueOf w .len * 64)) (length (unread (queueOf w) (w .words))) ≡ min len (queueOf w .len * 64) = omega (arith, length-bytes (wordsFrom (queueOf w) (w .words) 0 (queueOf w .len * 8)), length-words (queueOf w) (w .words) (queueOf w .len * 8) 0) in z))
+
+none-same : (len : ℕ) → eqb (min len 8192) 0 ≡ eqb len 0
+none-same zero = ap (λ (n : ℕ). eqb n 0) (let z : min 0 8192 ≡ 0 = omega arith in z)
+none-same (suc n) = ne-eqb (min (suc n) 8192) 0 (λ e. omega (arith, e)) ∙ sym (ne-eqb (suc n) 0 (λ e. omega (arith, e)))
+
+few-same : (len : ℕ) → ltb (min len 8192) 64 ≡ ltb len 64
+few-same len = go (decLt len 64)
+  where
+    go : Dec (len < 64) → ltb (min len 8192) 64 ≡ ltb len 64
+    go (yes h) = lt-ltb (min len 8192) 64 (omega (arith, h)) ∙ sym (lt-ltb len 64 h)
+    go (no h) = le-ltb (min len 8192) 64 (omega (arith, h)) ∙ sym (le-ltb len 64 (omega (arith, h)))
+
+pub same-read : (w : World) (len flags : ℕ) → queueOf w .len ≤ 128 → readOf w (min len 8192) flags ≡ readOf w len flags
+same-read w len flags h =
+    λ i. record {
+      answer = answered (receiveAnswer (go (eqb (queueOf w .len) 0) i .answer));
+      effects = [];
+      bytes = take (few i) (unread (queueOf w) (w .words));
+      world = withQueue w (go (eqb (queueOf w .len) 0) i .queue) (w .words);
+    }
+  where
+    few : copied (queueOf w) (min len 8192) ≡ copied (queueOf w) len
+    few = omega (arith, h)
+
+    go : (b : Bool) → receivedIf b (queueOf w) (min len 8192) flags ≡ receivedIf b (queueOf w) len flags
+    go true = λ i. record { answer = emptyBy (eqb (flags / 0x4_0000 % 2) 0) (none-same len i) (few-same len i); queue = queueOf w }
+    go false = ap (λ (n : ℕ). record { answer = Bytes n; queue = removed (queueOf w) (n / 64) }) few
+
+-- a read into m bytes that are as good as len
+module _ (w : World) (i : Whole w) (len flags n m k : ℕ) (b front : List ℕ) (size : 8192 ≤ length b) (en : n ≡ min len 8192) (em : m ≡ length (take n b)) (ek : k ≡ min n (queueOf w .len * 64))
+    (is : front ≡ sets (take n b) 0 (readOf w m flags .bytes)) where
+  exact : m ≡ n
+  exact = em ∙ length-take-le n b (omega (arith, size, en))
+
+  counts : k ≡ length (readOf w m flags .bytes)
+  counts = ek ∙ ap (λ (x : ℕ). min x (queueOf w .len * 64)) (sym exact) ∙ read-counts w m flags
+
+  pub read-part : k ≡ length (take k (front ++ drop n b))
+  read-part = front-counts b front (readOf w m flags .bytes) n k (omega (arith, size, en)) (omega (arith, ek)) counts is
+
+  pub read-holds : take k (front ++ drop n b) ≡ readOf w m flags .bytes
+  read-holds = front-holds b front (readOf w m flags .bytes) n k (omega (arith, size, en)) (omega (arith, ek)) counts is
+
+  pub read-whole : readOf w m flags ≡ readOf w len flags
+  read-whole = ap (λ (x : ℕ). readOf w x flags) (exact ∙ en) ∙ same-read w len flags (i .room)
+
+-- a write reads nothing
+on-bytes : (es : List Cqe) (w : World) (n : ℕ) (fx : List ℕ) → writeOn w es n fx .bytes ≡ []
+on-bytes [] w n fx = refl
+on-bytes (e ∷ es) w n fx = go (λ u gx. on-bytes es u (suc n) (fx ++ gx)) (entryOf w e)
+  where
+    go : ((u : World) (gx : List ℕ) → writeOn u es (suc n) (fx ++ gx) .bytes ≡ []) → (x : Entered) → onEntered x (λ gx u. writeOn u es (suc n) (fx ++ gx)) (λ k gx u. outcome (stopped n k) (fx ++ gx) u) .bytes ≡ []
+    go more (accepted gx u) = more u gx
+    go more (rejected k gx u) = refl
+
+write-bytes : (w : World) (words : ℕ) (bs : List ℕ) → [] ≡ writeOf w words bs .bytes
+write-bytes w words bs = go (shortWords words bs)
+  where
+    go : (b : Bool) → [] ≡ cond b (refuse w 204) (writeOn w (entriesOf bs) 0 []) .bytes
+    go true = refl
+    go false = sym (on-bytes (entriesOf bs) w 0 [])
+
+-- a write that is lent a front of the words
+module _ (w : World) (i : Whole w) (words n m k : ℕ) (fx front bs bs' : List ℕ) (en : n ≡ min words (length fx)) (em : m ≡ length (take n fx)) (ek : k ≡ length (writeOf w m bs .effects))
+    (eb : bs ≡ bs') (is : front ≡ sets (take n fx) 0 (writeOf w m bs .effects)) where
+  lent : m ≡ n
+  lent = em ∙ length-take-le n fx (omega (arith, en))
+
+  fits : k ≤ n
+  fits = omega (arith, lent, ek, exact-at w i .room m bs)
+
+  pub write-part : k ≡ length (take k (front ++ drop n fx))
+  write-part = front-counts fx front (writeOf w m bs .effects) n k (omega (arith, en)) fits ek is
+
+  pub write-holds : take k (front ++ drop n fx) ≡ writeOf w m bs .effects
+  write-holds = front-holds fx front (writeOf w m bs .effects) n k (omega (arith, en)) fits ek is
+
+  pub write-none : [] ≡ writeOf w m bs .bytes
+  write-none = write-bytes w m bs
+
+  pub write-fits : k ≤ length (front ++ drop n fx)
+  write-fits = omega (arith, write-part, length-take k (front ++ drop n fx))
+
+  pub write-whole : writeOf w m bs ≡ writeOf w (min words (length fx)) bs'
+  write-whole = ap₂ (writeOf w) (lent ∙ en) eb
+
+  pub write-back : front ++ drop n fx ≡ sets fx 0 (writeOf w (min words (length fx)) bs' .effects)
+  write-back = front-back fx front (writeOf w m bs .effects) n k (omega (arith, en)) fits ek is ∙ ap (λ (o : Outcome). sets fx 0 (o .effects)) write-whole
+
+-- the bytes of a record
+pub tail-is : (bs : List ℕ) (at k at' k' : ℕ) → at ≡ at' → k ≡ k' → take (at + k - at) (drop at bs) ≡ take k' (drop at' bs)
+tail-is bs at k at' k' ea ek = ap₂ (λ (n m : ℕ). take n (drop m bs)) (let z : at + k - at ≡ k' = omega (arith, ek) in z) ea

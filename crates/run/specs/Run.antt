@@ -1,0 +1,77 @@
+-- A run as bytes: decoded to events (crate record), run as `Run` of crate events has it, and told in bytes (crate outcome_bytes).
+use Prim.Native.Nat.{ℕ, zero, suc, _+_, _-_, _*_, min}
+use mathlib.Core.Bool.{cond}
+use mathlib.Core.List.{List, [], _∷_, _++_}
+use lib.Dec.{eqb, ltb}
+use lib.ListN.{length, take, drop, replicate}
+use lib.Seq.{sets}
+use Rattle.events.specs.World.{World}
+use Rattle.events.specs.Outcome.{Outcome}
+use Rattle.events.specs.Event.{Event, wake, read, write, step}
+use Rattle.events.specs.Exactly.{isWrite}
+use Rattle.events.specs.Run.{Turn, Run, run}
+use Rattle.outcome_bytes.specs.Output.{outcomeBytes, stateBytes}
+use Rattle.record.specs.declared.Record.{Record}
+use Rattle.record.specs.Record.{recordOf, tailAt, tailOf, nextOf, decoded}
+use Rattle.run.specs.declared.RunEnd.{RunEnd}
+
+-- the run of the events that bytes hold, from a fresh state with its queue's words 0; `lent` words are there for writes
+abbrev pub runOf : ℕ → ℕ → List ℕ → Run
+runOf scheme lent bs = run scheme (replicate 1024 0) (decoded lent bs .events)
+
+-- the outcome of a turn, and what it stores in the words that writes are lent
+abbrev pub outcomeOf : Turn → Outcome
+outcomeOf t = step (t .before) (t .event)
+
+abbrev pub storedBy : World → Event → List ℕ
+storedBy w e = cond (isWrite e) (step w e .effects) []
+
+-- the events that more than a step is made of
+abbrev pub wakeIn : Record → Event
+wakeIn r = wake (r .words .0) (r .number) (r .words .1) (r .words .2) (r .words .3)
+
+abbrev pub readIn : Record → Event
+readIn r = read (r .words .0) (r .number)
+
+abbrev pub writeIn : Record → List ℕ → ℕ → Event
+writeIn r bs lent = write (min (r .words .0) lent) (take (tailOf r) (drop (tailAt r) bs))
+
+-- turns stand newest first
+abbrev pub toldOf : List Turn → List ℕ
+toldOf [] = []
+toldOf (t ∷ ts) = toldOf ts ++ outcomeBytes (outcomeOf t)
+
+abbrev pub lentAfter : List ℕ → List Turn → List ℕ
+lentAfter fx [] = fx
+lentAfter fx (t ∷ ts) = sets (lentAfter fx ts) 0 (storedBy (t .before) (t .event))
+
+-- each event's bytes, and after the last the state's
+abbrev pub outputOf : Run → List ℕ
+outputOf r = toldOf (r .turns) ++ stateBytes (r .world)
+
+-- the room that an event's bytes may take: a reply of 16 descriptions, the bytes of a read, 18 effects for each 16 bytes of a write
+abbrev pub roomOf : Record → ℕ
+roomOf r = 192 + cond (eqb (r .kind) 15) (min (r .words .0) 8192) 0 + 27 * tailOf r
+
+abbrev pub roomIn : ℕ → List ℕ → ℕ
+roomIn zero bs = 1608
+roomIn (suc f) bs = cond (eqb (nextOf bs) 0) 1608 (roomOf (recordOf bs) + roomIn f (drop (nextOf bs) bs))
+
+abbrev pub needed : List ℕ → ℕ
+needed bs = roomIn (length bs) bs
+
+-- 204, nothing written; 205, the record at `place` is no event; 0, all were run
+abbrev pub endOf : ℕ → ℕ → ℕ → List ℕ → RunEnd
+endOf scheme lent most bs =
+    cond (ltb most (needed bs)) (record { number = 204; place = 0; written = 0 })
+    (record {
+      number = cond (eqb (decoded lent bs .left) 0) 0 205;
+      place = length bs - decoded lent bs .left;
+      written = length (outputOf (runOf scheme lent bs));
+    })
+
+abbrev pub outAfter : ℕ → ℕ → List ℕ → List ℕ → List ℕ
+outAfter scheme lent out bs = cond (ltb (length out) (needed bs)) out (sets out 0 (outputOf (runOf scheme lent bs)))
+
+abbrev pub fxAfter : ℕ → ℕ → List ℕ → List ℕ → List ℕ
+fxAfter scheme most fx bs = cond (ltb most (needed bs)) fx (lentAfter fx (runOf scheme (length fx) bs .turns))

@@ -1,0 +1,175 @@
+// A run as one function: events as bytes in, what each answered and the state at the end as bytes out.
+use answer_words::Step;
+use ids::Tag;
+use record::Record;
+use schemev2::Args;
+use state::State;
+ghost use mathlib.Core.Path.{_≡_};
+ghost use mathlib.Core.List.{List};
+ghost use Prim.Native.Nat.{ℕ, _+_, _*_, _≤_, _<_, min};
+ghost use lib.Dec.{leb};
+ghost use lib.ListN.{length};
+ghost use lib.Seq.{sets};
+ghost use Rattle.answer_words.specs.Words.{answerOf};
+ghost use Rattle.effect.specs.Effect.{effectWords};
+ghost use Rattle.events.specs.World.{world};
+ghost use Rattle.events.specs.Outcome.{outcome};
+ghost use Rattle.events.specs.Event.{step};
+ghost use Rattle.events.specs.Whole.{Whole};
+ghost use Rattle.outcome_bytes.specs.Output.{outcomeBytes};
+ghost use Rattle.record.specs.Record.{recordOf, tailAt, tailOf, nextOf, eventNamed, eventAt};
+ghost use Rattle.run.specs.Run.{wakeIn, readIn, writeIn, storedBy, roomOf, needed, endOf, outAfter, fxAfter};
+
+// The run's own answer: 0, 204 or 205, the place of the record that is no event, and how many bytes were written.
+#[repr(C)]
+pub struct RunEnd {
+    pub number: u64,
+    pub place: u64,
+    pub written: u64,
+}
+
+struct Turned {
+    state: State,
+    used: usize,
+}
+
+// The events of at most one effect but the wake; a kind that is none is not asked for.
+fn one_effect(
+    kind: u8,
+    s: State,
+    words: &mut [u64; 1024],
+    r: Record,
+    first: &[u64],
+    second: &[u64],
+) -> Step
+    requires { ⌜ ((kind ≡ 14 → ⊥) × ((kind ≡ 15 → ⊥) × (kind ≡ 16 → ⊥))) ⌝ }
+    ensures { λ o. ⌜ ((bs : List ℕ) (lent : ℕ) → outcome (answerOf (o .answer)) (effectWords (o .effect)) (world (o .state) (now (words .exit))) ≡ step (world s (now (words .entry))) (eventNamed kind r (now (first .entry)) (now (second .entry)) bs lent)) ⌝ }
+{
+    let a = r.words;
+    let c = r.number;
+    match kind {
+        1 => host_step::open(s, a.0),
+        2 => host_step::copy(s, a.0),
+        3 => host_step::drop(s, a.0),
+        4 => host_step::put(s, a.0, a.1),
+        5 => host_step::ended(s, c),
+        6 => submit_step::next_id(s, c),
+        7 => submit_step::submit(
+            s,
+            words,
+            Tag(a.0),
+            c,
+            a.1,
+            r.flags,
+            Args(a.2, a.3, a.4, a.5, a.6, a.7),
+            a.8,
+            first,
+        ),
+        8 => submit_step::call(
+            s,
+            words,
+            c,
+            a.0,
+            Args(a.1, a.2, a.3, a.4, a.5, a.6),
+            r.uid,
+            r.gid,
+            a.7,
+            first,
+        ),
+        9 => submit_step::call_generic(s, words, c, a.0, first, a.1, a.2, second),
+        10 => submit_step::translate_std_fs_call(s, words, c, a.0, first, a.1, a.2, second),
+        11 => submit_step::request_fmap(s, words, c, a.0, a.1, a.2, r.uid, r.gid, a.3),
+        12 => submit_step::close(s, words, a.0),
+        13 => submit_step::detach(s, words, a.0, a.1),
+        17 => driver_step::call_fdwrite(s, first, second),
+        18 => driver_step::call_fdread(s, first),
+        _ => driver_step::provide_mmap(s, Tag(a.0), a.1, a.2, a.3),
+    }
+}
+
+fn least(a: u64, b: usize) -> usize
+    ensures { λ r. ⌜ r ≡ min a b ⌝ }
+{
+    if a < b as u64 {
+        return a as usize;
+    }
+    b
+}
+
+// So many bytes are unread.
+fn unread_bytes(s: State) -> usize
+    ensures { λ r. ⌜ r ≡ s .driver .queue .len * 64 ⌝ }
+{
+    let d = s.driver;
+    let q = d.queue;
+    q.len as usize * 64
+}
+
+fn wake_turn(s: State, words: &mut [u64; 1024], r: Record, out: &mut [u8]) -> Turned
+    ensures { λ o. ⌜ world (o .state) (now (words .exit)) ≡ step (world s (now (words .entry))) (wakeIn r) .world ⌝ }
+    ensures { λ o. ⌜ now (out .exit) ≡ sets (now (out .entry)) 0 (outcomeBytes (step (world s (now (words .entry))) (wakeIn r))) ⌝ }
+    ensures { λ o. ⌜ o .used ≡ length (outcomeBytes (step (world s (now (words .entry))) (wakeIn r))) ⌝ }
+{
+    let a = r.words;
+    let o = driver_step::wake(s, words, Tag(a.0), r.number, a.1, a.2, a.3);
+    let answer = o.answer;
+    let reply = o.reply;
+    let fds = o.fds;
+    let fx = o.effect;
+    let after = o.state;
+    let used = outcome_bytes::put_woken(out, answer, reply, fds, fx);
+    Turned {
+        state: after,
+        used: used,
+    }
+}
+
+// Into the first of the bytes lent: no more than 8,192 are ever unread.
+fn read_turn(s: State, words: &[u64; 1024], r: Record, buf: &mut [u8], out: &mut [u8]) -> Turned
+    requires { ⌜ Whole (world s (now words)) × (8192 ≤ length (now buf)) ⌝ }
+    ensures { λ o. ⌜ world (o .state) (now (words .entry)) ≡ step (world s (now (words .entry))) (readIn r) .world ⌝ }
+    ensures { λ o. ⌜ now (out .exit) ≡ sets (now (out .entry)) 0 (outcomeBytes (step (world s (now (words .entry))) (readIn r))) ⌝ }
+    ensures { λ o. ⌜ o .used ≡ length (outcomeBytes (step (world s (now (words .entry))) (readIn r))) ⌝ }
+{
+    let a = r.words;
+    let n = least(a.0, 8192);
+    let k = least(n as u64, unread_bytes(s));
+    let o = driver_step::read(s, words, &mut buf[..n], r.number);
+    let answer = o.answer;
+    let after = o.state;
+    let used = outcome_bytes::put_received(out, answer, &buf[..k]);
+    Turned {
+        state: after,
+        used: used,
+    }
+}
+
+// The write is lent no more words than there are. The queue's words are there for what is said of the state alone.
+fn write_turn(
+    s: State,
+    words: &[u64; 1024],
+    rec: &[u8],
+    r: Record,
+    fx: &mut [u64],
+    out: &mut [u8],
+) -> Turned
+    requires { ⌜ Whole (world s (now words)) × (tailAt r + tailOf r ≤ length (now rec)) ⌝ }
+    ensures { λ o. ⌜ world (o .state) (now (words .entry)) ≡ step (world s (now (words .entry))) (writeIn r (now (rec .entry)) (length (now (fx .entry)))) .world ⌝ }
+    ensures { λ o. ⌜ now (out .exit) ≡ sets (now (out .entry)) 0 (outcomeBytes (step (world s (now (words .entry))) (writeIn r (now (rec .entry)) (length (now (fx .entry)))))) ⌝ }
+    ensures { λ o. ⌜ o .used ≡ length (outcomeBytes (step (world s (now (words .entry))) (writeIn r (now (rec .entry)) (length (now (fx .entry)))))) ⌝ }
+    ensures { λ o. ⌜ now (fx .exit) ≡ sets (now (fx .entry)) 0 (step (world s (now (words .entry))) (writeIn r (now (rec .entry)) (length (now (fx .entry)))) .effects) ⌝ }
+{
+    let a = r.words;
+    let n = least(a.0, fx.len());
+    let at = record::tail_at(r);
+    let k = record::tail(r);
+    let o = driver_step::write(s, &mut fx[..n], &rec[at..at + k]);
+    let m = o.words;
+    let answer = o.answer;
+    let after = o.state;
+    let used = outcome_bytes::put_completed(out, answer, &fx[..m]);
+    Turned {
+        state: after,
+        used: used,
+    }
+}
