@@ -11,7 +11,7 @@ use status::Status;
 use table::Table;
 ghost use mathlib.Core.Path.{_≡_};
 ghost use mathlib.Core.List.{[], _∷_, _++_, List as Words};
-ghost use Prim.Native.Nat.{ℕ, _≤_, _+_};
+ghost use Prim.Native.Nat.{ℕ, _≤_, _+_, _*_};
 ghost use lib.ListN.{length};
 ghost use lib.Seq.{sets};
 ghost use Rattle.fd_list.specs.Lists.{numbers};
@@ -163,6 +163,7 @@ fn put_rest(out: &mut [u8], at: usize, e: Effect) -> usize
     requires { ⌜ at ≤ 0x1_0000 ⌝ }
     ensures { λ r. ⌜ now (out .exit) ≡ sets (now (out .entry)) at (bytesOf (length (effectWords e) ∷ effectWords e) ++ bytesOf (0 ∷ [])) ⌝ }
     ensures { λ r. ⌜ r ≡ at + length (bytesOf (length (effectWords e) ∷ effectWords e) ++ bytesOf (0 ∷ [])) ⌝ }
+    ensures { λ r. ⌜ r ≤ at + 40 ⌝ }
 {
     let k = put_effect(out, at, e);
     le_put::put8(out, at + k, 0);
@@ -173,6 +174,7 @@ fn put_rest(out: &mut [u8], at: usize, e: Effect) -> usize
 pub fn put_step(out: &mut [u8], a: AnswerWords, e: Effect) -> usize
     ensures { λ r. ⌜ now (out .exit) ≡ sets (now (out .entry)) 0 (told (answerOf a) (effectWords e) []) ⌝ }
     ensures { λ r. ⌜ r ≡ length (told (answerOf a) (effectWords e) []) ⌝ }
+    ensures { λ r. ⌜ r ≤ 192 ⌝ }
 {
     let b = plain(a);
     put_two(out, 0, b.kind, b.value);
@@ -183,6 +185,7 @@ pub fn put_step(out: &mut [u8], a: AnswerWords, e: Effect) -> usize
 pub fn put_woken(out: &mut [u8], a: AnswerWords, r: Reply, fds: List, e: Effect) -> usize
     ensures { λ o. ⌜ now (out .exit) ≡ sets (now (out .entry)) 0 (told (repliedOf a r fds) (effectWords e) []) ⌝ }
     ensures { λ o. ⌜ o ≡ length (told (repliedOf a r fds) (effectWords e) []) ⌝ }
+    ensures { λ o. ⌜ o ≤ 192 ⌝ }
 {
     if a.kind == 4 {
         let k = put_reply(out, r, fds);
@@ -195,6 +198,7 @@ pub fn put_woken(out: &mut [u8], a: AnswerWords, r: Reply, fds: List, e: Effect)
 pub fn put_received(out: &mut [u8], a: AnswerWords, bytes: &[u8]) -> usize
     ensures { λ r. ⌜ now (out .exit) ≡ sets (now (out .entry)) 0 (told (answerOf a) [] (now (bytes .entry))) ⌝ }
     ensures { λ r. ⌜ r ≡ length (told (answerOf a) [] (now (bytes .entry))) ⌝ }
+    ensures { λ r. ⌜ r ≡ 32 + length (now (bytes .entry)) ⌝ }
 {
     let b = plain(a);
     put_two(out, 0, b.kind, b.value);
@@ -207,6 +211,7 @@ pub fn put_received(out: &mut [u8], a: AnswerWords, bytes: &[u8]) -> usize
 pub fn put_completed(out: &mut [u8], a: AnswerWords, fx: &[u64]) -> usize
     ensures { λ r. ⌜ now (out .exit) ≡ sets (now (out .entry)) 0 (told (answerOf a) (now (fx .entry)) []) ⌝ }
     ensures { λ r. ⌜ r ≡ length (told (answerOf a) (now (fx .entry)) []) ⌝ }
+    ensures { λ r. ⌜ r ≡ 32 + 8 * length (now (fx .entry)) ⌝ }
 {
     let b = plain(a);
     let n = fx.len();

@@ -1,15 +1,18 @@
 -- A list that grows by one word, and the size of the next event. Assumes nothing.
-use Prim.Native.Nat.{ℕ, zero, suc, _+_}
+use Prim.Native.Nat.{ℕ, zero, suc, _+_, _<_, _≤_}
 use mathlib.Core.Path.{_≡_, refl, sym, ap, _∙_}
-use mathlib.Core.Bool.{Bool, cond}
+use mathlib.Core.Bool.{Bool, true, false, cond, true≢false, _&&_}
 use mathlib.Core.List.{List, [], _∷_, _++_}
 use native.Mathlib.Omega.{arith}
+use native.Mathlib.Decide.{decLt}
 use native.Mathlib.Numerals.{add-one}
-use lib.ListN.{length, set, length-append}
+use lib.Dec.{eqb, leb}
+use lib.ListN.{length, set, getD, drop, length-append, length-drop}
 use lib.Seq.{sets}
+use borrow.Author.Tests.{eq-eqb, ne-eqb, eqb-false, leb-true}
 use Rattle.le_put.proofs.Stores.{sets-then}
 use Rattle.record.specs.declared.Record.{Record}
-use Rattle.record.specs.Record.{each, isEvent, nextOf, recordOf, sizeOf}
+use Rattle.record.specs.Record.{each, isEvent, nextOf, recordOf, sizeOf, firstTable, secondTable, flagTable, numberTable, userTable, walk}
 
 pub each-length : (f : ℕ → ℕ) (n : ℕ) → length (each f n) ≡ n
 each-length f zero = refl
@@ -26,3 +29,71 @@ grown l out f i x e p =
 -- the size of the next event, by the test
 pub next-is : (bs : List ℕ) (r : Record) (b : Bool) → r ≡ recordOf bs → b ≡ isEvent r (length bs) → cond b (sizeOf r) 0 ≡ nextOf bs
 next-is bs r b er eb = ap (λ (x : Bool). cond x (sizeOf r) 0) eb ∙ ap (λ (y : Record). cond (isEvent y (length bs)) (sizeOf y) 0) er
+
+-- the next event's bytes are all there
+right : (a b : Bool) → a && b ≡ true → b ≡ true
+right true b e = e
+right false b e = absurd (true≢false (sym e))
+
+ninth : (a b c d e f g h i : Bool) → a && (b && (c && (d && (e && (f && (g && (h && i))))))) ≡ true → i ≡ true
+ninth a b c d e f g h i p =
+    right h i
+    (right g (h && i)
+    (right f (g && (h && i))
+    (right e (f && (g && (h && i)))
+    (right d (e && (f && (g && (h && i))))
+    (right c (d && (e && (f && (g && (h && i)))))
+    (right b (c && (d && (e && (f && (g && (h && i)))))) (right a (b && (c && (d && (e && (f && (g && (h && i))))))) p)))))))
+
+positive : (b : Bool) (n : ℕ) → 0 < cond b n 0 → b ≡ true
+positive true n h = refl
+positive false n h = absurd (let z : ⊥ = omega (arith, h) in z)
+
+pub next-size : (bs : List ℕ) → 0 < nextOf bs → nextOf bs ≡ sizeOf (recordOf bs)
+next-size bs h = ap (λ (b : Bool). cond b (sizeOf (recordOf bs)) 0) (positive (isEvent (recordOf bs) (length bs)) (sizeOf (recordOf bs)) h)
+
+pub all-there : (bs : List ℕ) → 0 < nextOf bs → sizeOf (recordOf bs) ≤ length bs
+all-there bs h =
+    let r = recordOf bs in
+    leb-true (sizeOf r) (length bs)
+    (ninth (leb 1 (r .kind)) (leb (r .kind) 19) (leb (r .first) (getD firstTable (r .kind) 0)) (leb (r .second) (getD secondTable (r .kind) 0)) (leb (r .flags) (getD flagTable (r .kind) 0))
+    (leb (r .number) (getD numberTable (r .kind) 0)) (leb (r .uid) (getD userTable (r .kind) 0)) (leb (r .gid) (getD userTable (r .kind) 0)) (leb (sizeOf r) (length bs))
+    (positive (isEvent r (length bs)) (sizeOf r) h))
+
+pub next-there : (bs : List ℕ) → nextOf bs ≤ length bs
+next-there bs = go (decLt 0 (nextOf bs))
+  where
+    go : Dec (0 < nextOf bs) → nextOf bs ≤ length bs
+    go (yes h) = omega (arith, next-size bs h, all-there bs h)
+    go (no h) = omega (arith, h)
+
+pub some : (n : ℕ) → (n ≡ 0 → ⊥) → 0 < n
+some zero z = absurd (z refl)
+some (suc n) z = omega arith
+
+-- a walk over all records, by its first
+module _ {A : Type 0} (stop : List ℕ → A) (more : List ℕ → A → A) where
+  abbrev on : Bool → ℕ → List ℕ → A
+  on b f bs = cond b (stop bs) (more bs (walk stop more f (drop (nextOf bs) bs)))
+
+  enough : (f g : ℕ) (bs : List ℕ) → length bs ≤ f → length bs ≤ g → walk stop more f bs ≡ walk stop more g bs
+  enough zero zero bs h k = refl
+  enough zero (suc g) bs h k = sym (ap (λ (b : Bool). on b g bs) (eq-eqb (nextOf bs) 0 (omega (arith, h, next-there bs))))
+  enough (suc f) zero bs h k = ap (λ (b : Bool). on b f bs) (eq-eqb (nextOf bs) 0 (omega (arith, k, next-there bs)))
+  enough (suc f) (suc g) bs h k =
+      go (λ p. enough f g (drop (nextOf bs) bs) (omega (arith, p, h, length-drop (nextOf bs) bs)) (omega (arith, p, k, length-drop (nextOf bs) bs))) (eqb (nextOf bs) 0) refl
+    where
+      go : (0 < nextOf bs → walk stop more f (drop (nextOf bs) bs) ≡ walk stop more g (drop (nextOf bs) bs)) → (b : Bool) → eqb (nextOf bs) 0 ≡ b → on b f bs ≡ on b g bs
+      go same true e = refl
+      go same false e = ap (more bs) (same (some (nextOf bs) (eqb-false (nextOf bs) 0 e)))
+
+  pub walk-ends : (bs : List ℕ) → nextOf bs ≡ 0 → walk stop more (length bs) bs ≡ stop bs
+  walk-ends bs e =
+      enough (length bs) (suc (length bs)) bs (omega arith) (omega arith) ∙ ap (λ (b : Bool). on b (length bs) bs) (eq-eqb (nextOf bs) 0 e)
+
+  pub walk-goes-on :
+      (bs : List ℕ) → (nextOf bs ≡ 0 → ⊥) → walk stop more (length bs) bs ≡ more bs (walk stop more (length (drop (nextOf bs) bs)) (drop (nextOf bs) bs))
+  walk-goes-on bs e =
+      enough (length bs) (suc (length bs)) bs (omega arith) (omega arith)
+      ∙ ap (λ (b : Bool). on b (length bs) bs) (ne-eqb (nextOf bs) 0 e)
+      ∙ ap (more bs) (enough (length bs) (length (drop (nextOf bs) bs)) (drop (nextOf bs) bs) (omega (arith, length-drop (nextOf bs) bs)) (omega arith))

@@ -146,20 +146,22 @@ abbrev pub eventAt : ℕ → List ℕ → Event
 eventAt lent bs =
     let r = recordOf bs in eventOf r (wordsAt bs (firstAt r) (r .first)) (wordsAt bs (secondAt r) (r .second)) (take (tailOf r) (drop (tailAt r) bs)) lent
 
--- bytes as events, up to the first record that is none: `left` so many bytes from there on
+-- over records one after the other, up to the first that is no event; a record has at least 16 bytes, so that as many turns as
+-- there are bytes are enough
+abbrev pub walk : {A : Type 0} → (List ℕ → A) → (List ℕ → A → A) → ℕ → List ℕ → A
+walk stop more zero bs = stop bs
+walk stop more (suc f) bs = cond (eqb (nextOf bs) 0) (stop bs) (more bs (walk stop more f (drop (nextOf bs) bs)))
+
+-- bytes as events, and how many bytes are left from the first record on that is none
 pub record Decoded : Type 0 where
   pub events : List Event
   pub left : ℕ
 
+abbrev pub stops : List ℕ → Decoded
+stops bs = record { events = []; left = length bs }
+
 abbrev pub before : Event → Decoded → Decoded
 before e d = record { events = e ∷ d .events; left = d .left }
 
--- a record has at least 16 bytes, so that as many turns as there are bytes are enough
-abbrev pub decodeIn : ℕ → ℕ → List ℕ → Decoded
-decodeIn zero lent bs = record { events = []; left = length bs }
-decodeIn (suc f) lent bs =
-    cond (eqb (nextOf bs) 0) (record { events = []; left = length bs })
-    (before (eventAt lent bs) (decodeIn f lent (drop (nextOf bs) bs)))
-
 abbrev pub decoded : ℕ → List ℕ → Decoded
-decoded lent bs = decodeIn (length bs) lent bs
+decoded lent bs = walk stops (λ rest d. before (eventAt lent rest) d) (length bs) bs

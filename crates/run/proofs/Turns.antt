@@ -7,8 +7,8 @@ use mathlib.Core.List.{List, [], _∷_, _++_}
 use native.Mathlib.Omega.{arith}
 use lib.Dec.{eqb, ltb}
 use native.Mathlib.Decide.{decLt}
-use lib.ListN.{length, set, take, drop, take-append-drop, length-take, length-set}
-use lib.Seq.{sets, sets-eq, set-append-left, take-at, length-take-le}
+use lib.ListN.{length, set, take, drop, take-append-drop, length-take, length-drop, length-set}
+use lib.Seq.{sets, sets-eq, length-sets, set-append-left, take-at, length-take-le}
 use borrow.Author.Tests.{eq-eqb, ne-eqb, lt-ltb, le-ltb, ltb-false}
 use Rattle.events.specs.World.{World, queueOf, withQueue}
 use Rattle.events.specs.Outcome.{Answer, Outcome, outcome, answered, refuse}
@@ -19,6 +19,9 @@ use Rattle.events.specs.Read.{readOf}
 use Rattle.events.specs.Whole.{Whole}
 use Rattle.events.proofs.Exact.{exact-at}
 use Rattle.outcome_bytes.specs.Output.{told, outcomeBytes}
+use Rattle.le.specs.Le.{word}
+use Rattle.record.specs.Record.{wordsAt}
+use Rattle.record.proofs.Laws.{each-length}
 use Rattle.wait_queue.specs.declared.WaitQueue.{WaitQueue}
 use Rattle.wait_queue.specs.Queue.{wordsFrom, unread, removed}
 use Rattle.wait_queue.proofs.Unread.{length-bytes}
@@ -56,11 +59,10 @@ pub turned :
     (l n : List ℕ) (k : ℕ) (o o' : Outcome) (a : Answer) (fx bs : List ℕ) (u : World)
     → o ≡ o' → a ≡ o .answer → fx ≡ o .effects → bs ≡ o .bytes → u ≡ o .world → (n ≡ sets l 0 (told a fx bs)) × (k ≡ length (told a fx bs))
     → (u ≡ o' .world) × ((n ≡ sets l 0 (outcomeBytes o')) × (k ≡ length (outcomeBytes o')))
-turned l n k o o' a fx bs u e ea ef eb eu p =
-    (
-      eu ∙ ap (λ (x : Outcome). x .world) e,
-      subst (λ (x : List ℕ). (n ≡ sets l 0 x) × (k ≡ length x)) ((λ i. told (ea i) (ef i) (eb i)) ∙ ap outcomeBytes e) p
-    )
+turned l n k o o' a fx bs u e ea ef eb eu p = (
+  eu ∙ ap (λ (x : Outcome). x .world) e,
+  subst (λ (x : List ℕ). (n ≡ sets l 0 x) × (k ≡ length x)) ((λ i. told (ea i) (ef i) (eb i)) ∙ ap outcomeBytes e) p,
+)
 
 -- a read copies what fits, and what is unread has no more than 8,192 bytes
 length-words : (q : WaitQueue) (ws : List ℕ) (n i : ℕ) → length (wordsFrom q ws i n) ≡ n
@@ -133,6 +135,22 @@ write-bytes w words bs = go (shortWords words bs)
     go true = refl
     go false = sym (on-bytes (entriesOf bs) w 0 [])
 
+effects-most : (w : World) → Whole w → (words : ℕ) (bs : List ℕ) → length (writeOf w words bs .effects) ≤ 54 * (length bs / 16)
+effects-most w i words bs = go (shortWords words bs)
+  where
+    most : ℕ
+    most = 54 * (length bs / 16)
+
+    full : length (cond (ltb most most) (refuse w 204) (writeOn w (entriesOf bs) 0 []) .effects) ≤ most
+    full = exact-at w i .room most bs
+
+    go : (b : Bool) → length (cond b (refuse w 204) (writeOn w (entriesOf bs) 0 []) .effects) ≤ 54 * (length bs / 16)
+    go true = omega arith
+    go false = subst (λ (b : Bool). length (cond b (refuse w 204) (writeOn w (entriesOf bs) 0 []) .effects) ≤ most) (le-ltb most most (omega arith)) full
+
+pub tail-counts : (bs : List ℕ) (at k : ℕ) → at + k ≤ length bs → length (take k (drop at bs)) ≡ k
+tail-counts bs at k h = length-take-le k (drop at bs) (omega (arith, h, length-drop at bs))
+
 -- a write that is lent a front of the words
 module _ (w : World) (i : Whole w) (words n m k : ℕ) (fx front bs bs' : List ℕ) (en : n ≡ min words (length fx)) (em : m ≡ length (take n fx)) (ek : k ≡ length (writeOf w m bs .effects))
     (eb : bs ≡ bs') (is : front ≡ sets (take n fx) 0 (writeOf w m bs .effects)) where
@@ -151,6 +169,10 @@ module _ (w : World) (i : Whole w) (words n m k : ℕ) (fx front bs bs' : List �
   pub write-none : [] ≡ writeOf w m bs .bytes
   write-none = write-bytes w m bs
 
+  -- 18 effects an entry have room in 27 bytes for each of its own
+  pub write-most : (tail : ℕ) → length bs' ≡ tail → 32 + 8 * k ≤ 192 + 27 * tail
+  write-most tail e = omega (arith, ek, effects-most w i m bs, ap length eb, e)
+
   pub write-fits : k ≤ length (front ++ drop n fx)
   write-fits = omega (arith, write-part, length-take k (front ++ drop n fx))
 
@@ -163,3 +185,19 @@ module _ (w : World) (i : Whole w) (words n m k : ℕ) (fx front bs bs' : List �
 -- the bytes of a record
 pub tail-is : (bs : List ℕ) (at k at' k' : ℕ) → at ≡ at' → k ≡ k' → take (at + k - at) (drop at bs) ≡ take k' (drop at' bs)
 tail-is bs at k at' k' ea ek = ap₂ (λ (n m : ℕ). take n (drop m bs)) (let z : at + k - at ≡ k' = omega (arith, ek) in z) ea
+
+-- a list of a record, in the words lent for it
+module _ (l lent bs : List ℕ) (at n : ℕ) (size : 255 ≤ length l) (few : n < 256) (is : lent ≡ sets l 0 (wordsAt bs at n)) where
+  counts-n : length (wordsAt bs at n) ≡ n
+  counts-n = each-length (λ i. word bs (at + 8 * i)) n
+
+  pub list-length : length lent ≡ length l
+  list-length = ap length is ∙ length-sets l 0 (wordsAt bs at n)
+
+  pub list-part : n ≡ length (take n lent)
+  list-part = front-length lent n (omega (arith, size, few, list-length))
+
+  pub list-holds : take n lent ≡ wordsAt bs at n
+  list-holds =
+      ap (take n) (is ∙ sets-eq (wordsAt bs at n) l 0 (omega (arith, size, few, counts-n)))
+      ∙ take-at (wordsAt bs at n) (drop (0 + length (wordsAt bs at n)) l) n counts-n

@@ -1,5 +1,5 @@
 -- A run as bytes: decoded to events (crate record), run as `Run` of crate events has it, and told in bytes (crate outcome_bytes).
-use Prim.Native.Nat.{ℕ, zero, suc, _+_, _-_, _*_, min}
+use Prim.Native.Nat.{ℕ, _+_, _-_, _*_, min}
 use mathlib.Core.Bool.{cond}
 use mathlib.Core.List.{List, [], _∷_, _++_}
 use lib.Dec.{eqb, ltb}
@@ -12,7 +12,7 @@ use Rattle.events.specs.Exactly.{isWrite}
 use Rattle.events.specs.Run.{Turn, Run, run}
 use Rattle.outcome_bytes.specs.Output.{outcomeBytes, stateBytes}
 use Rattle.record.specs.declared.Record.{Record}
-use Rattle.record.specs.Record.{recordOf, tailAt, tailOf, nextOf, decoded}
+use Rattle.record.specs.Record.{recordOf, firstAt, secondAt, tailAt, tailOf, wordsAt, eventNamed, walk, decoded}
 use Rattle.run.specs.declared.RunEnd.{RunEnd}
 
 -- the run of the events that bytes hold, from a fresh state with its queue's words 0; `lent` words are there for writes
@@ -36,6 +36,10 @@ readIn r = read (r .words .0) (r .number)
 abbrev pub writeIn : Record → List ℕ → ℕ → Event
 writeIn r bs lent = write (min (r .words .0) lent) (take (tailOf r) (drop (tailAt r) bs))
 
+-- the other events, with their lists
+abbrev pub listIn : ℕ → Record → List ℕ → List ℕ → ℕ → Event
+listIn kind r rec bs lent = eventNamed kind r (wordsAt rec (firstAt r) (r .first)) (wordsAt rec (secondAt r) (r .second)) bs lent
+
 -- turns stand newest first
 abbrev pub toldOf : List Turn → List ℕ
 toldOf [] = []
@@ -53,12 +57,8 @@ outputOf r = toldOf (r .turns) ++ stateBytes (r .world)
 abbrev pub roomOf : Record → ℕ
 roomOf r = 192 + cond (eqb (r .kind) 15) (min (r .words .0) 8192) 0 + 27 * tailOf r
 
-abbrev pub roomIn : ℕ → List ℕ → ℕ
-roomIn zero bs = 1608
-roomIn (suc f) bs = cond (eqb (nextOf bs) 0) 1608 (roomOf (recordOf bs) + roomIn f (drop (nextOf bs) bs))
-
 abbrev pub needed : List ℕ → ℕ
-needed bs = roomIn (length bs) bs
+needed bs = walk (λ rest. 1608) (λ rest n. roomOf (recordOf rest) + n) (length bs) bs
 
 -- 204, nothing written; 205, the record at `place` is no event; 0, all were run
 abbrev pub endOf : ℕ → ℕ → ℕ → List ℕ → RunEnd

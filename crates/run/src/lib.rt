@@ -18,7 +18,7 @@ ghost use Rattle.events.specs.Event.{step};
 ghost use Rattle.events.specs.Whole.{Whole};
 ghost use Rattle.outcome_bytes.specs.Output.{outcomeBytes};
 ghost use Rattle.record.specs.Record.{recordOf, tailAt, tailOf, nextOf, eventNamed, eventAt};
-ghost use Rattle.run.specs.Run.{wakeIn, readIn, writeIn, storedBy, roomOf, needed, endOf, outAfter, fxAfter};
+ghost use Rattle.run.specs.Run.{wakeIn, readIn, writeIn, listIn, storedBy, roomOf, needed, endOf, outAfter, fxAfter};
 
 // The run's own answer: 0, 204 or 205, the place of the record that is no event, and how many bytes were written.
 #[repr(C)]
@@ -109,6 +109,7 @@ fn wake_turn(s: State, words: &mut [u64; 1024], r: Record, out: &mut [u8]) -> Tu
     ensures { λ o. ⌜ world (o .state) (now (words .exit)) ≡ step (world s (now (words .entry))) (wakeIn r) .world ⌝ }
     ensures { λ o. ⌜ now (out .exit) ≡ sets (now (out .entry)) 0 (outcomeBytes (step (world s (now (words .entry))) (wakeIn r))) ⌝ }
     ensures { λ o. ⌜ o .used ≡ length (outcomeBytes (step (world s (now (words .entry))) (wakeIn r))) ⌝ }
+    ensures { λ o. ⌜ o .used ≤ 192 ⌝ }
 {
     let a = r.words;
     let o = driver_step::wake(s, words, Tag(a.0), r.number, a.1, a.2, a.3);
@@ -130,6 +131,7 @@ fn read_turn(s: State, words: &[u64; 1024], r: Record, buf: &mut [u8], out: &mut
     ensures { λ o. ⌜ world (o .state) (now (words .entry)) ≡ step (world s (now (words .entry))) (readIn r) .world ⌝ }
     ensures { λ o. ⌜ now (out .exit) ≡ sets (now (out .entry)) 0 (outcomeBytes (step (world s (now (words .entry))) (readIn r))) ⌝ }
     ensures { λ o. ⌜ o .used ≡ length (outcomeBytes (step (world s (now (words .entry))) (readIn r))) ⌝ }
+    ensures { λ o. ⌜ o .used ≤ 192 + min (r .words .0) 8192 ⌝ }
 {
     let a = r.words;
     let n = least(a.0, 8192);
@@ -158,6 +160,7 @@ fn write_turn(
     ensures { λ o. ⌜ now (out .exit) ≡ sets (now (out .entry)) 0 (outcomeBytes (step (world s (now (words .entry))) (writeIn r (now (rec .entry)) (length (now (fx .entry)))))) ⌝ }
     ensures { λ o. ⌜ o .used ≡ length (outcomeBytes (step (world s (now (words .entry))) (writeIn r (now (rec .entry)) (length (now (fx .entry)))))) ⌝ }
     ensures { λ o. ⌜ now (fx .exit) ≡ sets (now (fx .entry)) 0 (step (world s (now (words .entry))) (writeIn r (now (rec .entry)) (length (now (fx .entry)))) .effects) ⌝ }
+    ensures { λ o. ⌜ o .used ≤ 192 + 27 * tailOf r ⌝ }
 {
     let a = r.words;
     let n = least(a.0, fx.len());
@@ -172,4 +175,66 @@ fn write_turn(
         state: after,
         used: used,
     }
+}
+
+// An event of at most one effect but the wake, with its lists.
+fn list_turn(
+    kind: u8,
+    s: State,
+    words: &mut [u64; 1024],
+    rec: &[u8],
+    r: Record,
+    first: &mut [u64],
+    second: &mut [u64],
+    out: &mut [u8],
+) -> Turned
+    requires { ⌜ ((kind ≡ 14 → ⊥) × ((kind ≡ 15 → ⊥) × (kind ≡ 16 → ⊥))) × ((255 ≤ length (now first)) × (255 ≤ length (now second))) ⌝ }
+    ensures { λ o. ⌜ ((bs : List ℕ) (lent : ℕ) → (world (o .state) (now (words .exit)) ≡ step (world s (now (words .entry))) (listIn kind r (now (rec .entry)) bs lent) .world) × ((now (out .exit) ≡ sets (now (out .entry)) 0 (outcomeBytes (step (world s (now (words .entry))) (listIn kind r (now (rec .entry)) bs lent)))) × (o .used ≡ length (outcomeBytes (step (world s (now (words .entry))) (listIn kind r (now (rec .entry)) bs lent)))))) ⌝ }
+    ensures { λ o. ⌜ o .used ≤ 192 ⌝ }
+{
+    record::first_list(rec, r, first);
+    record::second_list(rec, r, second);
+    let n = r.first as usize;
+    let m = r.second as usize;
+    let o = one_effect(kind, s, words, r, &first[..n], &second[..m]);
+    let answer = o.answer;
+    let fx = o.effect;
+    let after = o.state;
+    let used = outcome_bytes::put_step(out, answer, fx);
+    Turned {
+        state: after,
+        used: used,
+    }
+}
+
+// The event at the start of `rec`.
+fn turn(
+    s: State,
+    words: &mut [u64; 1024],
+    rec: &[u8],
+    fx: &mut [u64],
+    buf: &mut [u8],
+    first: &mut [u64],
+    second: &mut [u64],
+    out: &mut [u8],
+) -> Turned
+    requires { ⌜ Whole (world s (now words)) × ((0 < nextOf (now rec)) × ((8192 ≤ length (now buf)) × ((255 ≤ length (now first)) × (255 ≤ length (now second))))) ⌝ }
+    ensures { λ o. ⌜ world (o .state) (now (words .exit)) ≡ step (world s (now (words .entry))) (eventAt (length (now (fx .entry))) (now (rec .entry))) .world ⌝ }
+    ensures { λ o. ⌜ now (out .exit) ≡ sets (now (out .entry)) 0 (outcomeBytes (step (world s (now (words .entry))) (eventAt (length (now (fx .entry))) (now (rec .entry))))) ⌝ }
+    ensures { λ o. ⌜ o .used ≡ length (outcomeBytes (step (world s (now (words .entry))) (eventAt (length (now (fx .entry))) (now (rec .entry))))) ⌝ }
+    ensures { λ o. ⌜ now (fx .exit) ≡ sets (now (fx .entry)) 0 (storedBy (world s (now (words .entry))) (eventAt (length (now (fx .entry))) (now (rec .entry)))) ⌝ }
+    ensures { λ o. ⌜ o .used ≤ roomOf (recordOf (now (rec .entry))) ⌝ }
+{
+    let r = record::record_at(rec);
+    let kind = r.kind;
+    if kind == 14 {
+        return wake_turn(s, words, r, out);
+    }
+    if kind == 15 {
+        return read_turn(s, words, r, buf, out);
+    }
+    if kind == 16 {
+        return write_turn(s, words, rec, r, fx, out);
+    }
+    list_turn(kind, s, words, rec, r, first, second, out)
 }

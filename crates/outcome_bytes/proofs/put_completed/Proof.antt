@@ -11,6 +11,7 @@ use Rattle.le.specs.Le.{bytesOf}
 use Rattle.answer_words.specs.Words.{answerOf}
 use Rattle.outcome_bytes.specs.Output.{answerWords}
 use Rattle.outcome_bytes.proofs.Laws.{write-runs}
+use mathlib.Core.Path.{refl}
 
 plain-requires : tie.Need-plain-requires
 plain-requires c κs = search needs
@@ -43,7 +44,7 @@ same-length : tie.Need-same-length
 same-length c = search needs
 
 returns : tie.Need-returns
-returns c = write-runs (c .before .before .before .before .before .before .before .before .before .before .before .before .before .before .before .before .before .before .before .args .out .now) _ _ _ _ (bytesOf (answerWords (answerOf (c .before .before .before .before .before .before .before .before .before .before .before .before .before .before .before .before .before .before .before .args .a)))) (c .before .before .before .before .before .before .before .before .before .before .before .before .before .before .before .before .before .before .before .args .fx .now) 16 (c .before .before .before .before .before .before .before .before .before .before .before .before .before .before .put-two .ensures ∙ ap (λ (w : List ℕ). sets (c .before .before .before .before .before .before .before .before .before .before .before .before .before .before .before .before .before .before .before .args .out .now) 0 (bytesOf w)) (c .before .before .before .before .before .before .before .before .before .before .before .before .before .before .before .before .plain .ensures)) (ap (λ (w : List ℕ). length (bytesOf w)) (c .before .before .before .before .before .before .before .before .before .before .before .before .before .before .before .before .plain .ensures)) (c .before .before .before .before .before .before .before .before .before .before .put8 .ensures) (c .before .before .before .before .before .before .put-words .ensures) (c .before .before .put82 .ensures)
+returns c = let t = (write-runs (c .before .before .before .before .before .before .before .before .before .before .before .before .before .before .before .before .before .before .before .args .out .now) _ _ _ _ (bytesOf (answerWords (answerOf (c .before .before .before .before .before .before .before .before .before .before .before .before .before .before .before .before .before .before .before .args .a)))) (c .before .before .before .before .before .before .before .before .before .before .before .before .before .before .before .before .before .before .before .args .fx .now) 16 (c .before .before .before .before .before .before .before .before .before .before .before .before .before .before .put-two .ensures ∙ ap (λ (w : List ℕ). sets (c .before .before .before .before .before .before .before .before .before .before .before .before .before .before .before .before .before .before .before .args .out .now) 0 (bytesOf w)) (c .before .before .before .before .before .before .before .before .before .before .before .before .before .before .before .before .plain .ensures)) (ap (λ (w : List ℕ). length (bytesOf w)) (c .before .before .before .before .before .before .before .before .before .before .before .before .before .before .before .before .plain .ensures)) (c .before .before .before .before .before .before .before .before .before .before .put8 .ensures) (c .before .before .before .before .before .before .put-words .ensures) (c .before .before .put82 .ensures)) in (t .0, (t .1, refl))
 
 pub put-completed-spec : {M : Type 1} → statement M
 put-completed-spec =

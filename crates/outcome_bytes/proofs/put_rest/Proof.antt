@@ -7,6 +7,7 @@ use lib.ListN.{length}
 use mathlib.Core.List.{_∷_}
 use Rattle.effect.specs.Effect.{effectWords}
 use Rattle.outcome_bytes.proofs.Laws.{rest-runs}
+use native.Mathlib.Omega.{arith}
 
 put-effect-requires : tie.Need-put-effect-requires
 put-effect-requires c κs = search needs
@@ -27,7 +28,7 @@ same-length : tie.Need-same-length
 same-length c = search needs
 
 returns : tie.Need-returns
-returns c = let fx = effectWords (c .before .before .before .before .before .before .before .before .before .args .e) in rest-runs (c .before .before .before .before .before .before .before .before .before .args .out .now) _ _ (bytesOf (length fx ∷ fx)) (bytes8 0) (c .before .before .before .before .before .before .before .before .before .args .at) _ (c .before .before .before .before .before .before .put-effect .ensures .0) (c .before .before .before .before .before .before .put-effect .ensures .1 .0) (c .before .before .put8 .ensures)
+returns c = let t = (let fx = effectWords (c .before .before .before .before .before .before .before .before .before .args .e) in rest-runs (c .before .before .before .before .before .before .before .before .before .args .out .now) _ _ (bytesOf (length fx ∷ fx)) (bytes8 0) (c .before .before .before .before .before .before .before .before .before .args .at) _ (c .before .before .before .before .before .before .put-effect .ensures .0) (c .before .before .before .before .before .before .put-effect .ensures .1 .0) (c .before .before .put8 .ensures)) in (t .0, (t .1, omega (arith, c .before .before .before .before .before .before .put-effect .ensures .1 .1)))
 
 pub put-rest-spec : {M : Type 1} → statement M
 put-rest-spec =

@@ -12,6 +12,7 @@ use Rattle.effect.specs.Effect.{effectWords}
 use Rattle.answer_words.specs.Words.{answerOf}
 use Rattle.outcome_bytes.specs.Output.{answerWords}
 use Rattle.outcome_bytes.proofs.Laws.{step-runs}
+use native.Mathlib.Omega.{arith}
 
 plain-requires : tie.Need-plain-requires
 plain-requires c κs = search needs
@@ -26,7 +27,7 @@ same-length : tie.Need-same-length
 same-length c = search needs
 
 returns : tie.Need-returns
-returns c = let fx = effectWords (c .before .before .before .before .before .before .before .before .before .before .args .e) in step-runs (c .before .before .before .before .before .before .before .before .before .before .args .out .now) _ _ (bytesOf (answerWords (answerOf (c .before .before .before .before .before .before .before .before .before .before .args .a)))) (bytesOf (length fx ∷ fx)) (bytes8 0) 16 _ (c .before .before .before .before .before .before .put-two .ensures ∙ ap (λ (w : List ℕ). sets (c .before .before .before .before .before .before .before .before .before .before .args .out .now) 0 (bytesOf w)) (c .before .before .before .before .before .before .before .before .plain .ensures)) (ap (λ (w : List ℕ). length (bytesOf w)) (c .before .before .before .before .before .before .before .before .plain .ensures)) (c .before .before .put-rest .ensures .0) (c .before .before .put-rest .ensures .1)
+returns c = let t = (let fx = effectWords (c .before .before .before .before .before .before .before .before .before .before .args .e) in step-runs (c .before .before .before .before .before .before .before .before .before .before .args .out .now) _ _ (bytesOf (answerWords (answerOf (c .before .before .before .before .before .before .before .before .before .before .args .a)))) (bytesOf (length fx ∷ fx)) (bytes8 0) 16 _ (c .before .before .before .before .before .before .put-two .ensures ∙ ap (λ (w : List ℕ). sets (c .before .before .before .before .before .before .before .before .before .before .args .out .now) 0 (bytesOf w)) (c .before .before .before .before .before .before .before .before .plain .ensures)) (ap (λ (w : List ℕ). length (bytesOf w)) (c .before .before .before .before .before .before .before .before .plain .ensures)) (c .before .before .put-rest .ensures .0) (c .before .before .put-rest .ensures .1 .0)) in (t .0, (t .1, omega (arith, c .before .before .put-rest .ensures .1 .1)))
 
 pub put-step-spec : {M : Type 1} → statement M
 put-step-spec =

@@ -1,5 +1,6 @@
 -- `outcome_bytes::put_woken` meets its contract. Assumes nothing.
 use borrow.Author.Needs.{needs}
+use native.Mathlib.Omega.{arith}
 use Rattle.outcome_bytes.proofs.put_woken.Statement.{statement}
 use Rattle.outcome_bytes.proofs.put_woken.Tie as tie
 use mathlib.Core.List.{[], _∷_}
@@ -21,7 +22,7 @@ same-length : tie.Need-same-length
 same-length c = search needs
 
 returns : tie.Need-returns
-returns c = let fx = effectWords (c .before .before .before .before .before .before .before .before .before .before .before .args .e) in told-as (c .before .before .before .before .before .before .before .before .before .before .before .args .out .now) _ _ _ _ fx [] (with-reply (c .before .before .before .before .before .before .before .before .before .before .before .args .a) (c .before .before .before .before .before .before .before .before .before .before .before .args .r) (c .before .before .before .before .before .before .before .before .before .before .before .args .fds) (c .before .before .before .before .before .before .before .before .if1 .taken)) (step-runs (c .before .before .before .before .before .before .before .before .before .before .before .args .out .now) _ _ (bytesOf (answerWords (reply (responseFrom (c .before .before .before .before .before .before .before .before .before .before .before .args .r) (c .before .before .before .before .before .before .before .before .before .before .before .args .fds))))) (bytesOf (length fx ∷ fx)) (bytes8 0) _ _ (c .before .before .before .before .before .before .put-reply .ensures .0) (c .before .before .before .before .before .before .put-reply .ensures .1 .0) (c .before .before .put-rest .ensures .0) (c .before .before .put-rest .ensures .1))
+returns c = let t = (let fx = effectWords (c .before .before .before .before .before .before .before .before .before .before .before .args .e) in told-as (c .before .before .before .before .before .before .before .before .before .before .before .args .out .now) _ _ _ _ fx [] (with-reply (c .before .before .before .before .before .before .before .before .before .before .before .args .a) (c .before .before .before .before .before .before .before .before .before .before .before .args .r) (c .before .before .before .before .before .before .before .before .before .before .before .args .fds) (c .before .before .before .before .before .before .before .before .if1 .taken)) (step-runs (c .before .before .before .before .before .before .before .before .before .before .before .args .out .now) _ _ (bytesOf (answerWords (reply (responseFrom (c .before .before .before .before .before .before .before .before .before .before .before .args .r) (c .before .before .before .before .before .before .before .before .before .before .before .args .fds))))) (bytesOf (length fx ∷ fx)) (bytes8 0) _ _ (c .before .before .before .before .before .before .put-reply .ensures .0) (c .before .before .before .before .before .before .put-reply .ensures .1 .0) (c .before .before .put-rest .ensures .0) (c .before .before .put-rest .ensures .1 .0))) in (t .0, (t .1, omega (arith, c .before .before .put-rest .ensures .1 .1, c .before .before .before .before .before .before .put-reply .ensures .1 .1)))
 
 put-step-requires : tie.Need-put-step-requires
 put-step-requires c κs = search needs
@@ -30,7 +31,7 @@ same-length-2 : tie.Need-same-length-2
 same-length-2 c = search needs
 
 returns-2 : tie.Need-returns-2
-returns-2 c = told-as (c .before .before .before .before .before .before .before .args .out .now) _ _ _ _ (effectWords (c .before .before .before .before .before .before .before .args .e)) [] (without (c .before .before .before .before .before .before .before .args .a) (c .before .before .before .before .before .before .before .args .r) (c .before .before .before .before .before .before .before .args .fds) (c .before .before .before .before .if1 .left)) (c .before .before .put-step .ensures)
+returns-2 c = let t = (told-as (c .before .before .before .before .before .before .before .args .out .now) _ _ _ _ (effectWords (c .before .before .before .before .before .before .before .args .e)) [] (without (c .before .before .before .before .before .before .before .args .a) (c .before .before .before .before .before .before .before .args .r) (c .before .before .before .before .before .before .before .args .fds) (c .before .before .before .before .if1 .left)) (c .before .before .put-step .ensures .0, c .before .before .put-step .ensures .1 .0)) in (t .0, (t .1, c .before .before .put-step .ensures .1 .1))
 
 pub put-woken-spec : {M : Type 1} → statement M
 put-woken-spec =

@@ -42,7 +42,7 @@ same-length-2 : tie.Need-same-length-2
 same-length-2 c = search needs
 
 returns : tie.Need-returns
-returns c = turned (c .before .before .before .before .before .before .before .before .before .before .before .before .before .before .before .before .before .args .out .now) _ _ _ _ _ _ _ _ (read-whole (world (c .before .before .before .before .before .before .before .before .before .before .before .before .before .before .before .before .before .args .s) (c .before .before .before .before .before .before .before .before .before .before .before .before .before .before .before .before .before .args .words .now)) (c .before .before .before .before .before .before .before .before .before .before .before .before .before .before .before .before .before .pre .0) (c .before .before .before .before .before .before .before .before .before .before .before .before .before .before .before .before .before .args .r .words .0) (c .before .before .before .before .before .before .before .before .before .before .before .before .before .before .before .before .before .args .r .number) (c .before .before .before .before .before .before .before .before .before .before .before .before .before .least .result) _ (c .before .before .before .before .before .before .before .before .before .before .before .least2 .result) (c .before .before .before .before .before .before .before .before .before .before .before .before .before .before .before .before .before .args .buf .now) _ (c .before .before .before .before .before .before .before .before .before .before .before .before .before .before .before .before .before .pre .1) (c .before .before .before .before .before .before .before .before .before .before .before .before .before .least .ensures) refl (c .before .before .before .before .before .before .before .before .before .before .before .least2 .ensures ∙ ap (min (c .before .before .before .before .before .before .before .before .before .before .before .before .before .least .result)) (c .before .before .before .before .before .before .before .before .before .before .before .before .unread-bytes .ensures)) (c .before .before .before .before .before .before .before .before .before .read .ensures .1 .1)) (c .before .before .before .before .before .before .before .before .before .read .ensures .0) refl (read-holds (world (c .before .before .before .before .before .before .before .before .before .before .before .before .before .before .before .before .before .args .s) (c .before .before .before .before .before .before .before .before .before .before .before .before .before .before .before .before .before .args .words .now)) (c .before .before .before .before .before .before .before .before .before .before .before .before .before .before .before .before .before .pre .0) (c .before .before .before .before .before .before .before .before .before .before .before .before .before .before .before .before .before .args .r .words .0) (c .before .before .before .before .before .before .before .before .before .before .before .before .before .before .before .before .before .args .r .number) (c .before .before .before .before .before .before .before .before .before .before .before .before .before .least .result) _ (c .before .before .before .before .before .before .before .before .before .before .before .least2 .result) (c .before .before .before .before .before .before .before .before .before .before .before .before .before .before .before .before .before .args .buf .now) _ (c .before .before .before .before .before .before .before .before .before .before .before .before .before .before .before .before .before .pre .1) (c .before .before .before .before .before .before .before .before .before .before .before .before .before .least .ensures) refl (c .before .before .before .before .before .before .before .before .before .before .before .least2 .ensures ∙ ap (min (c .before .before .before .before .before .before .before .before .before .before .before .before .before .least .result)) (c .before .before .before .before .before .before .before .before .before .before .before .before .unread-bytes .ensures)) (c .before .before .before .before .before .before .before .before .before .read .ensures .1 .1)) (c .before .before .before .before .before .before .before .before .before .read .ensures .1 .0) (c .before .before .put-received .ensures)
+returns c = let t = (turned (c .before .before .before .before .before .before .before .before .before .before .before .before .before .before .before .before .before .args .out .now) _ _ _ _ _ _ _ _ (read-whole (world (c .before .before .before .before .before .before .before .before .before .before .before .before .before .before .before .before .before .args .s) (c .before .before .before .before .before .before .before .before .before .before .before .before .before .before .before .before .before .args .words .now)) (c .before .before .before .before .before .before .before .before .before .before .before .before .before .before .before .before .before .pre .0) (c .before .before .before .before .before .before .before .before .before .before .before .before .before .before .before .before .before .args .r .words .0) (c .before .before .before .before .before .before .before .before .before .before .before .before .before .before .before .before .before .args .r .number) (c .before .before .before .before .before .before .before .before .before .before .before .before .before .least .result) _ (c .before .before .before .before .before .before .before .before .before .before .before .least2 .result) (c .before .before .before .before .before .before .before .before .before .before .before .before .before .before .before .before .before .args .buf .now) _ (c .before .before .before .before .before .before .before .before .before .before .before .before .before .before .before .before .before .pre .1) (c .before .before .before .before .before .before .before .before .before .before .before .before .before .least .ensures) refl (c .before .before .before .before .before .before .before .before .before .before .before .least2 .ensures ∙ ap (min (c .before .before .before .before .before .before .before .before .before .before .before .before .before .least .result)) (c .before .before .before .before .before .before .before .before .before .before .before .before .unread-bytes .ensures)) (c .before .before .before .before .before .before .before .before .before .read .ensures .1 .1)) (c .before .before .before .before .before .before .before .before .before .read .ensures .0) refl (read-holds (world (c .before .before .before .before .before .before .before .before .before .before .before .before .before .before .before .before .before .args .s) (c .before .before .before .before .before .before .before .before .before .before .before .before .before .before .before .before .before .args .words .now)) (c .before .before .before .before .before .before .before .before .before .before .before .before .before .before .before .before .before .pre .0) (c .before .before .before .before .before .before .before .before .before .before .before .before .before .before .before .before .before .args .r .words .0) (c .before .before .before .before .before .before .before .before .before .before .before .before .before .before .before .before .before .args .r .number) (c .before .before .before .before .before .before .before .before .before .before .before .before .before .least .result) _ (c .before .before .before .before .before .before .before .before .before .before .before .least2 .result) (c .before .before .before .before .before .before .before .before .before .before .before .before .before .before .before .before .before .args .buf .now) _ (c .before .before .before .before .before .before .before .before .before .before .before .before .before .before .before .before .before .pre .1) (c .before .before .before .before .before .before .before .before .before .before .before .before .before .least .ensures) refl (c .before .before .before .before .before .before .before .before .before .before .before .least2 .ensures ∙ ap (min (c .before .before .before .before .before .before .before .before .before .before .before .before .before .least .result)) (c .before .before .before .before .before .before .before .before .before .before .before .before .unread-bytes .ensures)) (c .before .before .before .before .before .before .before .before .before .read .ensures .1 .1)) (c .before .before .before .before .before .before .before .before .before .read .ensures .1 .0) (c .before .before .put-received .ensures .0, c .before .before .put-received .ensures .1 .0)) in (t .0, (t .1 .0, (t .1 .1, omega (arith, c .before .before .put-received .ensures .1 .1, c .before .before .before .before .before .before .before .before .before .before .before .before .before .least .ensures, c .before .before .before .before .before .before .before .before .before .before .before .least2 .ensures, read-part (world (c .before .before .before .before .before .before .before .before .before .before .before .before .before .before .before .before .before .args .s) (c .before .before .before .before .before .before .before .before .before .before .before .before .before .before .before .before .before .args .words .now)) (c .before .before .before .before .before .before .before .before .before .before .before .before .before .before .before .before .before .pre .0) (c .before .before .before .before .before .before .before .before .before .before .before .before .before .before .before .before .before .args .r .words .0) (c .before .before .before .before .before .before .before .before .before .before .before .before .before .before .before .before .before .args .r .number) (c .before .before .before .before .before .before .before .before .before .before .before .before .before .least .result) _ (c .before .before .before .before .before .before .before .before .before .before .before .least2 .result) (c .before .before .before .before .before .before .before .before .before .before .before .before .before .before .before .before .before .args .buf .now) _ (c .before .before .before .before .before .before .before .before .before .before .before .before .before .before .before .before .before .pre .1) (c .before .before .before .before .before .before .before .before .before .before .before .before .before .least .ensures) refl (c .before .before .before .before .before .before .before .before .before .before .before .least2 .ensures ∙ ap (min (c .before .before .before .before .before .before .before .before .before .before .before .before .before .least .result)) (c .before .before .before .before .before .before .before .before .before .before .before .before .unread-bytes .ensures)) (c .before .before .before .before .before .before .before .before .before .read .ensures .1 .1)))))
 
 pub read-turn-spec : {M : Type 1} → statement M
 read-turn-spec =

@@ -15,7 +15,7 @@ same-length : tie.Need-same-length
 same-length c = search needs
 
 returns : tie.Need-returns
-returns c = turned (c .before .before .before .before .before .before .before .before .before .before .before .before .before .args .out .now) _ _ _ _ _ _ _ _ (c .before .before .before .before .before .before .before .before .before .wake .ensures) refl refl refl refl (c .before .before .put-woken .ensures)
+returns c = let t = (turned (c .before .before .before .before .before .before .before .before .before .before .before .before .before .args .out .now) _ _ _ _ _ _ _ _ (c .before .before .before .before .before .before .before .before .before .wake .ensures) refl refl refl refl (c .before .before .put-woken .ensures .0, c .before .before .put-woken .ensures .1 .0)) in (t .0, (t .1 .0, (t .1 .1, c .before .before .put-woken .ensures .1 .1)))
 
 pub wake-turn-spec : {M : Type 1} → statement M
 wake-turn-spec = tie.close (tie.spec wake-requires put-woken-requires same-length returns)

@@ -2,10 +2,12 @@
 use borrow.Author.Needs.{needs}
 use Rattle.run.proofs.write_turn.Statement.{statement}
 use Rattle.run.proofs.write_turn.Tie as tie
-use mathlib.Core.Path.{refl, ap, _∙_}
+use Prim.Native.Nat.{ℕ, _+_, _*_, _≤_}
+use mathlib.Core.Path.{refl, sym, ap, _∙_, subst}
 use native.Mathlib.Omega.{arith}
 use Rattle.events.specs.World.{world}
-use Rattle.run.proofs.Turns.{front-length, write-part, write-holds, write-fits, write-whole, write-back, write-none, tail-is, turned}
+use Rattle.record.specs.Record.{tailAt, tailOf}
+use Rattle.run.proofs.Turns.{tail-counts, write-most, front-length, write-part, write-holds, write-fits, write-whole, write-back, write-none, tail-is, turned}
 
 least-requires : tie.Need-least-requires
 least-requires c κs = search needs
@@ -53,7 +55,7 @@ same-length-2 : tie.Need-same-length-2
 same-length-2 c = search needs
 
 returns : tie.Need-returns
-returns c = let w = world (c .before .before .before .before .before .before .before .before .before .before .before .before .before .before .before .before .before .before .before .args .s) (c .before .before .before .before .before .before .before .before .before .before .before .before .before .before .before .before .before .before .before .args .words .now) in let t = turned (c .before .before .before .before .before .before .before .before .before .before .before .before .before .before .before .before .before .before .before .args .out .now) _ _ _ _ _ _ _ _ (write-whole (world (c .before .before .before .before .before .before .before .before .before .before .before .before .before .before .before .before .before .before .before .args .s) (c .before .before .before .before .before .before .before .before .before .before .before .before .before .before .before .before .before .before .before .args .words .now)) (c .before .before .before .before .before .before .before .before .before .before .before .before .before .before .before .before .before .before .before .pre .0) (c .before .before .before .before .before .before .before .before .before .before .before .before .before .before .before .before .before .before .before .args .r .words .0) (c .before .before .before .before .before .before .before .before .before .before .before .before .before .before .least .result) _ (c .before .before .before .before .before .before .before .before .before .write .result .words) (c .before .before .before .before .before .before .before .before .before .before .before .before .before .before .before .before .before .before .before .args .fx .now) _ _ _ (c .before .before .before .before .before .before .before .before .before .before .before .before .before .before .least .ensures) refl (c .before .before .before .before .before .before .before .before .before .write .ensures .1 .1 .1 (c .before .before .before .before .before .before .before .before .before .before .before .before .before .before .before .before .before .before .before .args .words .now)) (tail-is (c .before .before .before .before .before .before .before .before .before .before .before .before .before .before .before .before .before .before .before .args .rec .now) _ _ _ _ (c .before .before .before .before .before .before .before .before .before .before .before .before .before .tail-at .ensures .0) (c .before .before .before .before .before .before .before .before .before .before .before .before .tail .ensures .0)) (c .before .before .before .before .before .before .before .before .before .write .ensures .1 .1 .0 (c .before .before .before .before .before .before .before .before .before .before .before .before .before .before .before .before .before .before .before .args .words .now))) (c .before .before .before .before .before .before .before .before .before .write .ensures .0 (c .before .before .before .before .before .before .before .before .before .before .before .before .before .before .before .before .before .before .before .args .words .now)) (write-holds (world (c .before .before .before .before .before .before .before .before .before .before .before .before .before .before .before .before .before .before .before .args .s) (c .before .before .before .before .before .before .before .before .before .before .before .before .before .before .before .before .before .before .before .args .words .now)) (c .before .before .before .before .before .before .before .before .before .before .before .before .before .before .before .before .before .before .before .pre .0) (c .before .before .before .before .before .before .before .before .before .before .before .before .before .before .before .before .before .before .before .args .r .words .0) (c .before .before .before .before .before .before .before .before .before .before .before .before .before .before .least .result) _ (c .before .before .before .before .before .before .before .before .before .write .result .words) (c .before .before .before .before .before .before .before .before .before .before .before .before .before .before .before .before .before .before .before .args .fx .now) _ _ _ (c .before .before .before .before .before .before .before .before .before .before .before .before .before .before .least .ensures) refl (c .before .before .before .before .before .before .before .before .before .write .ensures .1 .1 .1 (c .before .before .before .before .before .before .before .before .before .before .before .before .before .before .before .before .before .before .before .args .words .now)) (tail-is (c .before .before .before .before .before .before .before .before .before .before .before .before .before .before .before .before .before .before .before .args .rec .now) _ _ _ _ (c .before .before .before .before .before .before .before .before .before .before .before .before .before .tail-at .ensures .0) (c .before .before .before .before .before .before .before .before .before .before .before .before .tail .ensures .0)) (c .before .before .before .before .before .before .before .before .before .write .ensures .1 .1 .0 (c .before .before .before .before .before .before .before .before .before .before .before .before .before .before .before .before .before .before .before .args .words .now))) (write-none (world (c .before .before .before .before .before .before .before .before .before .before .before .before .before .before .before .before .before .before .before .args .s) (c .before .before .before .before .before .before .before .before .before .before .before .before .before .before .before .before .before .before .before .args .words .now)) (c .before .before .before .before .before .before .before .before .before .before .before .before .before .before .before .before .before .before .before .pre .0) (c .before .before .before .before .before .before .before .before .before .before .before .before .before .before .before .before .before .before .before .args .r .words .0) (c .before .before .before .before .before .before .before .before .before .before .before .before .before .before .least .result) _ (c .before .before .before .before .before .before .before .before .before .write .result .words) (c .before .before .before .before .before .before .before .before .before .before .before .before .before .before .before .before .before .before .before .args .fx .now) _ _ _ (c .before .before .before .before .before .before .before .before .before .before .before .before .before .before .least .ensures) refl (c .before .before .before .before .before .before .before .before .before .write .ensures .1 .1 .1 (c .before .before .before .before .before .before .before .before .before .before .before .before .before .before .before .before .before .before .before .args .words .now)) (tail-is (c .before .before .before .before .before .before .before .before .before .before .before .before .before .before .before .before .before .before .before .args .rec .now) _ _ _ _ (c .before .before .before .before .before .before .before .before .before .before .before .before .before .tail-at .ensures .0) (c .before .before .before .before .before .before .before .before .before .before .before .before .tail .ensures .0)) (c .before .before .before .before .before .before .before .before .before .write .ensures .1 .1 .0 (c .before .before .before .before .before .before .before .before .before .before .before .before .before .before .before .before .before .before .before .args .words .now))) (c .before .before .before .before .before .before .before .before .before .write .ensures .1 .0 (c .before .before .before .before .before .before .before .before .before .before .before .before .before .before .before .before .before .before .before .args .words .now)) (c .before .before .put-completed .ensures) in (t .0, (t .1 .0, (t .1 .1, write-back (world (c .before .before .before .before .before .before .before .before .before .before .before .before .before .before .before .before .before .before .before .args .s) (c .before .before .before .before .before .before .before .before .before .before .before .before .before .before .before .before .before .before .before .args .words .now)) (c .before .before .before .before .before .before .before .before .before .before .before .before .before .before .before .before .before .before .before .pre .0) (c .before .before .before .before .before .before .before .before .before .before .before .before .before .before .before .before .before .before .before .args .r .words .0) (c .before .before .before .before .before .before .before .before .before .before .before .before .before .before .least .result) _ (c .before .before .before .before .before .before .before .before .before .write .result .words) (c .before .before .before .before .before .before .before .before .before .before .before .before .before .before .before .before .before .before .before .args .fx .now) _ _ _ (c .before .before .before .before .before .before .before .before .before .before .before .before .before .before .least .ensures) refl (c .before .before .before .before .before .before .before .before .before .write .ensures .1 .1 .1 (c .before .before .before .before .before .before .before .before .before .before .before .before .before .before .before .before .before .before .before .args .words .now)) (tail-is (c .before .before .before .before .before .before .before .before .before .before .before .before .before .before .before .before .before .before .before .args .rec .now) _ _ _ _ (c .before .before .before .before .before .before .before .before .before .before .before .before .before .tail-at .ensures .0) (c .before .before .before .before .before .before .before .before .before .before .before .before .tail .ensures .0)) (c .before .before .before .before .before .before .before .before .before .write .ensures .1 .1 .0 (c .before .before .before .before .before .before .before .before .before .before .before .before .before .before .before .before .before .before .before .args .words .now)))))
+returns c = let w = world (c .before .before .before .before .before .before .before .before .before .before .before .before .before .before .before .before .before .before .before .args .s) (c .before .before .before .before .before .before .before .before .before .before .before .before .before .before .before .before .before .before .before .args .words .now) in let t = turned (c .before .before .before .before .before .before .before .before .before .before .before .before .before .before .before .before .before .before .before .args .out .now) _ _ _ _ _ _ _ _ (write-whole (world (c .before .before .before .before .before .before .before .before .before .before .before .before .before .before .before .before .before .before .before .args .s) (c .before .before .before .before .before .before .before .before .before .before .before .before .before .before .before .before .before .before .before .args .words .now)) (c .before .before .before .before .before .before .before .before .before .before .before .before .before .before .before .before .before .before .before .pre .0) (c .before .before .before .before .before .before .before .before .before .before .before .before .before .before .before .before .before .before .before .args .r .words .0) (c .before .before .before .before .before .before .before .before .before .before .before .before .before .before .least .result) _ (c .before .before .before .before .before .before .before .before .before .write .result .words) (c .before .before .before .before .before .before .before .before .before .before .before .before .before .before .before .before .before .before .before .args .fx .now) _ _ _ (c .before .before .before .before .before .before .before .before .before .before .before .before .before .before .least .ensures) refl (c .before .before .before .before .before .before .before .before .before .write .ensures .1 .1 .1 (c .before .before .before .before .before .before .before .before .before .before .before .before .before .before .before .before .before .before .before .args .words .now)) (tail-is (c .before .before .before .before .before .before .before .before .before .before .before .before .before .before .before .before .before .before .before .args .rec .now) _ _ _ _ (c .before .before .before .before .before .before .before .before .before .before .before .before .before .tail-at .ensures .0) (c .before .before .before .before .before .before .before .before .before .before .before .before .tail .ensures .0)) (c .before .before .before .before .before .before .before .before .before .write .ensures .1 .1 .0 (c .before .before .before .before .before .before .before .before .before .before .before .before .before .before .before .before .before .before .before .args .words .now))) (c .before .before .before .before .before .before .before .before .before .write .ensures .0 (c .before .before .before .before .before .before .before .before .before .before .before .before .before .before .before .before .before .before .before .args .words .now)) (write-holds (world (c .before .before .before .before .before .before .before .before .before .before .before .before .before .before .before .before .before .before .before .args .s) (c .before .before .before .before .before .before .before .before .before .before .before .before .before .before .before .before .before .before .before .args .words .now)) (c .before .before .before .before .before .before .before .before .before .before .before .before .before .before .before .before .before .before .before .pre .0) (c .before .before .before .before .before .before .before .before .before .before .before .before .before .before .before .before .before .before .before .args .r .words .0) (c .before .before .before .before .before .before .before .before .before .before .before .before .before .before .least .result) _ (c .before .before .before .before .before .before .before .before .before .write .result .words) (c .before .before .before .before .before .before .before .before .before .before .before .before .before .before .before .before .before .before .before .args .fx .now) _ _ _ (c .before .before .before .before .before .before .before .before .before .before .before .before .before .before .least .ensures) refl (c .before .before .before .before .before .before .before .before .before .write .ensures .1 .1 .1 (c .before .before .before .before .before .before .before .before .before .before .before .before .before .before .before .before .before .before .before .args .words .now)) (tail-is (c .before .before .before .before .before .before .before .before .before .before .before .before .before .before .before .before .before .before .before .args .rec .now) _ _ _ _ (c .before .before .before .before .before .before .before .before .before .before .before .before .before .tail-at .ensures .0) (c .before .before .before .before .before .before .before .before .before .before .before .before .tail .ensures .0)) (c .before .before .before .before .before .before .before .before .before .write .ensures .1 .1 .0 (c .before .before .before .before .before .before .before .before .before .before .before .before .before .before .before .before .before .before .before .args .words .now))) (write-none (world (c .before .before .before .before .before .before .before .before .before .before .before .before .before .before .before .before .before .before .before .args .s) (c .before .before .before .before .before .before .before .before .before .before .before .before .before .before .before .before .before .before .before .args .words .now)) (c .before .before .before .before .before .before .before .before .before .before .before .before .before .before .before .before .before .before .before .pre .0) (c .before .before .before .before .before .before .before .before .before .before .before .before .before .before .before .before .before .before .before .args .r .words .0) (c .before .before .before .before .before .before .before .before .before .before .before .before .before .before .least .result) _ (c .before .before .before .before .before .before .before .before .before .write .result .words) (c .before .before .before .before .before .before .before .before .before .before .before .before .before .before .before .before .before .before .before .args .fx .now) _ _ _ (c .before .before .before .before .before .before .before .before .before .before .before .before .before .before .least .ensures) refl (c .before .before .before .before .before .before .before .before .before .write .ensures .1 .1 .1 (c .before .before .before .before .before .before .before .before .before .before .before .before .before .before .before .before .before .before .before .args .words .now)) (tail-is (c .before .before .before .before .before .before .before .before .before .before .before .before .before .before .before .before .before .before .before .args .rec .now) _ _ _ _ (c .before .before .before .before .before .before .before .before .before .before .before .before .before .tail-at .ensures .0) (c .before .before .before .before .before .before .before .before .before .before .before .before .tail .ensures .0)) (c .before .before .before .before .before .before .before .before .before .write .ensures .1 .1 .0 (c .before .before .before .before .before .before .before .before .before .before .before .before .before .before .before .before .before .before .before .args .words .now))) (c .before .before .before .before .before .before .before .before .before .write .ensures .1 .0 (c .before .before .before .before .before .before .before .before .before .before .before .before .before .before .before .before .before .before .before .args .words .now)) (c .before .before .put-completed .ensures .0, c .before .before .put-completed .ensures .1 .0) in (t .0, (t .1 .0, (t .1 .1, (write-back (world (c .before .before .before .before .before .before .before .before .before .before .before .before .before .before .before .before .before .before .before .args .s) (c .before .before .before .before .before .before .before .before .before .before .before .before .before .before .before .before .before .before .before .args .words .now)) (c .before .before .before .before .before .before .before .before .before .before .before .before .before .before .before .before .before .before .before .pre .0) (c .before .before .before .before .before .before .before .before .before .before .before .before .before .before .before .before .before .before .before .args .r .words .0) (c .before .before .before .before .before .before .before .before .before .before .before .before .before .before .least .result) _ (c .before .before .before .before .before .before .before .before .before .write .result .words) (c .before .before .before .before .before .before .before .before .before .before .before .before .before .before .before .before .before .before .before .args .fx .now) _ _ _ (c .before .before .before .before .before .before .before .before .before .before .before .before .before .before .least .ensures) refl (c .before .before .before .before .before .before .before .before .before .write .ensures .1 .1 .1 (c .before .before .before .before .before .before .before .before .before .before .before .before .before .before .before .before .before .before .before .args .words .now)) (tail-is (c .before .before .before .before .before .before .before .before .before .before .before .before .before .before .before .before .before .before .before .args .rec .now) _ _ _ _ (c .before .before .before .before .before .before .before .before .before .before .before .before .before .tail-at .ensures .0) (c .before .before .before .before .before .before .before .before .before .before .before .before .tail .ensures .0)) (c .before .before .before .before .before .before .before .before .before .write .ensures .1 .1 .0 (c .before .before .before .before .before .before .before .before .before .before .before .before .before .before .before .before .before .before .before .args .words .now)), subst (λ (n : ℕ). n ≤ 192 + 27 * tailOf (c .before .before .before .before .before .before .before .before .before .before .before .before .before .before .before .before .before .before .before .args .r)) (sym (c .before .before .put-completed .ensures .1 .1 ∙ ap (λ (n : ℕ). 32 + 8 * n) (sym (write-part (world (c .before .before .before .before .before .before .before .before .before .before .before .before .before .before .before .before .before .before .before .args .s) (c .before .before .before .before .before .before .before .before .before .before .before .before .before .before .before .before .before .before .before .args .words .now)) (c .before .before .before .before .before .before .before .before .before .before .before .before .before .before .before .before .before .before .before .pre .0) (c .before .before .before .before .before .before .before .before .before .before .before .before .before .before .before .before .before .before .before .args .r .words .0) (c .before .before .before .before .before .before .before .before .before .before .before .before .before .before .least .result) _ (c .before .before .before .before .before .before .before .before .before .write .result .words) (c .before .before .before .before .before .before .before .before .before .before .before .before .before .before .before .before .before .before .before .args .fx .now) _ _ _ (c .before .before .before .before .before .before .before .before .before .before .before .before .before .before .least .ensures) refl (c .before .before .before .before .before .before .before .before .before .write .ensures .1 .1 .1 (c .before .before .before .before .before .before .before .before .before .before .before .before .before .before .before .before .before .before .before .args .words .now)) (tail-is (c .before .before .before .before .before .before .before .before .before .before .before .before .before .before .before .before .before .before .before .args .rec .now) _ _ _ _ (c .before .before .before .before .before .before .before .before .before .before .before .before .before .tail-at .ensures .0) (c .before .before .before .before .before .before .before .before .before .before .before .before .tail .ensures .0)) (c .before .before .before .before .before .before .before .before .before .write .ensures .1 .1 .0 (c .before .before .before .before .before .before .before .before .before .before .before .before .before .before .before .before .before .before .before .args .words .now)))))) (write-most (world (c .before .before .before .before .before .before .before .before .before .before .before .before .before .before .before .before .before .before .before .args .s) (c .before .before .before .before .before .before .before .before .before .before .before .before .before .before .before .before .before .before .before .args .words .now)) (c .before .before .before .before .before .before .before .before .before .before .before .before .before .before .before .before .before .before .before .pre .0) (c .before .before .before .before .before .before .before .before .before .before .before .before .before .before .before .before .before .before .before .args .r .words .0) (c .before .before .before .before .before .before .before .before .before .before .before .before .before .before .least .result) _ (c .before .before .before .before .before .before .before .before .before .write .result .words) (c .before .before .before .before .before .before .before .before .before .before .before .before .before .before .before .before .before .before .before .args .fx .now) _ _ _ (c .before .before .before .before .before .before .before .before .before .before .before .before .before .before .least .ensures) refl (c .before .before .before .before .before .before .before .before .before .write .ensures .1 .1 .1 (c .before .before .before .before .before .before .before .before .before .before .before .before .before .before .before .before .before .before .before .args .words .now)) (tail-is (c .before .before .before .before .before .before .before .before .before .before .before .before .before .before .before .before .before .before .before .args .rec .now) _ _ _ _ (c .before .before .before .before .before .before .before .before .before .before .before .before .before .tail-at .ensures .0) (c .before .before .before .before .before .before .before .before .before .before .before .before .tail .ensures .0)) (c .before .before .before .before .before .before .before .before .before .write .ensures .1 .1 .0 (c .before .before .before .before .before .before .before .before .before .before .before .before .before .before .before .before .before .before .before .args .words .now)) (tailOf (c .before .before .before .before .before .before .before .before .before .before .before .before .before .before .before .before .before .before .before .args .r)) (tail-counts (c .before .before .before .before .before .before .before .before .before .before .before .before .before .before .before .before .before .before .before .args .rec .now) (tailAt (c .before .before .before .before .before .before .before .before .before .before .before .before .before .before .before .before .before .before .before .args .r)) (tailOf (c .before .before .before .before .before .before .before .before .before .before .before .before .before .before .before .before .before .before .before .args .r)) (c .before .before .before .before .before .before .before .before .before .before .before .before .before .before .before .before .before .before .before .pre .1)))))))
 
 pub write-turn-spec : {M : Type 1} → statement M
 write-turn-spec =
