@@ -238,3 +238,39 @@ fn turn(
     }
     list_turn(kind, s, words, rec, r, first, second, out)
 }
+
+// The room that an event's bytes may take.
+fn room(r: Record) -> usize
+    ensures { λ o. ⌜ o ≡ roomOf r ⌝ }
+    ensures { λ o. ⌜ o ≤ 0x40_0000_0000 ⌝ }
+{
+    let n = record::tail(r);
+    if r.kind == 15 {
+        let a = r.words;
+        return 192 + least(a.0, 8192) + 27 * n;
+    }
+    192 + 27 * n
+}
+
+// Whether what a run writes has room in so many bytes.
+fn has_room(events: &[u8], most: usize) -> bool
+    ensures { λ r. ⌜ r ≡ leb (needed (now (events .entry))) most ⌝ }
+{
+    if most < 1608 {
+        return false;
+    }
+    let mut left = most - 1608;
+    let mut at = 0;
+    let mut size = record::next(events);
+    while size != 0 {
+        let r = record::record_at(&events[at..]);
+        let k = room(r);
+        if left < k {
+            return false;
+        }
+        left -= k;
+        at += size;
+        size = record::next(&events[at..]);
+    }
+    true
+}

@@ -1,0 +1,80 @@
+-- The room that a run needs, record by record. Assumes nothing.
+use Prim.Native.Nat.{ℕ, zero, suc, min, _+_, _-_, _*_, _<_, _≤_}
+use mathlib.Core.Path.{_≡_, refl, sym, ap, ap₂, _∙_, subst}
+use mathlib.Core.Bool.{Bool, true, false, cond}
+use mathlib.Core.List.{List}
+use native.Mathlib.Omega.{arith}
+use lib.Dec.{eqb, leb}
+use lib.ListN.{length, take, drop, length-drop}
+use lib.Seq.{drop-drop, take-all}
+use borrow.Author.Tests.{eq-eqb, ne-eqb, le-leb, lt-leb, leb-true, leb-false}
+use Rattle.record.specs.declared.Record.{Record}
+use Rattle.record.specs.Record.{recordOf, tailOf, nextOf, walk}
+use Rattle.record.proofs.Laws.{next-there, walk-ends, walk-goes-on}
+use Rattle.run.specs.Run.{roomOf, needed}
+
+pub part-is : (bs : List ℕ) (k : ℕ) → take (length bs - k) (drop k bs) ≡ drop k bs
+part-is bs k = take-all (length bs - k) (drop k bs) (omega (arith, length-drop k bs))
+
+pub room-is-read : (r : Record) → r .kind ≡ 15 → 192 + min (r .words .0) 8192 + 27 * tailOf r ≡ roomOf r
+room-is-read r e = ap (λ (b : Bool). 192 + cond b (min (r .words .0) 8192) 0 + 27 * tailOf r) (sym (eq-eqb (r .kind) 15 e))
+
+pub room-is-other : (r : Record) → (r .kind ≡ 15 → ⊥) → 192 + 27 * tailOf r ≡ roomOf r
+room-is-other r e =
+    (let z : 192 + 27 * tailOf r ≡ 192 + 0 + 27 * tailOf r = omega arith in z)
+    ∙ ap (λ (b : Bool). 192 + cond b (min (r .words .0) 8192) 0 + 27 * tailOf r) (sym (ne-eqb (r .kind) 15 e))
+
+-- the state's own bytes are always needed
+least-room : (f : ℕ) (bs : List ℕ) → 1608 ≤ walk (λ rest. 1608) (λ rest n. roomOf (recordOf rest) + n) f bs
+least-room zero bs = omega arith
+least-room (suc f) bs = go (eqb (nextOf bs) 0) (least-room f (drop (nextOf bs) bs))
+  where
+    go : (b : Bool) → 1608 ≤ walk (λ rest. 1608) (λ rest n. roomOf (recordOf rest) + n) f (drop (nextOf bs) bs)
+        → 1608 ≤ cond b 1608 (roomOf (recordOf bs) + walk (λ rest. 1608) (λ rest n. roomOf (recordOf rest) + n) f (drop (nextOf bs) bs))
+    go true h = omega arith
+    go false h = omega (arith, h)
+
+pub needed-least : (bs : List ℕ) → 1608 ≤ needed bs
+needed-least bs = least-room (length bs) bs
+
+pub needed-ends : (bs : List ℕ) → nextOf bs ≡ 0 → needed bs ≡ 1608
+needed-ends bs e = walk-ends (λ rest. 1608) (λ rest n. roomOf (recordOf rest) + n) bs e
+
+pub needed-goes-on : (bs : List ℕ) → (nextOf bs ≡ 0 → ⊥) → needed bs ≡ roomOf (recordOf bs) + needed (drop (nextOf bs) bs)
+needed-goes-on bs e = walk-goes-on (λ rest. 1608) (λ rest n. roomOf (recordOf rest) + n) bs e
+
+-- what is left to spend decides as the whole does
+abbrev pub Spent : List ℕ → ℕ → ℕ → ℕ → Type 0
+Spent bs most left at = leb (needed bs) most ≡ leb (needed (drop at bs)) (left + 1608)
+
+pub spent-start : (bs : List ℕ) (most : ℕ) → 1608 ≤ most → Spent bs most (most - 1608) 0
+spent-start bs most h = ap (leb (needed bs)) (let z : most ≡ most - 1608 + 1608 = omega (arith, h) in z)
+
+pub too-short : (bs : List ℕ) (most : ℕ) → most < 1608 → false ≡ leb (needed bs) most
+too-short bs most h = sym (lt-leb (needed bs) most (omega (arith, h, needed-least bs)))
+
+module _ (bs : List ℕ) (most left at k size : ℕ) (so : Spent bs most left at) (es : size ≡ nextOf (drop at bs)) where
+  pub spent-ends : size ≡ 0 → true ≡ leb (needed bs) most
+  spent-ends z = sym (so ∙ le-leb (needed (drop at bs)) (left + 1608) (omega (arith, needed-ends (drop at bs) (sym es ∙ z))))
+
+  module _ (more : size ≡ 0 → ⊥) (r : Record) (er : r ≡ recordOf (drop at bs)) (ek : k ≡ roomOf r) where
+    on : needed (drop at bs) ≡ k + needed (drop (at + size) bs)
+    on =
+        needed-goes-on (drop at bs) (λ z. more (es ∙ z))
+        ∙ ap₂ _+_ (sym (ek ∙ ap roomOf er)) (ap needed (ap (λ (n : ℕ). drop n (drop at bs)) (sym es) ∙ drop-drop size at bs))
+
+    pub spent-short : left < k → false ≡ leb (needed bs) most
+    spent-short h = sym (so ∙ lt-leb (needed (drop at bs)) (left + 1608) (omega (arith, h, on, needed-least (drop (at + size) bs))))
+
+    pub spent-on : k ≤ left → Spent bs most (left - k) (at + size)
+    spent-on h = so ∙ same (needed (drop at bs)) (needed (drop (at + size) bs)) on
+      where
+        same : (n m : ℕ) → n ≡ k + m → leb n (left + 1608) ≡ leb m (left - k + 1608)
+        same n m e = by (leb m (left - k + 1608)) refl
+          where
+            by : (b : Bool) → leb m (left - k + 1608) ≡ b → leb n (left + 1608) ≡ b
+            by true p = le-leb n (left + 1608) (omega (arith, h, e, leb-true m (left - k + 1608) p))
+            by false p = lt-leb n (left + 1608) (omega (arith, h, e, leb-false m (left - k + 1608) p))
+
+  pub spent-place : at ≤ length bs → at + size ≤ length bs
+  spent-place h = omega (arith, h, es, next-there (drop at bs), length-drop at bs)

@@ -1,0 +1,113 @@
+use Rattle.run.proofs.has_room.Statement.{statement}
+use Rattle.run.proofs.has_room.Tie as tie
+use Rattle.run.proofs.has_room.Reads as reads
+use Rattle.run.proofs.has_room.Lts as lts
+use Rattle.record.proofs.next.Reads as next-reads
+use Rattle.record.proofs.record_at.Reads as record-at-reads
+use Rattle.run.proofs.room.Reads as room-reads
+use borrow.Author.Needs.{needs}
+use Prim.Native.Nat.{_+_, _-_, _≤_}
+use mathlib.Core.Path.{_≡_, ap, _∙_}
+use native.Mathlib.Omega.{arith}
+use lib.ListN.{length, drop}
+use Rattle.record.specs.Record.{recordOf, nextOf}
+use Rattle.record.proofs.Laws.{some}
+use Rattle.run.proofs.Rooms.{Spent, part-is, too-short, spent-start, spent-short, spent-on, spent-ends, spent-place}
+
+abbrev Inv-loop : tie.InvT-loop
+Inv-loop events most left₀ at₀ size₀ left at size = (at ≤ length events) × (size ≡ nextOf (drop at events)) × Spent events most left at
+
+abbrev μ-loop : tie.MeasureT-loop
+μ-loop events most left₀ at₀ size₀ left at size = length events - at
+
+-- src/lib.rt:260:9
+returns : tie.Need-returns Inv-loop μ-loop
+returns c = too-short (c .before .before .args .events .now) (c .before .before .args .most) (c .if1 .taken)
+
+-- src/lib.rt:264:9
+next-requires : tie.Need-next-requires Inv-loop μ-loop
+next-requires c κs = search needs
+
+-- src/lib.rt:265:5
+loop-holds : tie.Need-loop-holds Inv-loop μ-loop
+loop-holds c = (omega arith, c .next .ensures, spent-start (c .before .before .before .args .events .now) (c .before .before .before .args .most) (c .before .if1 .left))
+
+-- src/lib.rt:266:35
+sub-record-at : tie.Need-sub-record-at Inv-loop μ-loop
+sub-record-at c = omega (arith, c .before .loop .inv .0)
+
+-- src/lib.rt:266:35
+part-record-at-start : tie.Need-part-record-at-start Inv-loop μ-loop
+part-record-at-start c = omega (arith, c .before .loop .inv .0)
+
+-- src/lib.rt:266:35
+part-record-at-end : tie.Need-part-record-at-end Inv-loop μ-loop
+part-record-at-end c = omega arith
+
+-- src/lib.rt:266:13
+record-at-requires : tie.Need-record-at-requires Inv-loop μ-loop
+record-at-requires c κs = search needs
+
+-- src/lib.rt:267:13
+room-requires : tie.Need-room-requires Inv-loop μ-loop
+room-requires c κs = search needs
+
+-- src/lib.rt:269:13
+returns-2 : tie.Need-returns-2 Inv-loop μ-loop
+returns-2 c = spent-short (c .before .before .before .before .before .before .before .before .before .args .events .now) (c .before .before .before .before .before .before .before .before .before .args .most) (c .before .before .before .before .before .loop .left) (c .before .before .before .before .before .loop .at) (c .before .room .result) (c .before .before .before .before .before .loop .size) (c .before .before .before .before .before .loop .inv .2) (c .before .before .before .before .before .loop .inv .1) (c .before .before .before .before .loop-test .taken) (c .before .before .record-at .result) (c .before .before .record-at .ensures ∙ ap recordOf (part-is (c .before .before .before .before .before .before .before .before .before .args .events .now) (c .before .before .before .before .before .loop .at))) (c .before .room .ensures .0) (c .if2 .taken)
+
+-- src/lib.rt:272:9
+add-at : tie.Need-add-at Inv-loop μ-loop
+add-at c = omega (arith, spent-place (c .before .before .before .before .before .before .before .before .before .args .events .now) (c .before .before .before .before .before .before .before .before .before .args .most) (c .before .before .before .before .before .loop .left) (c .before .before .before .before .before .loop .at) 0 (c .before .before .before .before .before .loop .size) (c .before .before .before .before .before .loop .inv .2) (c .before .before .before .before .before .loop .inv .1) (c .before .before .before .before .before .loop .inv .0), c .before .before .before .before .before .before .before .before .before .good .0 .0)
+
+-- src/lib.rt:273:29
+sub-next : tie.Need-sub-next Inv-loop μ-loop
+sub-next c = omega (arith, spent-place (c .before .before .before .before .before .before .before .before .before .args .events .now) (c .before .before .before .before .before .before .before .before .before .args .most) (c .before .before .before .before .before .loop .left) (c .before .before .before .before .before .loop .at) 0 (c .before .before .before .before .before .loop .size) (c .before .before .before .before .before .loop .inv .2) (c .before .before .before .before .before .loop .inv .1) (c .before .before .before .before .before .loop .inv .0))
+
+-- src/lib.rt:273:29
+part-next-start : tie.Need-part-next-start Inv-loop μ-loop
+part-next-start c = omega (arith, spent-place (c .before .before .before .before .before .before .before .before .before .args .events .now) (c .before .before .before .before .before .before .before .before .before .args .most) (c .before .before .before .before .before .loop .left) (c .before .before .before .before .before .loop .at) 0 (c .before .before .before .before .before .loop .size) (c .before .before .before .before .before .loop .inv .2) (c .before .before .before .before .before .loop .inv .1) (c .before .before .before .before .before .loop .inv .0))
+
+-- src/lib.rt:273:29
+part-next-end : tie.Need-part-next-end Inv-loop μ-loop
+part-next-end c = omega arith
+
+-- src/lib.rt:273:9
+next-requires-2 : tie.Need-next-requires-2 Inv-loop μ-loop
+next-requires-2 c κs = search needs
+
+-- src/lib.rt:265:5
+loop-less : tie.Need-loop-less Inv-loop μ-loop
+loop-less c = omega (arith, spent-place (c .before .before .before .before .before .before .before .before .before .before .before .args .events .now) (c .before .before .before .before .before .before .before .before .before .before .before .args .most) (c .before .before .before .before .before .before .before .loop .left) (c .before .before .before .before .before .before .before .loop .at) 0 (c .before .before .before .before .before .before .before .loop .size) (c .before .before .before .before .before .before .before .loop .inv .2) (c .before .before .before .before .before .before .before .loop .inv .1) (c .before .before .before .before .before .before .before .loop .inv .0), some (c .before .before .before .before .before .before .before .loop .size) (c .before .before .before .before .before .before .loop-test .taken))
+
+-- src/lib.rt:265:5
+loop-again : tie.Need-loop-again Inv-loop μ-loop
+loop-again c = (spent-place (c .before .before .before .before .before .before .before .before .before .before .before .args .events .now) (c .before .before .before .before .before .before .before .before .before .before .before .args .most) (c .before .before .before .before .before .before .before .loop .left) (c .before .before .before .before .before .before .before .loop .at) 0 (c .before .before .before .before .before .before .before .loop .size) (c .before .before .before .before .before .before .before .loop .inv .2) (c .before .before .before .before .before .before .before .loop .inv .1) (c .before .before .before .before .before .before .before .loop .inv .0), c .next2 .ensures ∙ ap nextOf (part-is (c .before .before .before .before .before .before .before .before .before .before .before .args .events .now) (c .before .before .before .before .before .before .before .loop .at + c .before .before .before .before .before .before .before .loop .size)), spent-on (c .before .before .before .before .before .before .before .before .before .before .before .args .events .now) (c .before .before .before .before .before .before .before .before .before .before .before .args .most) (c .before .before .before .before .before .before .before .loop .left) (c .before .before .before .before .before .before .before .loop .at) (c .before .before .before .room .result) (c .before .before .before .before .before .before .before .loop .size) (c .before .before .before .before .before .before .before .loop .inv .2) (c .before .before .before .before .before .before .before .loop .inv .1) (c .before .before .before .before .before .before .loop-test .taken) (c .before .before .before .before .record-at .result) (c .before .before .before .before .record-at .ensures ∙ ap recordOf (part-is (c .before .before .before .before .before .before .before .before .before .before .before .args .events .now) (c .before .before .before .before .before .before .before .loop .at))) (c .before .before .before .room .ensures .0) (c .before .before .if2 .left))
+
+-- src/lib.rt:256:1
+returns-3 : tie.Need-returns-3 Inv-loop μ-loop
+returns-3 c = spent-ends (c .before .before .before .before .before .args .events .now) (c .before .before .before .before .before .args .most) (c .before .loop .left) (c .before .loop .at) 0 (c .before .loop .size) (c .before .loop .inv .2) (c .before .loop .inv .1) (c .loop-test .left)
+
+pub has-room-spec : {M : Type 1} → statement M
+has-room-spec =
+    tie.close
+    (tie.spec
+    Inv-loop
+    μ-loop
+    returns
+    next-requires
+    loop-holds
+    sub-record-at
+    part-record-at-start
+    part-record-at-end
+    record-at-requires
+    room-requires
+    returns-2
+    add-at
+    sub-next
+    part-next-start
+    part-next-end
+    next-requires-2
+    loop-less
+    loop-again
+    returns-3)
