@@ -194,3 +194,6 @@ next-run l m n xs ys i j k em ek ej en = two-runs l m n xs ys i j em (omega (ari
 -- 64 words more are 512 bytes more
 pub sixty-four : (xs ws : List ℕ) (n : ℕ) → length xs ≡ n → length ws ≡ 64 → length (xs ++ bytesOf ws) ≡ n + 512
 sixty-four xs ws n ex ew = omega (arith, ex, ew, length-append xs (bytesOf ws), bytesOf-length ws)
+
+pub whole-size : (xs ns ss ws : List ℕ) → ns ≡ bytesOf ws → length ws ≡ 64 → length xs ≡ 1032 → length ss ≡ 64 → length (xs ++ ns ++ ss) ≡ 1608
+whole-size xs ns ss ws en ew ex es = omega (arith, ap length en, ew, ex, es, bytesOf-length ws, length-append xs ns, length-append (xs ++ ns) ss)

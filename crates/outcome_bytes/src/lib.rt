@@ -273,6 +273,7 @@ fn put_handles(out: &mut [u8], at: usize, n: Handles)
 // The state at the end of a run.
 pub fn put_state(out: &mut [u8], s: State)
     ensures { λ r. ⌜ ((ws : Words ℕ) → now (out .exit) ≡ sets (now (out .entry)) 0 (stateBytes (world s ws))) ⌝ }
+    ensures { λ r. ⌜ ((ws : Words ℕ) → length (stateBytes (world s ws)) ≡ 1608) ⌝ }
 {
     let t = s.table;
     let h = t.holds;

@@ -2,7 +2,7 @@
 use Prim.Native.Nat.{ℕ, _+_, _-_, _*_, min}
 use mathlib.Core.Bool.{cond}
 use mathlib.Core.List.{List, [], _∷_, _++_}
-use lib.Dec.{eqb, ltb}
+use lib.Dec.{eqb, leb}
 use lib.ListN.{length, take, drop, replicate}
 use lib.Seq.{sets}
 use Rattle.events.specs.World.{World}
@@ -60,18 +60,21 @@ roomOf r = 192 + cond (eqb (r .kind) 15) (min (r .words .0) 8192) 0 + 27 * tailO
 abbrev pub needed : List ℕ → ℕ
 needed bs = walk (λ rest. 1608) (λ rest n. roomOf (recordOf rest) + n) (length bs) bs
 
--- 204, nothing written; 205, the record at `place` is no event; 0, all were run
-abbrev pub endOf : ℕ → ℕ → ℕ → List ℕ → RunEnd
-endOf scheme lent most bs =
-    cond (ltb most (needed bs)) (record { number = 204; place = 0; written = 0 })
-    (record {
+-- 205, the record at `place` is no event; 0, all were run
+abbrev pub wholeEnd : ℕ → ℕ → List ℕ → RunEnd
+wholeEnd scheme lent bs =
+    record {
       number = cond (eqb (decoded lent bs .left) 0) 0 205;
       place = length bs - decoded lent bs .left;
       written = length (outputOf (runOf scheme lent bs));
-    })
+    }
+
+-- 204, the output is too short, and nothing is run or written
+abbrev pub endOf : ℕ → ℕ → ℕ → List ℕ → RunEnd
+endOf scheme lent most bs = cond (leb (needed bs) most) (wholeEnd scheme lent bs) (record { number = 204; place = 0; written = 0 })
 
 abbrev pub outAfter : ℕ → ℕ → List ℕ → List ℕ → List ℕ
-outAfter scheme lent out bs = cond (ltb (length out) (needed bs)) out (sets out 0 (outputOf (runOf scheme lent bs)))
+outAfter scheme lent out bs = cond (leb (needed bs) (length out)) (sets out 0 (outputOf (runOf scheme lent bs))) out
 
 abbrev pub fxAfter : ℕ → ℕ → List ℕ → List ℕ → List ℕ
-fxAfter scheme most fx bs = cond (ltb most (needed bs)) fx (lentAfter fx (runOf scheme (length fx) bs .turns))
+fxAfter scheme most fx bs = cond (leb (needed bs) most) (lentAfter fx (runOf scheme (length fx) bs .turns)) fx

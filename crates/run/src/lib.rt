@@ -6,8 +6,9 @@ use schemev2::Args;
 use state::State;
 ghost use mathlib.Core.Path.{_≡_};
 ghost use mathlib.Core.List.{List};
-ghost use Prim.Native.Nat.{ℕ, _+_, _*_, _≤_, _<_, min};
-ghost use lib.Dec.{leb};
+ghost use Prim.Native.Nat.{ℕ, _+_, _-_, _*_, _≤_, _<_, min};
+ghost use mathlib.Core.Bool.{cond};
+ghost use lib.Dec.{eqb, leb};
 ghost use lib.ListN.{length};
 ghost use lib.Seq.{sets};
 ghost use Rattle.answer_words.specs.Words.{answerOf};
@@ -18,7 +19,7 @@ ghost use Rattle.events.specs.Event.{step};
 ghost use Rattle.events.specs.Whole.{Whole};
 ghost use Rattle.outcome_bytes.specs.Output.{outcomeBytes};
 ghost use Rattle.record.specs.Record.{recordOf, tailAt, tailOf, nextOf, eventNamed, eventAt};
-ghost use Rattle.run.specs.Run.{wakeIn, readIn, writeIn, listIn, storedBy, roomOf, needed, endOf, outAfter, fxAfter};
+ghost use Rattle.run.specs.Run.{wakeIn, readIn, writeIn, listIn, storedBy, roomOf, needed, runOf, outputOf, lentAfter, wholeEnd, endOf, outAfter, fxAfter};
 
 // The run's own answer: 0, 204 or 205, the place of the record that is no event, and how many bytes were written.
 #[repr(C)]
@@ -273,4 +274,71 @@ fn has_room(events: &[u8], most: usize) -> bool
         size = record::next(&events[at..]);
     }
     true
+}
+
+// 205 for a record that is no event.
+fn number_at(at: usize, len: usize) -> u64
+    ensures { λ r. ⌜ r ≡ cond (eqb (len - at) 0) 0 205 ⌝ }
+{
+    if at < len {
+        return 205;
+    }
+    0
+}
+
+fn run_all(scheme: u64, events: &[u8], out: &mut [u8], fx: &mut [u64]) -> RunEnd
+    requires { ⌜ needed (now events) ≤ length (now out) ⌝ }
+    ensures { λ r. ⌜ r ≡ wholeEnd scheme (length (now (fx .entry))) (now (events .entry)) ⌝ }
+    ensures { λ r. ⌜ now (out .exit) ≡ sets (now (out .entry)) 0 (outputOf (runOf scheme (length (now (fx .entry))) (now (events .entry)))) ⌝ }
+    ensures { λ r. ⌜ now (fx .exit) ≡ lentAfter (now (fx .entry)) (runOf scheme (length (now (fx .entry))) (now (events .entry)) .turns) ⌝ }
+    ensures { λ r. ⌜ r .written ≤ length (now (out .entry)) ⌝ }
+{
+    let mut words = [0; 1024];
+    let mut buf = [0; 8192];
+    let mut first = [0; 255];
+    let mut second = [0; 255];
+    let mut s = state::fresh(scheme);
+    let mut at = 0;
+    let mut j = 0;
+    let mut size = record::next(events);
+    while size != 0 {
+        let t = turn(
+            s,
+            &mut words,
+            &events[at..],
+            fx,
+            &mut buf,
+            &mut first,
+            &mut second,
+            &mut out[j..],
+        );
+        let after = t.state;
+        s = after;
+        j += t.used;
+        at += size;
+        size = record::next(&events[at..]);
+    }
+    outcome_bytes::put_state(&mut out[j..], s);
+    RunEnd {
+        number: number_at(at, events.len()),
+        place: at as u64,
+        written: (j + 1608) as u64,
+    }
+}
+
+// Events one after the other, from a fresh state with its scheme number. Writes are lent the first of `fx`.
+pub fn run(scheme: u64, events: &[u8], out: &mut [u8], fx: &mut [u64]) -> RunEnd
+    ensures { λ r. ⌜ r ≡ endOf scheme (length (now (fx .entry))) (length (now (out .entry))) (now (events .entry)) ⌝ }
+    ensures { λ r. ⌜ now (out .exit) ≡ outAfter scheme (length (now (fx .entry))) (now (out .entry)) (now (events .entry)) ⌝ }
+    ensures { λ r. ⌜ now (fx .exit) ≡ fxAfter scheme (length (now (out .entry))) (now (fx .entry)) (now (events .entry)) ⌝ }
+    ensures { λ r. ⌜ r .written ≤ length (now (out .entry)) ⌝ }
+{
+    if has_room(events, out.len()) {
+        return run_all(scheme, events, out, fx);
+    }
+    RunEnd {
+        number: 204,
+        place: 0,
+        written: 0,
+    }
 }

@@ -6,7 +6,7 @@ use mathlib.Core.Path.{refl}
 use mathlib.Core.List.{[], _∷_, _++_}
 use Rattle.le.specs.Le.{bytesOf}
 use Rattle.outcome_bytes.specs.Output.{statusWords}
-use Rattle.outcome_bytes.proofs.Laws.{next-run, sixty-four}
+use Rattle.outcome_bytes.proofs.Laws.{next-run, sixty-four, whole-size}
 
 cast-put8 : tie.Need-cast-put8
 cast-put8 c = search needs
@@ -30,7 +30,7 @@ same-length : tie.Need-same-length
 same-length c = search needs
 
 returns : tie.Need-returns
-returns c = let l = c .before .before .before .before .before .before .before .before .before .before .before .before .before .before .before .before .before .before .before .before .before .before .before .before .before .before .before .args .out .now in let s = c .before .before .before .before .before .before .before .before .before .before .before .before .before .before .before .before .before .before .before .before .before .before .before .before .before .before .before .args .s in let q = bytesOf (s .driver .queue .len ∷ []) in let h = bytesOf (s .table .holds .holds) in let o = bytesOf (s .table .holds .outside) in let n = bytesOf (s .driver .handles .at) in let e = next-run l _ _ (q ++ h ++ o ++ n) (bytesOf (statusWords (s .table))) 0 1544 1544 (next-run l _ _ (q ++ h ++ o) n 0 1032 1032 (next-run l _ _ (q ++ h) o 0 520 520 (next-run l _ _ q h 0 8 8 (c .before .before .before .before .before .before .before .before .before .before .before .before .before .before .before .before .before .before .put8 .ensures) refl refl (c .before .before .before .before .before .before .before .before .before .before .before .before .before .before .put-holds .ensures .0)) (sixty-four q (s .table .holds .holds) 8 refl (c .before .before .before .before .before .before .before .before .before .before .before .before .before .before .put-holds .ensures .1)) refl (c .before .before .before .before .before .before .before .before .before .before .put-outside .ensures .0)) (sixty-four (q ++ h) (s .table .holds .outside) 520 (sixty-four q (s .table .holds .holds) 8 refl (c .before .before .before .before .before .before .before .before .before .before .before .before .before .before .put-holds .ensures .1)) (c .before .before .before .before .before .before .before .before .before .before .put-outside .ensures .1)) refl (c .before .before .before .before .before .before .put-handles .ensures .0)) (sixty-four (q ++ h ++ o) (s .driver .handles .at) 1032 (sixty-four (q ++ h) (s .table .holds .outside) 520 (sixty-four q (s .table .holds .holds) 8 refl (c .before .before .before .before .before .before .before .before .before .before .before .before .before .before .put-holds .ensures .1)) (c .before .before .before .before .before .before .before .before .before .before .put-outside .ensures .1)) (c .before .before .before .before .before .before .put-handles .ensures .1)) refl (c .before .before .put-statuses .ensures) in λ ws. e
+returns c = let l = c .before .before .before .before .before .before .before .before .before .before .before .before .before .before .before .before .before .before .before .before .before .before .before .before .before .before .before .args .out .now in let s = c .before .before .before .before .before .before .before .before .before .before .before .before .before .before .before .before .before .before .before .before .before .before .before .before .before .before .before .args .s in let q = bytesOf (s .driver .queue .len ∷ []) in let h = bytesOf (s .table .holds .holds) in let o = bytesOf (s .table .holds .outside) in let n = bytesOf (s .driver .handles .at) in let e = next-run l _ _ (q ++ h ++ o ++ n) (bytesOf (statusWords (s .table))) 0 1544 1544 (next-run l _ _ (q ++ h ++ o) n 0 1032 1032 (next-run l _ _ (q ++ h) o 0 520 520 (next-run l _ _ q h 0 8 8 (c .before .before .before .before .before .before .before .before .before .before .before .before .before .before .before .before .before .before .put8 .ensures) refl refl (c .before .before .before .before .before .before .before .before .before .before .before .before .before .before .put-holds .ensures .0)) (sixty-four q (s .table .holds .holds) 8 refl (c .before .before .before .before .before .before .before .before .before .before .before .before .before .before .put-holds .ensures .1)) refl (c .before .before .before .before .before .before .before .before .before .before .put-outside .ensures .0)) (sixty-four (q ++ h) (s .table .holds .outside) 520 (sixty-four q (s .table .holds .holds) 8 refl (c .before .before .before .before .before .before .before .before .before .before .before .before .before .before .put-holds .ensures .1)) (c .before .before .before .before .before .before .before .before .before .before .put-outside .ensures .1)) refl (c .before .before .before .before .before .before .put-handles .ensures .0)) (sixty-four (q ++ h ++ o) (s .driver .handles .at) 1032 (sixty-four (q ++ h) (s .table .holds .outside) 520 (sixty-four q (s .table .holds .holds) 8 refl (c .before .before .before .before .before .before .before .before .before .before .before .before .before .before .put-holds .ensures .1)) (c .before .before .before .before .before .before .before .before .before .before .put-outside .ensures .1)) (c .before .before .before .before .before .before .put-handles .ensures .1)) refl (c .before .before .put-statuses .ensures) in (λ ws. e, λ ws. whole-size (q ++ h ++ o) n (bytesOf (statusWords (s .table))) (s .driver .handles .at) refl (c .before .before .before .before .before .before .put-handles .ensures .1) (sixty-four (q ++ h) (s .table .holds .outside) 520 (sixty-four q (s .table .holds .holds) 8 refl (c .before .before .before .before .before .before .before .before .before .before .before .before .before .before .put-holds .ensures .1)) (c .before .before .before .before .before .before .before .before .before .before .put-outside .ensures .1)) refl)
 
 pub put-state-spec : {M : Type 1} → statement M
 put-state-spec =

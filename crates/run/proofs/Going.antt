@@ -1,0 +1,201 @@
+-- The loop of a run: what was done is the run of the first events. Assumes nothing.
+use Prim.Native.Nat.{ℕ, zero, suc, _+_, _-_, _<_, _≤_}
+use mathlib.Core.Path.{_≡_, refl, sym, ap, ap₂, _∙_, subst}
+use mathlib.Core.Bool.{Bool, cond}
+use mathlib.Core.List.{List, [], _∷_, _++_, append-assoc, append-nil}
+use native.Mathlib.Omega.{arith}
+use lib.Dec.{eqb}
+use lib.ListN.{length, set, take, drop, replicate, length-replicate, length-append, length-drop, take-append-drop, drop-of-length-le}
+use lib.Seq.{sets, length-sets, length-take-le, drop-drop}
+use Rattle.le_put.proofs.Stores.{sets-then}
+use Rattle.state.specs.declared.State.{State}
+use Rattle.state.specs.State.{freshState}
+use Rattle.events.specs.World.{World, world}
+use Rattle.events.specs.Event.{Event, step}
+use Rattle.events.specs.Run.{Turn, Run, next, runFrom, run}
+use Rattle.events.specs.Whole.{Whole}
+use Rattle.events.proofs.Whole.{whole-run}
+use Rattle.outcome_bytes.specs.Output.{outcomeBytes, stateBytes}
+use Rattle.record.specs.Record.{recordOf, nextOf, eventAt, Decoded, stops, before, decoded}
+use Rattle.record.proofs.Laws.{some, next-there, walk-ends, walk-goes-on}
+use Rattle.run.specs.declared.RunEnd.{RunEnd}
+use Rattle.run.specs.Run.{runOf, storedBy, toldOf, lentAfter, outputOf, roomOf, needed, wholeEnd}
+use Rattle.run.proofs.Rooms.{part-is, needed-ends, needed-goes-on}
+
+-- a run of one event more
+run-more : (es : List Event) (r : Run) (e : Event) → runFrom r (es ++ (e ∷ [])) ≡ next (runFrom r es) e
+run-more [] r e = refl
+run-more (x ∷ es) r e = run-more es (next r x) e
+
+lent-length : (fx : List ℕ) (ts : List Turn) → length (lentAfter fx ts) ≡ length fx
+lent-length fx [] = refl
+lent-length fx (t ∷ ts) = length-sets (lentAfter fx ts) 0 (storedBy (t .before) (t .event)) ∙ lent-length fx ts
+
+-- stores behind a place
+set-behind : (ps ys : List ℕ) (i a : ℕ) → set (ps ++ ys) (length ps + i) a ≡ ps ++ set ys i a
+set-behind [] ys i a = ap (λ (n : ℕ). set ys n a) (let z : 0 + i ≡ i = omega arith in z)
+set-behind (p ∷ ps) ys i a =
+    ap (λ (n : ℕ). set (p ∷ (ps ++ ys)) n a) (let z : suc (length ps) + i ≡ suc (length ps + i) = omega arith in z) ∙ ap (λ (l : List ℕ). p ∷ l) (set-behind ps ys i a)
+
+sets-behind : (vs ps ys : List ℕ) (i : ℕ) → sets (ps ++ ys) (length ps + i) vs ≡ ps ++ sets ys i vs
+sets-behind [] ps ys i = refl
+sets-behind (v ∷ vs) ps ys i =
+    ap₂ (λ (l : List ℕ) (n : ℕ). sets l n vs) (set-behind ps ys i v) (let z : suc (length ps + i) ≡ length ps + suc i = omega arith in z) ∙ sets-behind vs ps (set ys i v) (suc i)
+
+-- the part behind a place was lent, and has been stored into
+pub behind : (out xs ys : List ℕ) (j : ℕ) → j ≤ length out → ys ≡ sets (take (length out - j) (drop j out)) 0 xs → take j out ++ (ys ++ drop (length out - j) (drop j out)) ≡ sets out j xs
+behind out xs ys j h e =
+    ap₂ (λ (a b : List ℕ). take j out ++ (a ++ b)) (e ∙ ap (λ (l : List ℕ). sets l 0 xs) (part-is out j)) (drop-of-length-le (drop j out) {i = length out - j} (omega (arith, length-drop j out)))
+    ∙ ap (λ (l : List ℕ). take j out ++ l) (append-nil (sets (drop j out) 0 xs))
+    ∙ sym (sets-behind xs (take j out) (drop j out) 0)
+    ∙ ap₂ (λ (l : List ℕ) (n : ℕ). sets l n xs) (take-append-drop j out) (let z : length (take j out) + 0 ≡ j = omega (arith, length-take-le j out h) in z)
+
+abbrev after : List Event → Decoded → Decoded
+after es d = record { events = es ++ d .events; left = d .left }
+
+abbrev zeros : List ℕ
+zeros = replicate 1024 0
+
+pub record Going (scheme : ℕ) (ev out₀ fx₀ out fx words : List ℕ) (s : State) (at j size : ℕ) : Type 0 where
+  pub done : List Event
+  pub state : world s words ≡ run scheme zeros done .world
+  pub lent : fx ≡ lentAfter fx₀ (run scheme zeros done .turns)
+  pub told : out ≡ sets out₀ 0 (toldOf (run scheme zeros done .turns))
+  pub count : j ≡ length (toldOf (run scheme zeros done .turns))
+  pub rest : decoded (length fx₀) ev ≡ after done (decoded (length fx₀) (drop at ev))
+  pub room : j + needed (drop at ev) ≤ length out₀
+  pub place : at ≤ length ev
+  pub «next» : size ≡ nextOf (drop at ev)
+
+pub begins :
+    (scheme : ℕ) (ev out fx : List ℕ) (s : State) (size : ℕ) → needed ev ≤ length out → s ≡ freshState scheme → size ≡ nextOf ev → Going scheme ev out fx out fx zeros s 0 0 size
+begins scheme ev out fx s size h es en =
+    record {
+      done = [];
+      state = ap (λ (x : State). world x zeros) es;
+      lent = refl;
+      told = refl;
+      count = refl;
+      rest = refl;
+      room = omega (arith, h);
+      place = omega arith;
+      «next» = en;
+    }
+
+module _ (scheme : ℕ) (ev out₀ fx₀ out fx words : List ℕ) (s : State) (at j size : ℕ) (g : Going scheme ev out₀ fx₀ out fx words s at j size) where
+  abbrev R : Run
+  R = run scheme zeros (g .done)
+
+  pub whole : Whole (world s words)
+  whole = subst Whole (sym (g .state)) (whole-run scheme zeros (length-replicate {A = ℕ} 1024 0) (g .done))
+
+  pub out-length : length out ≡ length out₀
+  out-length = ap length (g .told) ∙ length-sets out₀ 0 (toldOf (R .turns))
+
+  pub fx-length : length fx ≡ length fx₀
+  fx-length = ap length (g .lent) ∙ lent-length fx₀ (R .turns)
+
+  pub in-out : j ≤ length out
+  in-out = omega (arith, g .room, out-length)
+
+  pub some-next : (size ≡ 0 → ⊥) → 0 < nextOf (take (length ev - at) (drop at ev))
+  some-next more = some (nextOf (take (length ev - at) (drop at ev))) (λ z. more (g .«next» ∙ ap nextOf (sym (part-is ev at)) ∙ z))
+
+  pub place-more : at + size ≤ length ev
+  place-more = omega (arith, g .place, g .«next», next-there (drop at ev), length-drop at ev)
+
+  rest-is : drop (nextOf (drop at ev)) (drop at ev) ≡ drop (at + size) ev
+  rest-is = ap (λ (n : ℕ). drop n (drop at ev)) (sym (g .«next»)) ∙ drop-drop size at ev
+
+  some-left : (size ≡ 0 → ⊥) → nextOf (drop at ev) ≡ 0 → ⊥
+  some-left more z = more (g .«next» ∙ z)
+
+  pub room-more : (size ≡ 0 → ⊥) → (used : ℕ) → used ≤ roomOf (recordOf (take (length ev - at) (drop at ev))) → j + used + needed (drop (at + size) ev) ≤ length out₀
+  room-more more used few =
+      omega (arith, g .room, few, ap (λ (x : List ℕ). roomOf (recordOf x)) (part-is ev at), needed-goes-on (drop at ev) (some-left more), ap needed rest-is)
+
+  abbrev part : List ℕ
+  part = take (length ev - at) (drop at ev)
+
+  -- one event more
+  module _ (more : size ≡ 0 → ⊥) (out' fx' words' : List ℕ) (s' : State) (used : ℕ) (es : world s' words' ≡ step (world s words) (eventAt (length fx) part) .world)
+      (eo : out' ≡ sets out j (outcomeBytes (step (world s words) (eventAt (length fx) part)))) (eu : used ≡ length (outcomeBytes (step (world s words) (eventAt (length fx) part))))
+      (ef : fx' ≡ sets fx 0 (storedBy (world s words) (eventAt (length fx) part))) (few : used ≤ roomOf (recordOf part)) where
+    abbrev e : Event
+    e = eventAt (length fx₀) (drop at ev)
+
+    same-event : eventAt (length fx) part ≡ e
+    same-event = ap₂ eventAt fx-length (part-is ev at)
+
+    told-is : outcomeBytes (step (world s words) (eventAt (length fx) part)) ≡ outcomeBytes (step (R .world) e)
+    told-is = ap₂ (λ (w : World) (x : Event). outcomeBytes (step w x)) (g .state) same-event
+
+    more-is : run scheme zeros (g .done ++ (e ∷ [])) ≡ next R e
+    more-is = run-more (g .done) _ e
+
+    pub goes-on : (size' : ℕ) → size' ≡ nextOf (drop (at + size) ev) → Going scheme ev out₀ fx₀ out' fx' words' s' (at + size) (j + used) size'
+    goes-on size' en =
+        record {
+          done = g .done ++ (e ∷ []);
+          state = es ∙ ap₂ (λ (w : World) (x : Event). step w x .world) (g .state) same-event ∙ sym (ap (λ (r : Run). r .world) more-is);
+          lent =
+              ef ∙ ap₂ (λ (l : List ℕ) (x : List ℕ). sets l 0 x) (g .lent) (ap₂ storedBy (g .state) same-event) ∙ sym (ap (λ (r : Run). lentAfter fx₀ (r .turns)) more-is);
+          told =
+              eo
+              ∙ ap₂ (λ (l : List ℕ) (n : ℕ). sets l n (outcomeBytes (step (world s words) (eventAt (length fx) part)))) (g .told) (let z : j ≡ 0 + length (toldOf (R .turns)) = omega (arith, g .count) in z)
+              ∙ ap (sets (sets out₀ 0 (toldOf (R .turns))) (0 + length (toldOf (R .turns)))) told-is
+              ∙ sets-then (toldOf (R .turns)) (outcomeBytes (step (R .world) e)) out₀ 0
+              ∙ sym (ap (λ (r : Run). sets out₀ 0 (toldOf (r .turns))) more-is);
+          count =
+              (let z : j + used ≡ length (toldOf (R .turns) ++ outcomeBytes (step (R .world) e)) = omega (arith, g .count, eu, ap length told-is, length-append (toldOf (R .turns)) (outcomeBytes (step (R .world) e))) in z)
+              ∙ sym (ap (λ (r : Run). length (toldOf (r .turns))) more-is);
+          rest =
+              g .rest
+              ∙ ap (after (g .done)) (walk-goes-on stops (λ bs d. before (eventAt (length fx₀) bs) d) (drop at ev) (some-left more) ∙ ap (λ (x : List ℕ). before e (decoded (length fx₀) x)) rest-is)
+              ∙ ap (λ (l : List Event). record { events = l; left = decoded (length fx₀) (drop (at + size) ev) .left }) (sym (append-assoc (g .done) (e ∷ []) (decoded (length fx₀) (drop (at + size) ev) .events)));
+          room = room-more more used few;
+          place = place-more;
+          «next» = en;
+        }
+
+  -- the end
+  module _ (none : size ≡ 0) where
+    all-done : decoded (length fx₀) ev ≡ record { events = g .done; left = length ev - at }
+    all-done =
+        g .rest ∙ ap (after (g .done)) (walk-ends stops (λ bs d. before (eventAt (length fx₀) bs) d) (drop at ev) (sym (g .«next») ∙ none))
+        ∙ ap₂ (λ (l : List Event) (n : ℕ). record { events = l; left = n }) (append-nil (g .done)) (length-drop at ev)
+
+    run-is : runOf scheme (length fx₀) ev ≡ R
+    run-is = ap (λ (d : Decoded). run scheme zeros (d .events)) all-done
+
+    pub end-room : j + 1608 ≤ length out₀
+    end-room = omega (arith, g .room, needed-ends (drop at ev) (sym (g .«next») ∙ none))
+
+    module _ (out' : List ℕ) (size-is : length (stateBytes (world s words)) ≡ 1608) (eo : out' ≡ sets out j (stateBytes (world s words))) where
+      state-is : stateBytes (world s words) ≡ stateBytes (R .world)
+      state-is = ap stateBytes (g .state)
+
+      pub out-is : out' ≡ sets out₀ 0 (outputOf (runOf scheme (length fx₀) ev))
+      out-is =
+          eo
+          ∙ ap₂ (λ (l : List ℕ) (n : ℕ). sets l n (stateBytes (world s words))) (g .told) (let z : j ≡ 0 + length (toldOf (R .turns)) = omega (arith, g .count) in z)
+          ∙ sets-then (toldOf (R .turns)) (stateBytes (world s words)) out₀ 0
+          ∙ ap (λ (x : List ℕ). sets out₀ 0 (toldOf (R .turns) ++ x)) state-is
+          ∙ sym (ap (λ (r : Run). sets out₀ 0 (outputOf r)) run-is)
+
+      pub end-is : (k : ℕ) → k ≡ cond (eqb (length ev - at) 0) 0 205 → record { number = k; place = at; written = j + 1608 } ≡ wholeEnd scheme (length fx₀) ev
+      end-is k ek =
+          λ i. record {
+            number = (ek ∙ sym (ap (λ (d : Decoded). cond (eqb (d .left) 0) 0 205) all-done)) i;
+            place = ((let z : at ≡ length ev - (length ev - at) = omega (arith, g .place) in z) ∙ sym (ap (λ (d : Decoded). length ev - d .left) all-done)) i;
+            written = written-is i;
+          }
+        where
+          written-is : j + 1608 ≡ length (outputOf (runOf scheme (length fx₀) ev))
+          written-is =
+              (let z : j + 1608 ≡ length (toldOf (R .turns) ++ stateBytes (world s words)) = omega (arith, g .count, size-is, length-append (toldOf (R .turns)) (stateBytes (world s words))) in z)
+              ∙ ap (λ (x : List ℕ). length (toldOf (R .turns) ++ x)) state-is
+              ∙ sym (ap (λ (r : Run). length (outputOf r)) run-is)
+
+    pub fx-is : fx ≡ lentAfter fx₀ (runOf scheme (length fx₀) ev .turns)
+    fx-is = g .lent ∙ sym (ap (λ (r : Run). lentAfter fx₀ (r .turns)) run-is)
