@@ -28,25 +28,23 @@ module _ (scheme : ℕ) (ev out fx : List ℕ) (b : Bool) (is : b ≡ leb (neede
   has-room-is e = leb-true (needed ev) (length out) (sym is ∙ e)
 
   pub turned-down : b ≡ false → Ends (record { number = 204; place = 0; written = 0 }) out fx
-  turned-down e =
-      (
-        sym (ap (λ (x : Bool). cond x (wholeEnd scheme (length fx) ev) (record { number = 204; place = 0; written = 0 })) (sym is ∙ e)),
-        (
-          sym (ap (λ (x : Bool). cond x (sets out 0 (outputOf (runOf scheme (length fx) ev))) out) (sym is ∙ e)),
-          (sym (ap (λ (x : Bool). cond x (lentAfter fx (runOf scheme (length fx) ev .turns)) fx) (sym is ∙ e)), omega arith)
-        )
-      )
+  turned-down e = (
+    sym (ap (λ (x : Bool). cond x (wholeEnd scheme (length fx) ev) (record { number = 204; place = 0; written = 0 })) (sym is ∙ e)),
+    (
+      sym (ap (λ (x : Bool). cond x (sets out 0 (outputOf (runOf scheme (length fx) ev))) out) (sym is ∙ e)),
+      (sym (ap (λ (x : Bool). cond x (lentAfter fx (runOf scheme (length fx) ev .turns)) fx) (sym is ∙ e)), omega arith),
+    ),
+  )
 
   pub all-run :
       (r : RunEnd) (out' fx' : List ℕ) → b ≡ true
       → (r ≡ wholeEnd scheme (length fx) ev)
       × ((out' ≡ sets out 0 (outputOf (runOf scheme (length fx) ev))) × ((fx' ≡ lentAfter fx (runOf scheme (length fx) ev .turns)) × (r .written ≤ length out)))
       → Ends r out' fx'
-  all-run r out' fx' e p =
-      (
-        p .0 ∙ sym (ap (λ (x : Bool). cond x (wholeEnd scheme (length fx) ev) (record { number = 204; place = 0; written = 0 })) (sym is ∙ e)),
-        (
-          p .1 .0 ∙ sym (ap (λ (x : Bool). cond x (sets out 0 (outputOf (runOf scheme (length fx) ev))) out) (sym is ∙ e)),
-          (p .1 .1 .0 ∙ sym (ap (λ (x : Bool). cond x (lentAfter fx (runOf scheme (length fx) ev .turns)) fx) (sym is ∙ e)), p .1 .1 .1)
-        )
-      )
+  all-run r out' fx' e p = (
+    p .0 ∙ sym (ap (λ (x : Bool). cond x (wholeEnd scheme (length fx) ev) (record { number = 204; place = 0; written = 0 })) (sym is ∙ e)),
+    (
+      p .1 .0 ∙ sym (ap (λ (x : Bool). cond x (sets out 0 (outputOf (runOf scheme (length fx) ev))) out) (sym is ∙ e)),
+      (p .1 .1 .0 ∙ sym (ap (λ (x : Bool). cond x (lentAfter fx (runOf scheme (length fx) ev .turns)) fx) (sym is ∙ e)), p .1 .1 .1),
+    ),
+  )

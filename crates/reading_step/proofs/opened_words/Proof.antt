@@ -1,0 +1,51 @@
+-- `reading_step::opened_words` meets its contract. Assumes nothing.
+use borrow.Author.Needs.{needs}
+use Rattle.reading_step.proofs.opened_words.Statement.{statement}
+use Rattle.reading_step.proofs.opened_words.Tie as tie
+use mathlib.Core.Path.{sym, ap}
+use Rattle.response.specs.Response.{openedAs}
+
+enum-known-a : tie.Need-enum-known-a
+enum-known-a c = search needs
+
+enum-known-a-2 : tie.Need-enum-known-a-2
+enum-known-a-2 c = search needs
+
+enum-known-a-3 : tie.Need-enum-known-a-3
+enum-known-a-3 c = search needs
+
+enum-told : tie.Need-enum-told
+enum-told c = search needs
+
+enum-told-2 : tie.Need-enum-told-2
+enum-told-2 c = search needs
+
+returns : tie.Need-returns
+returns c = sym (ap openedAs (c .before .a .given .1))
+
+returns-2 : tie.Need-returns-2
+returns-2 c = sym (ap openedAs (c .before .a2 .given .1))
+
+returns-3 : tie.Need-returns-3
+returns-3 c = sym (ap openedAs (c .before .a3 .given .1))
+
+returns-4 : tie.Need-returns-4
+returns-4 c = sym (ap openedAs (c .enum-told .given .1))
+
+returns-5 : tie.Need-returns-5
+returns-5 c = sym (ap openedAs (c .enum-told2 .given .1))
+
+pub opened-words-spec : {M : Type 1} → statement M
+opened-words-spec =
+    tie.close
+    (tie.spec
+    enum-known-a
+    enum-known-a-2
+    enum-known-a-3
+    enum-told
+    enum-told-2
+    returns
+    returns-2
+    returns-3
+    returns-4
+    returns-5)

@@ -1,0 +1,47 @@
+-- `reading_step::regular_words` meets its contract. Assumes nothing.
+use borrow.Author.Needs.{needs}
+use Rattle.reading_step.proofs.regular_words.Statement.{statement}
+use Rattle.reading_step.proofs.regular_words.Tie as tie
+use Rattle.answer_words.proofs.Laws.{case}
+use Rattle.response.specs.Response.{regularAnswer}
+
+enum-known-a : tie.Need-enum-known-a
+enum-known-a c = search needs
+
+done-requires : tie.Need-done-requires
+done-requires c κs = search needs
+
+enum-known-a-2 : tie.Need-enum-known-a-2
+enum-known-a-2 c = search needs
+
+refused-requires : tie.Need-refused-requires
+refused-requires c κs = search needs
+
+enum-told : tie.Need-enum-told
+enum-told c = search needs
+
+refused-requires-2 : tie.Need-refused-requires-2
+refused-requires-2 c κs = search needs
+
+returns : tie.Need-returns
+returns c = case regularAnswer (c .done .ensures) (c .before .before .a .given .1)
+
+returns-2 : tie.Need-returns-2
+returns-2 c = case regularAnswer (c .refused .ensures) (c .before .before .a2 .given .1)
+
+returns-3 : tie.Need-returns-3
+returns-3 c = case regularAnswer (c .refused2 .ensures) (c .before .enum-told .given .1)
+
+pub regular-words-spec : {M : Type 1} → statement M
+regular-words-spec =
+    tie.close
+    (tie.spec
+    enum-known-a
+    done-requires
+    enum-known-a-2
+    refused-requires
+    enum-told
+    refused-requires-2
+    returns
+    returns-2
+    returns-3)

@@ -1,0 +1,118 @@
+// The readings of a reply and of an error word, answered in numbers.
+use answer_words::AnswerWords;
+use error::Error;
+use error::Result;
+use fd_list::List;
+use response::OpenResult;
+use response::RegularAnswer;
+use slot::Reply;
+ghost use mathlib.Core.Path.{_≡_};
+ghost use Rattle.answer_words.specs.Words.{answerOf};
+ghost use Rattle.error.specs.Errors.{demuxOf, resultAnswer};
+ghost use Rattle.events.specs.Outcome.{answered};
+ghost use Rattle.events.specs.Replies.{intoRegularOf, callGenericOf, noticeOf, kopenatOf, kdupOf};
+ghost use Rattle.events.specs.Wake.{responseFrom};
+ghost use Rattle.response.specs.Response.{regularAnswer, openedAs};
+ghost use Rattle.reading_step.specs.Opened.{openedOf};
+
+// With the notice of a completion's kind 5.
+#[repr(C)]
+pub struct Regular {
+    pub answer: AnswerWords,
+    pub notice: bool,
+}
+
+// `kind` 0 a number of the scheme's own, with its flags; 1 a description; 2 refused, with its number.
+#[repr(C)]
+pub struct OpenedWords {
+    pub kind: u64,
+    pub value: u64,
+    pub flags: u8,
+}
+
+fn regular_words(a: RegularAnswer) -> AnswerWords
+    ensures { λ r. ⌜ answerOf r ≡ regularAnswer a ⌝ }
+{
+    match a {
+        RegularAnswer::Value(w) => answer_words::done(w),
+        RegularAnswer::Failed(e) => answer_words::refused(e),
+        RegularAnswer::NotRegular => answer_words::refused(5),
+    }
+}
+
+fn opened_words(a: OpenResult) -> OpenedWords
+    ensures { λ r. ⌜ openedOf r ≡ openedAs a ⌝ }
+{
+    match a {
+        OpenResult::SchemeLocal(w, x) => OpenedWords {
+            kind: 0,
+            value: w,
+            flags: x,
+        },
+        OpenResult::External(d) => OpenedWords {
+            kind: 1,
+            value: d,
+            flags: 0,
+        },
+        OpenResult::Failed(e) => OpenedWords {
+            kind: 2,
+            value: e,
+            flags: 0,
+        },
+        OpenResult::UnknownFlags => OpenedWords {
+            kind: 2,
+            value: 22,
+            flags: 0,
+        },
+        OpenResult::MultipleFds => OpenedWords {
+            kind: 2,
+            value: 5,
+            flags: 0,
+        },
+    }
+}
+
+pub fn into_regular(reply: Reply, fds: List) -> AnswerWords
+    ensures { λ r. ⌜ answerOf r ≡ intoRegularOf (responseFrom reply fds) ⌝ }
+{
+    let a = response::into_regular(reply, fds);
+    regular_words(a)
+}
+
+pub fn call_generic(reply: Reply, fds: List) -> Regular
+    ensures { λ r. ⌜ (answerOf (r .answer) ≡ callGenericOf (responseFrom reply fds)) × (r .notice ≡ noticeOf (responseFrom reply fds)) ⌝ }
+{
+    let got = response::call_generic(reply, fds);
+    let a = got.answer;
+    let words = regular_words(a);
+    Regular {
+        answer: words,
+        notice: got.notice,
+    }
+}
+
+pub fn kopenat(reply: Reply, fds: List) -> OpenedWords
+    ensures { λ r. ⌜ openedOf r ≡ kopenatOf (responseFrom reply fds) ⌝ }
+{
+    let a = response::kopenat(reply, fds);
+    opened_words(a)
+}
+
+pub fn kdup(reply: Reply, fds: List) -> OpenedWords
+    ensures { λ r. ⌜ openedOf r ≡ kdupOf (responseFrom reply fds) ⌝ }
+{
+    let a = response::kdup(reply, fds);
+    opened_words(a)
+}
+
+// A result word: its success, or its errno.
+pub fn demux(word: u64) -> AnswerWords
+    ensures { λ r. ⌜ answerOf r ≡ answered (resultAnswer (demuxOf word)) ⌝ }
+{
+    let a = Error::demux(word);
+    let n = a.number();
+    match a {
+        Result::Ok(w) => answer_words::done(w),
+        Result::Err(e) => answer_words::refused(n),
+    }
+}
