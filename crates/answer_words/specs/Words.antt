@@ -1,6 +1,5 @@
 -- An event's answer as numbers: 0 done, with a value; 1 refused, with its number; 2 would wait; 3 still blocked; 4 a reply, which
 -- stands beside it.
-use Prim.Native.Nat.{ℕ}
 use mathlib.Core.Bool.{cond}
 use lib.Dec.{eqb}
 use Rattle.fd_list.specs.declared.List.{List as Fds}

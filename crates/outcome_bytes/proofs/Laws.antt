@@ -1,5 +1,5 @@
 -- Words stored one after the other. Assumes nothing.
-use Prim.Native.Nat.{ℕ, zero, suc, _+_, _*_, _<_, _≤_}
+use Prim.Native.Nat.{ℕ, zero, suc, _+_, _*_, _≤_}
 use mathlib.Core.Path.{_≡_, refl, sym, ap, ap₂, _∙_, subst}
 use mathlib.Core.Bool.{Bool, cond}
 use mathlib.Core.List.{List, [], _∷_, _++_, append-assoc, append-nil}
@@ -24,16 +24,9 @@ use Rattle.events.specs.Wake.{responseBy, responseFrom}
 use Rattle.outcome_bytes.specs.Output.{answerWords, told, statusPair}
 use Rattle.le.specs.Le.{bytes8, bytesOf}
 use Rattle.le_put.proofs.Stores.{sets-then}
+use Rattle.wait_queue.proofs.Unread.{bytes-append, length-bytes}
 use Rattle.record.specs.Record.{each}
 use Rattle.record.proofs.Laws.{each-length}
-
-pub bytesOf-length : (ws : List ℕ) → length (bytesOf ws) ≡ 8 * length ws
-bytesOf-length [] = refl
-bytesOf-length (w ∷ ws) = omega (arith, length-append (bytes8 w) (bytesOf ws), bytesOf-length ws)
-
-pub bytesOf-append : (xs ys : List ℕ) → bytesOf (xs ++ ys) ≡ bytesOf xs ++ bytesOf ys
-bytesOf-append [] ys = refl
-bytesOf-append (x ∷ xs) ys = ap (λ (l : List ℕ). bytes8 x ++ l) (bytesOf-append xs ys) ∙ sym (append-assoc (bytes8 x) (bytesOf xs) (bytesOf ys))
 
 -- a run of stores, and another behind it
 pub two-runs : (l m n xs ys : List ℕ) (i k : ℕ) → m ≡ sets l i xs → k ≡ i + length xs → n ≡ sets m k ys → n ≡ sets l i (xs ++ ys)
@@ -52,10 +45,10 @@ pub word-more :
     (l m n : List ℕ) (f : ℕ → ℕ) (i k at x : ℕ) → m ≡ sets l at (bytesOf (each f i)) → x ≡ f i → k ≡ at + 8 * i → n ≡ sets m k (bytes8 x)
     → n ≡ sets l at (bytesOf (each f (i + 1)))
 word-more l m n f i k at x em ex ek en =
-    two-runs l m n (bytesOf (each f i)) (bytes8 x) at k em (omega (arith, ek, bytesOf-length (each f i), each-length f i)) en
+    two-runs l m n (bytesOf (each f i)) (bytes8 x) at k em (omega (arith, ek, length-bytes (each f i), each-length f i)) en
     ∙ ap (λ (y : ℕ). sets l at (bytesOf (each f i) ++ bytes8 y)) ex
     ∙ ap (λ (b : List ℕ). sets l at (bytesOf (each f i) ++ b)) (sym (append-nil (bytes8 (f i))))
-    ∙ ap (sets l at) (sym (bytesOf-append (each f i) (f i ∷ [])))
+    ∙ ap (sets l at) (sym (bytes-append (each f i) (f i ∷ [])))
     ∙ ap (λ (j : ℕ). sets l at (bytesOf (each f j))) (sym (add-one i))
 
 pub byte-more :
@@ -121,7 +114,7 @@ pub write-runs :
 write-runs l m n o p xs fx k em ek en eo ep =
     let ys : List ℕ = bytesOf (length fx ∷ fx) in
     let behind : o ≡ sets m k ys = two-runs m n o (bytes8 (length fx)) (bytesOf fx) k (k + 8) en refl eo in
-    let size : length ys ≡ 8 + 8 * length fx = bytesOf-length (length fx ∷ fx) ∙ (let z : 8 * suc (length fx) ≡ 8 + 8 * length fx = omega arith in z) in
+    let size : length ys ≡ 8 + 8 * length fx = length-bytes (length fx ∷ fx) ∙ (let z : suc (length fx) * 8 ≡ 8 + 8 * length fx = omega arith in z) in
     step-runs l m p xs ys (bytes8 0) k (k + 16 + 8 * length fx) em ek
     (two-runs m o p ys (bytes8 0) k (k + 8 + 8 * length fx) behind (omega (arith, size)) ep)
     (omega (arith, size, length-append ys (bytes8 0)))
@@ -162,7 +155,7 @@ module _ (r : Reply) (fds : Fds) (l m n : List ℕ) where
       subst (Replied l n (16 + 8 * k)) (sym (others (r .kind) a b c)) (
         two-runs l m n (bytesOf (7 ∷ k ∷ [])) (bytesOf (numbers fds)) 0 16 p refl q ∙ ap (λ (j : ℕ). sets l 0 (bytesOf (7 ∷ j ∷ numbers fds))) ek,
         (
-          (let z : 16 + 8 * k ≡ 8 * suc (suc (length (numbers fds))) = omega (arith, ek) in z) ∙ sym (bytesOf-length (7 ∷ length (numbers fds) ∷ numbers fds)),
+          (let z : 16 + 8 * k ≡ suc (suc (length (numbers fds))) * 8 = omega (arith, ek) in z) ∙ sym (length-bytes (7 ∷ length (numbers fds) ∷ numbers fds)),
           omega (arith, most),
         ),
       )
@@ -193,7 +186,7 @@ next-run l m n xs ys i j k em ek ej en = two-runs l m n xs ys i j em (omega (ari
 
 -- 64 words more are 512 bytes more
 pub sixty-four : (xs ws : List ℕ) (n : ℕ) → length xs ≡ n → length ws ≡ 64 → length (xs ++ bytesOf ws) ≡ n + 512
-sixty-four xs ws n ex ew = omega (arith, ex, ew, length-append xs (bytesOf ws), bytesOf-length ws)
+sixty-four xs ws n ex ew = omega (arith, ex, ew, length-append xs (bytesOf ws), length-bytes ws)
 
 pub whole-size : (xs ns ss ws : List ℕ) → ns ≡ bytesOf ws → length ws ≡ 64 → length xs ≡ 1032 → length ss ≡ 64 → length (xs ++ ns ++ ss) ≡ 1608
-whole-size xs ns ss ws en ew ex es = omega (arith, ap length en, ew, ex, es, bytesOf-length ws, length-append xs ns, length-append (xs ++ ns) ss)
+whole-size xs ns ss ws en ew ex es = omega (arith, ap length en, ew, ex, es, length-bytes ws, length-append xs ns, length-append (xs ++ ns) ss)

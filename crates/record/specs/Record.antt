@@ -8,7 +8,6 @@ use mathlib.Core.List.{List, [], _∷_, _++_}
 use lib.Dec.{eqb, leb}
 use lib.ListN.{length, getD, take, drop}
 use Rattle.le.specs.Le.{byte, half, word}
-use Rattle.schemev2.specs.declared.Args.{Args}
 use Rattle.events.specs.Event.{Event, hostOpen, hostCopy, hostDrop, hostPut, hostEnded, reserve, submit, call, generic, stdfs, fmap, close, detach, wake, read, write, move, obtain, supply}
 use Rattle.record.specs.declared.Nine.{Nine}
 use Rattle.record.specs.declared.Record.{Record}

@@ -1,7 +1,6 @@
 // One event as bytes: the record at the start of a slice, and its lists. What lies past the end of the slice reads as 0.
 ghost use mathlib.Core.Path.{_≡_};
 ghost use Prim.Native.Nat.{_≤_};
-ghost use lib.ListN.{length};
 ghost use lib.Seq.{sets};
 ghost use Rattle.record.specs.Record.{nineOf, recordOf, tailOf, firstAt, secondAt, tailAt, sizeOf, isEvent, nextOf, wordsAt};
 

@@ -1,7 +1,7 @@
 -- The loop of a run: what was done is the run of the first events. Assumes nothing.
-use Prim.Native.Nat.{ℕ, zero, suc, _+_, _-_, _<_, _≤_}
+use Prim.Native.Nat.{ℕ, suc, _+_, _-_, _<_, _≤_}
 use mathlib.Core.Path.{_≡_, refl, sym, ap, ap₂, _∙_, subst}
-use mathlib.Core.Bool.{Bool, cond}
+use mathlib.Core.Bool.{cond}
 use mathlib.Core.List.{List, [], _∷_, _++_, append-assoc, append-nil}
 use native.Mathlib.Omega.{arith}
 use lib.Dec.{eqb}
@@ -18,7 +18,6 @@ use Rattle.events.proofs.Whole.{whole-run}
 use Rattle.outcome_bytes.specs.Output.{outcomeBytes, stateBytes}
 use Rattle.record.specs.Record.{recordOf, nextOf, eventAt, Decoded, stops, before, decoded}
 use Rattle.record.proofs.Laws.{some, next-there, walk-ends, walk-goes-on}
-use Rattle.run.specs.declared.RunEnd.{RunEnd}
 use Rattle.run.specs.Run.{runOf, storedBy, toldOf, lentAfter, outputOf, roomOf, needed, wholeEnd}
 use Rattle.run.proofs.Rooms.{part-is, needed-ends, needed-goes-on}
 

@@ -1,7 +1,6 @@
 -- What the turns store: a front of a buffer that was lent, the bytes of a read, the effects of a write. Assumes nothing.
 use Prim.Native.Nat.{ℕ, zero, suc, min, _+_, _-_, _*_, _/_, _%_, _<_, _≤_}
 use mathlib.Core.Path.{_≡_, refl, sym, ap, ap₂, _∙_, subst}
-use mathlib.Core.Logic.{_⊎_, inl, inr}
 use mathlib.Core.Bool.{Bool, true, false, cond}
 use mathlib.Core.List.{List, [], _∷_, _++_}
 use native.Mathlib.Omega.{arith}
@@ -9,12 +8,12 @@ use lib.Dec.{eqb, ltb}
 use native.Mathlib.Decide.{decLt}
 use lib.ListN.{length, set, take, drop, take-append-drop, length-take, length-drop, length-set}
 use lib.Seq.{sets, sets-eq, length-sets, set-append-left, take-at, length-take-le}
-use borrow.Author.Tests.{eq-eqb, ne-eqb, lt-ltb, le-ltb, ltb-false}
+use borrow.Author.Tests.{ne-eqb, lt-ltb, le-ltb}
 use Rattle.events.specs.World.{World, queueOf, withQueue}
 use Rattle.events.specs.Outcome.{Answer, Outcome, outcome, answered, refuse}
 use Rattle.events.specs.Complete.{Entered, accepted, rejected, entryOf, entriesOf, stopped, onEntered, shortWords, writeOn, writeOf}
 use Rattle.schemev2.specs.declared.Cqe.{Cqe}
-use Rattle.events.specs.Event.{step, write}
+use Rattle.events.specs.Event.{write}
 use Rattle.events.specs.Read.{readOf}
 use Rattle.events.specs.Whole.{Whole}
 use Rattle.events.proofs.Exact.{exact-at}

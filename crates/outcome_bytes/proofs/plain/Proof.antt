@@ -1,7 +1,5 @@
 use Rattle.outcome_bytes.proofs.plain.Statement.{statement}
 use Rattle.outcome_bytes.proofs.plain.Tie as tie
-use Rattle.outcome_bytes.proofs.plain.Reads as reads
-use Rattle.outcome_bytes.proofs.plain.Lts as lts
 use borrow.Author.Tests.{ne-eqb}
 
 -- src/lib.rt:95:9

@@ -1,8 +1,5 @@
 use Rattle.outcome_bytes.proofs.put_bytes.Statement.{statement}
 use Rattle.outcome_bytes.proofs.put_bytes.Tie as tie
-use Rattle.outcome_bytes.proofs.put_bytes.Reads as reads
-use Rattle.outcome_bytes.proofs.put_bytes.Lts as lts
-use Rattle.le_put.proofs.put1.Reads as put1-reads
 use borrow.Author.Needs.{needs}
 use Prim.Native.Nat.{ℕ, _-_, _≤_}
 use mathlib.Core.Path.{_≡_, refl, ap, _∙_}

@@ -1,9 +1,5 @@
 use Rattle.outcome_bytes.proofs.put_counts.Statement.{statement}
 use Rattle.outcome_bytes.proofs.put_counts.Tie as tie
-use Rattle.outcome_bytes.proofs.put_counts.Reads as reads
-use Rattle.outcome_bytes.proofs.put_counts.Lts as lts
-use Rattle.le_put.proofs.put8.Reads as put8-reads
-use Rattle.outcome_bytes.proofs.wide.Reads as wide-reads
 use borrow.Author.Needs.{needs}
 use Prim.Native.Nat.{ℕ, _-_, _≤_}
 use mathlib.Core.Path.{_≡_, refl, ap, _∙_}

@@ -1,10 +1,5 @@
 use Rattle.outcome_bytes.proofs.put_fds.Statement.{statement}
 use Rattle.outcome_bytes.proofs.put_fds.Tie as tie
-use Rattle.outcome_bytes.proofs.put_fds.Reads as reads
-use Rattle.outcome_bytes.proofs.put_fds.Lts as lts
-use Rattle.fd_list.proofs.pick.Reads as pick-reads
-use Rattle.fd_list.proofs.size.Reads as size-reads
-use Rattle.le_put.proofs.put8.Reads as put8-reads
 use borrow.Author.Needs.{needs}
 use Prim.Native.Nat.{ℕ, _-_, _≤_}
 use mathlib.Core.Path.{_≡_, refl, ap, _∙_}

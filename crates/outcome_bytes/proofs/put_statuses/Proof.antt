@@ -2,10 +2,9 @@
 use borrow.Author.Needs.{needs}
 use Rattle.outcome_bytes.proofs.put_statuses.Statement.{statement}
 use Rattle.outcome_bytes.proofs.put_statuses.Tie as tie
-use mathlib.Core.Path.{refl, ap, _∙_}
+use mathlib.Core.Path.{refl}
 use mathlib.Core.List.{_++_}
 use Prim.Native.Nat.{_+_}
-use native.Mathlib.Omega.{arith}
 use Rattle.le.specs.Le.{bytesOf}
 use Rattle.status.specs.declared.Status.the-variants.{Placeholder, Waiting, Responded, Fmap}
 use Rattle.outcome_bytes.specs.Output.{statusPair}

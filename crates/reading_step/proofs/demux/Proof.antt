@@ -3,7 +3,6 @@ use borrow.Author.Needs.{needs}
 use Rattle.reading_step.proofs.demux.Statement.{statement}
 use Rattle.reading_step.proofs.demux.Tie as tie
 use mathlib.Core.Path.{sym, ap, _∙_}
-use Prim.Native.Nat.{ℕ}
 use Rattle.answer.specs.Answer.{numberOf}
 use Rattle.error.specs.declared.Result.{Result}
 use Rattle.error.specs.Errors.{resultAnswer}

@@ -1,10 +1,5 @@
 use Rattle.record.proofs.words_at.Statement.{statement}
 use Rattle.record.proofs.words_at.Tie as tie
-use Rattle.record.proofs.words_at.Reads as reads
-use Rattle.record.proofs.words_at.Lts as lts
-use Rattle.le.proofs.word.Reads as word-reads
-use Rattle.record.proofs.wide.Reads as wide-reads
-use Rattle.word_put.proofs.put.Reads as put-reads
 use borrow.Author.Needs.{needs}
 use Prim.Native.Nat.{ℕ, _+_, _-_, _*_, _≤_}
 use mathlib.Core.Path.{_≡_, refl, subst, ap, _∙_}

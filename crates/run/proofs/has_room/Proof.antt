@@ -1,10 +1,5 @@
 use Rattle.run.proofs.has_room.Statement.{statement}
 use Rattle.run.proofs.has_room.Tie as tie
-use Rattle.run.proofs.has_room.Reads as reads
-use Rattle.run.proofs.has_room.Lts as lts
-use Rattle.record.proofs.next.Reads as next-reads
-use Rattle.record.proofs.record_at.Reads as record-at-reads
-use Rattle.run.proofs.room.Reads as room-reads
 use borrow.Author.Needs.{needs}
 use Prim.Native.Nat.{_+_, _-_, _≤_}
 use mathlib.Core.Path.{_≡_, ap, _∙_}

@@ -1,7 +1,5 @@
 use Rattle.run.proofs.number_at.Statement.{statement}
 use Rattle.run.proofs.number_at.Tie as tie
-use Rattle.run.proofs.number_at.Reads as reads
-use Rattle.run.proofs.number_at.Lts as lts
 use mathlib.Core.Path.{sym, ap}
 use mathlib.Core.Bool.{Bool, cond}
 use Prim.Native.Nat.{_-_}

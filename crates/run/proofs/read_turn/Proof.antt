@@ -2,7 +2,7 @@
 use borrow.Author.Needs.{needs}
 use Rattle.run.proofs.read_turn.Statement.{statement}
 use Rattle.run.proofs.read_turn.Tie as tie
-use Prim.Native.Nat.{ℕ, min}
+use Prim.Native.Nat.{min}
 use mathlib.Core.Path.{refl, ap, _∙_}
 use native.Mathlib.Omega.{arith}
 use Rattle.events.specs.World.{world}

@@ -1,12 +1,5 @@
 use Rattle.run.proofs.run_all.Statement.{statement}
 use Rattle.run.proofs.run_all.Tie as tie
-use Rattle.run.proofs.run_all.Reads as reads
-use Rattle.run.proofs.run_all.Lts as lts
-use Rattle.outcome_bytes.proofs.put_state.Reads as put-state-reads
-use Rattle.record.proofs.next.Reads as next-reads
-use Rattle.run.proofs.number_at.Reads as number-at-reads
-use Rattle.run.proofs.turn.Reads as turn-reads
-use Rattle.state.proofs.fresh.Reads as fresh-reads
 use borrow.Author.Needs.{needs}
 use Prim.Native.Nat.{ℕ, _+_, _-_}
 use mathlib.Core.Path.{_≡_, sym, ap, _∙_}

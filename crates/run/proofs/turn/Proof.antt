@@ -2,7 +2,6 @@
 use borrow.Author.Needs.{needs}
 use Rattle.run.proofs.turn.Statement.{statement}
 use Rattle.run.proofs.turn.Tie as tie
-use Prim.Native.Nat.{_<_}
 use mathlib.Core.Path.{refl}
 use lib.ListN.{length, take, drop}
 use Rattle.events.specs.World.{world}

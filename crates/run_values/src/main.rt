@@ -1,0 +1,41 @@
+// 01's "15 bytes written: 0", and the run of the records on standard input: its own answer as a line, then what it wrote.
+use libc::STDOUT_FILENO;
+
+fn number(n: u64) {
+    io::print_decimal(STDOUT_FILENO, n);
+}
+
+fn fifteen() {
+    let s = state::fresh(7);
+    let bytes = [9; 15];
+    let mut fx = [0; 54];
+    let r = driver_step::write(s, &mut fx, &bytes);
+    let answer = r.answer;
+    io::write_all(STDOUT_FILENO, b"15 bytes written: ");
+    number(answer.value);
+    io::write_all(STDOUT_FILENO, b", kind ");
+    number(answer.kind);
+    io::write_all(STDOUT_FILENO, b"\n");
+}
+
+fn show(events: &[u8], out: &mut [u8], fx: &mut [u64]) {
+    let end = run::run(7, events, out, fx);
+    io::write_all(STDOUT_FILENO, b"number ");
+    number(end.number);
+    io::write_all(STDOUT_FILENO, b", place ");
+    number(end.place);
+    io::write_all(STDOUT_FILENO, b", written ");
+    number(end.written);
+    io::write_all(STDOUT_FILENO, b"\n");
+    let n = end.written as usize;
+    io::write_all(STDOUT_FILENO, &out[..n]);
+}
+
+fn main() {
+    fifteen();
+    let mut input = io::large_buffer();
+    let n = io::read_full(0, &mut input);
+    let mut out = io::large_buffer();
+    let mut fx = [0; 1024];
+    show(&input[..n], &mut out, &mut fx);
+}

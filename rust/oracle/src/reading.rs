@@ -1,0 +1,135 @@
+//! How the kernel's fronts read the reply that a call hands them.
+
+use std::sync::{Arc, Mutex, PoisonError};
+
+use script::Reply;
+use syscall::CallFlags;
+
+use crate::context::Context;
+use crate::context::file::InternalFlags;
+use crate::context::memory::AddrSpaceWrapper;
+use crate::machine::Machine;
+use crate::oracle::{Description, clean, description, number};
+use crate::scheme::user::probe::Handed;
+use crate::scheme::user::{UserInner, UserScheme};
+use crate::scheme::{CallerCtx, KernelScheme, OpenResult, SchemeId, StrOrBytes};
+use crate::sync::RwLock;
+use crate::syscall::error::{Error, Result};
+use crate::syscall::usercopy::UserSlice;
+use crate::threads::Running;
+
+/// Who reads a reply.
+#[derive(Clone, Copy, Debug, PartialEq, Eq)]
+pub enum Front {
+    /// `into_regular`, here by `fcntl`.
+    Regular,
+    /// `call_generic`, by `kcall`.
+    Call,
+    /// `call_generic`, by `translate_std_fs_call`, which takes kind 5's notice.
+    StdFsCall,
+    /// `kopenat`.
+    Open,
+    /// `kdup`.
+    Dup,
+}
+
+/// What it reads.
+#[derive(Clone, Debug, PartialEq, Eq)]
+pub enum Reading {
+    Word(u64),
+    Error(u64),
+    /// A file of the scheme's own: its number, and its flags.
+    Local(u64, u32),
+    /// A description.
+    External(u64),
+}
+
+/// Makes a call by that front and reads its reply.
+fn read(scheme: &UserScheme, front: Front, noticed: Description) -> Result<Reading> {
+    let (token, flags) = (&mut clean(), CallFlags::empty());
+    let ctx = CallerCtx {
+        pid: 0,
+        uid: 0,
+        gid: 0,
+    };
+    let word = match front {
+        Front::Regular => scheme.fcntl(0, 0, 0, token)?,
+        Front::Call => {
+            let payload = UserSlice::captured(0, 0);
+            scheme.kcall(&[0], payload, flags, &[], token)?
+        }
+        Front::StdFsCall => {
+            let (payload, meta) = (UserSlice::captured(0, 0), [1, 0, 0]);
+            scheme.translate_std_fs_call(&[0], noticed, payload, flags, &meta, token)?
+        }
+        Front::Open | Front::Dup => {
+            let opened = if front == Front::Open {
+                scheme.kopenat(0, StrOrBytes::from_str("path"), 0, 0, ctx, token)?
+            } else {
+                scheme.kdup(0, UserSlice::captured(0, 0), ctx, token)?
+            };
+            return Ok(match opened {
+                OpenResult::SchemeLocal(number, flags) => {
+                    Reading::Local(number as u64, flags.bits())
+                }
+                OpenResult::External(description) => Reading::External(number(&description)),
+            });
+        }
+    };
+    Ok(Reading::Word(word as u64))
+}
+
+fn handed(reply: &Reply) -> Handed {
+    match reply {
+        Reply::Regular {
+            result,
+            extra0,
+            notice,
+        } => {
+            let result = result.map(|word| word as usize);
+            let result = result.map_err(|errno| Error::new(errno as i32));
+            Handed::Regular(result, *extra0, *notice)
+        }
+        Reply::Fd(d) => Handed::Fd(description(*d)),
+        Reply::Many(list) => Handed::Many(list.iter().map(|d| description(*d)).collect()),
+    }
+}
+
+/// What a front reads in a reply, and the notice, where it takes one.
+pub fn read_reply(front: Front, reply: &Reply) -> (Reading, Option<bool>) {
+    let space = AddrSpaceWrapper::new();
+    let context = || Arc::new(RwLock::new(Context::new(space.clone(), 0, 0, 0)));
+    let (driver, caller) = (context(), context());
+    let machine = Arc::new(Machine::new(caller));
+    let scheme = SchemeId::User(0);
+    let inner = UserInner::new(SchemeId::Root, scheme, Arc::downgrade(&driver));
+    let inner = Arc::new(inner);
+
+    // before the call the notice is what the reply doesn't say, so that taking it shows
+    let notice = matches!(reply, Reply::Regular { notice: true, .. });
+    let told = InternalFlags::NOTIFY_ON_NEXT_DETACH;
+    let noticed = description(0);
+    (noticed.write(clean().token()).internal_flags).set(told, !notice);
+
+    let end = Arc::new(Mutex::new(None));
+    let mut running = Running::new(Box::new({
+        let (scheme, noticed) = (UserScheme::new(inner.clone()), noticed.clone());
+        let end = end.clone();
+        move || {
+            let _inside = machine.enter();
+            let read = read(&scheme, front, noticed);
+            *end.lock().unwrap_or_else(PoisonError::into_inner) = Some(read);
+        }
+    }));
+    let early = running.resume();
+    assert!(!early, "the call waits for its reply");
+    inner.probe_respond(0, handed(reply));
+    let done = running.resume();
+    assert!(done, "the call has its reply");
+
+    let end = end.lock().unwrap_or_else(PoisonError::into_inner).take();
+    let read = end.expect("the thread is done");
+    let reading = read.unwrap_or_else(|error| Reading::Error(error.errno as u64));
+    let after = noticed.read(clean().token()).internal_flags.contains(told);
+    (reading, (after == notice).then_some(notice))
+}
