@@ -14,7 +14,7 @@ same-length : tie.Need-same-length
 same-length c = search needs
 
 returns : tie.Need-returns
-returns c = (λ ws. c .write-words .ensures ∙ c .before .before .before .before .write .ensures .0 ws, c .before .before .before .before .write .ensures .1)
+returns c = let c4 = c .before .before .before .before in (λ ws. c .write-words .ensures ∙ c4 .write .ensures .0 ws, c4 .write .ensures .1)
 
 pub write-spec : {M : Type 1} → statement M
 write-spec = tie.close (tie.spec write-requires write-words-requires same-length returns)

@@ -16,7 +16,7 @@ returns-3 c = simp (c .if3 .taken)
 
 -- src/lib.rt:90:1
 returns-4 : tie.Need-returns-4
-returns-4 c = simp (ne-eqb (c .before .before .before .args .a .kind) 0 (c .before .before .if1 .left), ne-eqb (c .before .before .before .args .a .kind) 1 (c .before .if2 .left), ne-eqb (c .before .before .before .args .a .kind) 2 (c .if3 .left))
+returns-4 c = let c1 = c .before in let c2 = c1 .before in let c3 = c2 .before in simp (ne-eqb (c3 .args .a .kind) 0 (c2 .if1 .left), ne-eqb (c3 .args .a .kind) 1 (c1 .if2 .left), ne-eqb (c3 .args .a .kind) 2 (c .if3 .left))
 
 pub plain-spec : {M : Type 1} → statement M
 plain-spec = tie.close (tie.spec returns returns-2 returns-3 returns-4)

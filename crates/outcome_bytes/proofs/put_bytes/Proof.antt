@@ -22,7 +22,7 @@ loop-holds c = (omega arith, refl)
 
 -- src/lib.rt:84:27
 add-put1 : tie.Need-add-put1 Inv-loop μ-loop
-add-put1 c = omega (arith, c .before .loop-test .taken, c .before .before .before .before .before .good .1 .1 .0 .0, c .before .before .before .before .before .pre)
+add-put1 c = let c1 = c .before in let c5 = c1 .before .before .before .before in omega (arith, c1 .loop-test .taken, c5 .good .1 .1 .0 .0, c5 .pre)
 
 -- src/lib.rt:84:35
 shared-slice-read-put1 : tie.Need-shared-slice-read-put1 Inv-loop μ-loop
@@ -42,15 +42,15 @@ loop-less c = omega (arith, c .before .before .before .before .before .loop-test
 
 -- src/lib.rt:83:5
 loop-again : tie.Need-loop-again Inv-loop μ-loop
-loop-again c = (omega (arith, c .before .before .before .before .before .loop-test .taken), byte-more (c .before .before .before .before .before .before .before .before .before .args .out .now) (c .before .before .before .before .before .before .loop .out) _ (λ (j : ℕ). getD (c .before .before .before .before .before .before .before .before .before .args .bs .now) j 0) (c .before .before .before .before .before .before .loop .i) _ (c .before .before .before .before .before .before .before .before .before .args .at) _ (c .before .before .before .before .before .before .loop .inv .1) refl refl (c .before .before .put1 .ensures))
+loop-again c = let c2 = c .before .before in let c5 = c2 .before .before .before in let c6 = c5 .before in let c9 = c6 .before .before .before in (omega (arith, c5 .loop-test .taken), byte-more (c9 .args .out .now) (c6 .loop .out) _ (λ (j : ℕ). getD (c9 .args .bs .now) j 0) (c6 .loop .i) _ (c9 .args .at) _ (c6 .loop .inv .1) refl refl (c2 .put1 .ensures))
 
 -- src/lib.rt:77:1
 same-length : tie.Need-same-length Inv-loop μ-loop
-same-length c = ap length (c .before .loop .inv .1) ∙ length-sets (c .before .before .before .before .args .out .now) (c .before .before .before .before .args .at) (each (λ (j : ℕ). getD (c .before .before .before .before .args .bs .now) j 0) (c .before .loop .i))
+same-length c = let c1 = c .before in let c4 = c1 .before .before .before in ap length (c1 .loop .inv .1) ∙ length-sets (c4 .args .out .now) (c4 .args .at) (each (λ (j : ℕ). getD (c4 .args .bs .now) j 0) (c1 .loop .i))
 
 -- src/lib.rt:77:1
 returns : tie.Need-returns Inv-loop μ-loop
-returns c = c .before .loop .inv .1 ∙ ap (λ (b : List ℕ). sets (c .before .before .before .before .args .out .now) (c .before .before .before .before .args .at) (b)) (ap (each (λ (j : ℕ). getD (c .before .before .before .before .args .bs .now) j 0)) (let z : c .before .loop .i ≡ length (c .before .before .before .before .args .bs .now) = omega (arith, c .loop-test .left, c .before .loop .inv .0) in z) ∙ each-all (c .before .before .before .before .args .bs .now))
+returns c = let c1 = c .before in let c4 = c1 .before .before .before in c1 .loop .inv .1 ∙ ap (λ (b : List ℕ). sets (c4 .args .out .now) (c4 .args .at) (b)) (ap (each (λ (j : ℕ). getD (c4 .args .bs .now) j 0)) (let z : c1 .loop .i ≡ length (c4 .args .bs .now) = omega (arith, c .loop-test .left, c1 .loop .inv .0) in z) ∙ each-all (c4 .args .bs .now))
 
 pub put-bytes-spec : {M : Type 1} → statement M
 put-bytes-spec =

@@ -44,7 +44,7 @@ same-length : tie.Need-same-length
 same-length c = search needs
 
 returns : tie.Need-returns
-returns c = let t = (write-runs (c .before .before .before .before .before .before .before .before .before .before .before .before .before .before .before .before .before .before .before .args .out .now) _ _ _ _ (bytesOf (answerWords (answerOf (c .before .before .before .before .before .before .before .before .before .before .before .before .before .before .before .before .before .before .before .args .a)))) (c .before .before .before .before .before .before .before .before .before .before .before .before .before .before .before .before .before .before .before .args .fx .now) 16 (c .before .before .before .before .before .before .before .before .before .before .before .before .before .before .put-two .ensures ∙ ap (λ (w : List ℕ). sets (c .before .before .before .before .before .before .before .before .before .before .before .before .before .before .before .before .before .before .before .args .out .now) 0 (bytesOf w)) (c .before .before .before .before .before .before .before .before .before .before .before .before .before .before .before .before .plain .ensures)) (ap (λ (w : List ℕ). length (bytesOf w)) (c .before .before .before .before .before .before .before .before .before .before .before .before .before .before .before .before .plain .ensures)) (c .before .before .before .before .before .before .before .before .before .before .put8 .ensures) (c .before .before .before .before .before .before .put-words .ensures) (c .before .before .put82 .ensures)) in (t .0, (t .1, refl))
+returns c = let c2 = c .before .before in let c6 = c2 .before .before .before .before in let c10 = c6 .before .before .before .before in let c14 = c10 .before .before .before .before in let c16 = c14 .before .before in let c19 = c16 .before .before .before in let t = (write-runs (c19 .args .out .now) _ _ _ _ (bytesOf (answerWords (answerOf (c19 .args .a)))) (c19 .args .fx .now) 16 (c14 .put-two .ensures ∙ ap (λ (w : List ℕ). sets (c19 .args .out .now) 0 (bytesOf w)) (c16 .plain .ensures)) (ap (λ (w : List ℕ). length (bytesOf w)) (c16 .plain .ensures)) (c10 .put8 .ensures) (c6 .put-words .ensures) (c2 .put82 .ensures)) in (t .0, (t .1, refl))
 
 pub put-completed-spec : {M : Type 1} → statement M
 put-completed-spec =

@@ -27,7 +27,7 @@ mul-put8 c = omega (arith, c .before .loop-test .taken, c .before .before .befor
 
 -- src/lib.rt:59:27
 add-put8 : tie.Need-add-put8 Inv-loop μ-loop
-add-put8 c = omega (arith, c .before .loop-test .taken, c .before .before .before .before .before .pre .0, c .before .before .before .before .before .pre .1)
+add-put8 c = let c1 = c .before in let c5 = c1 .before .before .before .before in omega (arith, c1 .loop-test .taken, c5 .pre .0, c5 .pre .1)
 
 -- src/lib.rt:59:44
 mul-wide : tie.Need-mul-wide Inv-loop μ-loop
@@ -55,15 +55,15 @@ loop-less c = omega (arith, c .before .before .before .before .before .before .l
 
 -- src/lib.rt:58:5
 loop-again : tie.Need-loop-again Inv-loop μ-loop
-loop-again c = (omega (arith, c .before .before .before .before .before .before .loop-test .taken), word-more (c .before .before .before .before .before .before .before .before .before .before .args .out .now) (c .before .before .before .before .before .before .before .loop .out) _ (λ (j : ℕ). getD (c .before .before .before .before .before .before .before .before .before .before .args .a .now) j 0) (c .before .before .before .before .before .before .before .loop .i) _ (c .before .before .before .before .before .before .before .before .before .before .args .at) _ (c .before .before .before .before .before .before .before .loop .inv .1) (c .before .before .before .wide .ensures) refl (c .before .before .put8 .ensures))
+loop-again c = let c2 = c .before .before in let c3 = c2 .before in let c6 = c3 .before .before .before in let c7 = c6 .before in let c10 = c7 .before .before .before in (omega (arith, c6 .loop-test .taken), word-more (c10 .args .out .now) (c7 .loop .out) _ (λ (j : ℕ). getD (c10 .args .a .now) j 0) (c7 .loop .i) _ (c10 .args .at) _ (c7 .loop .inv .1) (c3 .wide .ensures) refl (c2 .put8 .ensures))
 
 -- src/lib.rt:52:1
 same-length : tie.Need-same-length Inv-loop μ-loop
-same-length c = ap length (c .before .loop .inv .1) ∙ length-sets (c .before .before .before .before .args .out .now) (c .before .before .before .before .args .at) (bytesOf (each (λ (j : ℕ). getD (c .before .before .before .before .args .a .now) j 0) (c .before .loop .i)))
+same-length c = let c1 = c .before in let c4 = c1 .before .before .before in ap length (c1 .loop .inv .1) ∙ length-sets (c4 .args .out .now) (c4 .args .at) (bytesOf (each (λ (j : ℕ). getD (c4 .args .a .now) j 0) (c1 .loop .i)))
 
 -- src/lib.rt:52:1
 returns : tie.Need-returns Inv-loop μ-loop
-returns c = c .before .loop .inv .1 ∙ ap (λ (b : List ℕ). sets (c .before .before .before .before .args .out .now) (c .before .before .before .before .args .at) (bytesOf (b))) (ap (each (λ (j : ℕ). getD (c .before .before .before .before .args .a .now) j 0)) (let z : c .before .loop .i ≡ length (c .before .before .before .before .args .a .now) = omega (arith, c .loop-test .left, c .before .loop .inv .0) in z) ∙ each-all (c .before .before .before .before .args .a .now))
+returns c = let c1 = c .before in let c4 = c1 .before .before .before in c1 .loop .inv .1 ∙ ap (λ (b : List ℕ). sets (c4 .args .out .now) (c4 .args .at) (bytesOf (b))) (ap (each (λ (j : ℕ). getD (c4 .args .a .now) j 0)) (let z : c1 .loop .i ≡ length (c4 .args .a .now) = omega (arith, c .loop-test .left, c1 .loop .inv .0) in z) ∙ each-all (c4 .args .a .now))
 
 pub put-counts-spec : {M : Type 1} → statement M
 put-counts-spec =

@@ -11,7 +11,7 @@ same-length : tie.Need-same-length
 same-length c = search needs
 
 returns : tie.Need-returns
-returns c = no-effect (c .before .before .before .before .before .before .args .e) (c .before .before .before .before .before .before .args .out .now) _ (c .before .before .before .before .before .before .args .at) (c .before .before .before .before .if1 .taken) (c .before .before .put8 .ensures)
+returns c = let c2 = c .before .before in let c4 = c2 .before .before in let c6 = c4 .before .before in no-effect (c6 .args .e) (c6 .args .out .now) _ (c6 .args .at) (c4 .if1 .taken) (c2 .put8 .ensures)
 
 put-two-requires : tie.Need-put-two-requires
 put-two-requires c κs = search needs
@@ -26,7 +26,7 @@ same-length-2 : tie.Need-same-length-2
 same-length-2 c = search needs
 
 returns-2 : tie.Need-returns-2
-returns-2 c = one-effect (c .before .before .before .before .before .before .before .before .before .before .args .e) (c .before .before .before .before .before .before .before .before .before .before .args .out .now) _ _ (c .before .before .before .before .before .before .before .before .before .before .args .at) (c .before .before .before .before .before .before .before .before .if1 .left) (c .before .before .before .before .before .before .put-two .ensures) (c .before .before .put-two2 .ensures)
+returns-2 c = let c2 = c .before .before in let c6 = c2 .before .before .before .before in let c8 = c6 .before .before in let c10 = c8 .before .before in one-effect (c10 .args .e) (c10 .args .out .now) _ _ (c10 .args .at) (c8 .if1 .left) (c6 .put-two .ensures) (c2 .put-two2 .ensures)
 
 pub put-effect-spec : {M : Type 1} → statement M
 put-effect-spec =

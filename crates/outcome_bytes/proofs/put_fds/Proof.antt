@@ -38,7 +38,7 @@ mul-put8 c = omega (arith, c .before .before .loop-test .taken, c .before .befor
 
 -- src/lib.rt:72:27
 add-put8 : tie.Need-add-put8 Inv-loop μ-loop
-add-put8 c = omega (arith, c .before .before .loop-test .taken, c .before .before .before .before .size .ensures .1, c .before .before .before .before .before .before .pre)
+add-put8 c = let c2 = c .before .before in let c4 = c2 .before .before in let c6 = c4 .before .before in omega (arith, c2 .loop-test .taken, c4 .size .ensures .1, c6 .pre)
 
 -- src/lib.rt:72:39
 cast-put8 : tie.Need-cast-put8 Inv-loop μ-loop
@@ -58,15 +58,15 @@ loop-less c = omega (arith, c .before .before .before .before .before .before .l
 
 -- src/lib.rt:70:5
 loop-again : tie.Need-loop-again Inv-loop μ-loop
-loop-again c = (omega (arith, c .before .before .before .before .before .before .loop-test .taken), word-more (c .before .before .before .before .before .before .before .before .before .before .args .out .now) (c .before .before .before .before .before .before .before .loop .out) _ (λ (j : ℕ). getD (numbers (c .before .before .before .before .before .before .before .before .before .before .args .l)) j 0) (c .before .before .before .before .before .before .before .loop .i) _ (c .before .before .before .before .before .before .before .before .before .before .args .at) _ (c .before .before .before .before .before .before .before .loop .inv .1) (ap num (c .before .before .before .before .before .pick .ensures) ∙ sym (List·getD-map num (named (c .before .before .before .before .before .before .before .before .before .before .args .l)) (c .before .before .before .before .before .before .before .loop .i) (desc 0))) refl (c .before .before .put8 .ensures))
+loop-again c = let c2 = c .before .before in let c5 = c2 .before .before .before in let c6 = c5 .before in let c7 = c6 .before in let c10 = c7 .before .before .before in (omega (arith, c6 .loop-test .taken), word-more (c10 .args .out .now) (c7 .loop .out) _ (λ (j : ℕ). getD (numbers (c10 .args .l)) j 0) (c7 .loop .i) _ (c10 .args .at) _ (c7 .loop .inv .1) (ap num (c5 .pick .ensures) ∙ sym (List·getD-map num (named (c10 .args .l)) (c7 .loop .i) (desc 0))) refl (c2 .put8 .ensures))
 
 -- src/lib.rt:64:1
 same-length : tie.Need-same-length Inv-loop μ-loop
-same-length c = ap length (c .before .loop .inv .1) ∙ length-sets (c .before .before .before .before .args .out .now) (c .before .before .before .before .args .at) (bytesOf (each (λ (j : ℕ). getD (numbers (c .before .before .before .before .args .l)) j 0) (c .before .loop .i)))
+same-length c = let c1 = c .before in let c4 = c1 .before .before .before in ap length (c1 .loop .inv .1) ∙ length-sets (c4 .args .out .now) (c4 .args .at) (bytesOf (each (λ (j : ℕ). getD (numbers (c4 .args .l)) j 0) (c1 .loop .i)))
 
 -- src/lib.rt:64:1
 returns : tie.Need-returns Inv-loop μ-loop
-returns c = c .before .loop .inv .1 ∙ ap (λ (b : List ℕ). sets (c .before .before .before .before .args .out .now) (c .before .before .before .before .args .at) (bytesOf (b))) (ap (each (λ (j : ℕ). getD (numbers (c .before .before .before .before .args .l)) j 0)) (let z : c .before .loop .i ≡ length (numbers (c .before .before .before .before .args .l)) = omega (arith, c .loop-test .left, c .before .loop .inv .0, c .before .before .size .ensures .0) in z) ∙ each-all (numbers (c .before .before .before .before .args .l)))
+returns c = let c1 = c .before in let c2 = c1 .before in let c4 = c2 .before .before in c1 .loop .inv .1 ∙ ap (λ (b : List ℕ). sets (c4 .args .out .now) (c4 .args .at) (bytesOf (b))) (ap (each (λ (j : ℕ). getD (numbers (c4 .args .l)) j 0)) (let z : c1 .loop .i ≡ length (numbers (c4 .args .l)) = omega (arith, c .loop-test .left, c1 .loop .inv .0, c2 .size .ensures .0) in z) ∙ each-all (numbers (c4 .args .l)))
 
 pub put-fds-spec : {M : Type 1} → statement M
 put-fds-spec =

@@ -31,7 +31,7 @@ same-length : tie.Need-same-length
 same-length c = search needs
 
 returns : tie.Need-returns
-returns c = let t = (let bs = c .before .before .before .before .before .before .before .before .before .before .before .before .before .before .before .args .bytes .now in read-runs (c .before .before .before .before .before .before .before .before .before .before .before .before .before .before .before .args .out .now) _ _ _ (bytesOf (answerWords (answerOf (c .before .before .before .before .before .before .before .before .before .before .before .before .before .before .before .args .a)))) (bytes8 0) (bytesOf (length bs ∷ [])) bs 16 32 _ (c .before .before .before .before .before .before .before .before .before .before .put-two .ensures ∙ ap (λ (w : List ℕ). sets (c .before .before .before .before .before .before .before .before .before .before .before .before .before .before .before .args .out .now) 0 (bytesOf w)) (c .before .before .before .before .before .before .before .before .before .before .before .before .plain .ensures)) (ap (λ (w : List ℕ). length (bytesOf w)) (c .before .before .before .before .before .before .before .before .before .before .before .before .plain .ensures)) (c .before .before .before .before .before .before .put-two2 .ensures) refl (c .before .before .put-bytes .ensures) refl) in (t .0, (t .1, refl))
+returns c = let c2 = c .before .before in let c6 = c2 .before .before .before .before in let c10 = c6 .before .before .before .before in let c12 = c10 .before .before in let c15 = c12 .before .before .before in let t = (let bs = c15 .args .bytes .now in read-runs (c15 .args .out .now) _ _ _ (bytesOf (answerWords (answerOf (c15 .args .a)))) (bytes8 0) (bytesOf (length bs ∷ [])) bs 16 32 _ (c10 .put-two .ensures ∙ ap (λ (w : List ℕ). sets (c15 .args .out .now) 0 (bytesOf w)) (c12 .plain .ensures)) (ap (λ (w : List ℕ). length (bytesOf w)) (c12 .plain .ensures)) (c6 .put-two2 .ensures) refl (c2 .put-bytes .ensures) refl) in (t .0, (t .1, refl))
 
 pub put-received-spec : {M : Type 1} → statement M
 put-received-spec =

@@ -20,7 +20,7 @@ same-length : tie.Need-same-length
 same-length c = search needs
 
 returns : tie.Need-returns
-returns c = success-runs (c .before .before .before .before .before .before .before .before .before .before .before .before .args .r) (c .before .before .before .before .before .before .before .before .before .before .before .before .args .fds) (c .before .before .before .before .before .before .before .before .before .before .before .before .args .out .now) _ _ _ (c .before .before .before .before .before .before .before .before .before .before .if1 .taken) (c .before .before .before .before .before .before .before .before .put-two .ensures) (c .before .before .before .mark .ensures) (c .before .before .put-two2 .ensures)
+returns c = let c2 = c .before .before in let c3 = c2 .before in let c8 = c3 .before .before .before .before .before in let c10 = c8 .before .before in let c12 = c10 .before .before in success-runs (c12 .args .r) (c12 .args .fds) (c12 .args .out .now) _ _ _ (c10 .if1 .taken) (c8 .put-two .ensures) (c3 .mark .ensures) (c2 .put-two2 .ensures)
 
 put-two-requires-3 : tie.Need-put-two-requires-3
 put-two-requires-3 c κs = search needs
@@ -38,7 +38,7 @@ same-length-2 : tie.Need-same-length-2
 same-length-2 c = search needs
 
 returns-2 : tie.Need-returns-2
-returns-2 c = error-runs (c .before .before .before .before .before .before .before .before .before .before .before .before .before .args .r) (c .before .before .before .before .before .before .before .before .before .before .before .before .before .args .fds) (c .before .before .before .before .before .before .before .before .before .before .before .before .before .args .out .now) _ _ _ (c .before .before .before .before .before .before .before .before .before .before .if2 .taken) (c .before .before .before .before .before .before .before .before .put-two3 .ensures) (c .before .before .before .mark2 .ensures) (c .before .before .put-two4 .ensures)
+returns-2 c = let c2 = c .before .before in let c3 = c2 .before in let c8 = c3 .before .before .before .before .before in let c10 = c8 .before .before in let c13 = c10 .before .before .before in error-runs (c13 .args .r) (c13 .args .fds) (c13 .args .out .now) _ _ _ (c10 .if2 .taken) (c8 .put-two3 .ensures) (c3 .mark2 .ensures) (c2 .put-two4 .ensures)
 
 put-two-requires-5 : tie.Need-put-two-requires-5
 put-two-requires-5 c κs = search needs
@@ -47,7 +47,7 @@ same-length-3 : tie.Need-same-length-3
 same-length-3 c = search needs
 
 returns-3 : tie.Need-returns-3
-returns-3 c = descriptor-runs (c .before .before .before .before .before .before .before .before .args .r) (c .before .before .before .before .before .before .before .before .args .fds) (c .before .before .before .before .before .before .before .before .args .out .now) (c .before .before .before .before .before .before .before .before .args .out .now) _ (c .before .before .before .before .if3 .taken) (c .before .before .put-two5 .ensures)
+returns-3 c = let c2 = c .before .before in let c4 = c2 .before .before in let c8 = c4 .before .before .before .before in descriptor-runs (c8 .args .r) (c8 .args .fds) (c8 .args .out .now) (c8 .args .out .now) _ (c4 .if3 .taken) (c2 .put-two5 .ensures)
 
 size-requires : tie.Need-size-requires
 size-requires c κs = search needs
@@ -68,7 +68,7 @@ same-length-4 : tie.Need-same-length-4
 same-length-4 c = search needs
 
 returns-4 : tie.Need-returns-4
-returns-4 c = many-runs (c .before .before .before .before .before .before .before .before .before .before .before .before .before .args .r) (c .before .before .before .before .before .before .before .before .before .before .before .before .before .args .fds) (c .before .before .before .before .before .before .before .before .before .before .before .before .before .args .out .now) _ _ _ (c .before .before .before .before .before .before .before .before .before .before .before .if1 .left) (c .before .before .before .before .before .before .before .before .before .before .if2 .left) (c .before .before .before .before .before .before .before .before .before .if3 .left) (c .before .before .before .before .before .before .before .before .size .ensures .0) (c .before .before .before .before .before .before .before .before .size .ensures .1) (c .before .before .before .before .before .before .put-two6 .ensures) (c .before .before .put-fds .ensures)
+returns-4 c = let c2 = c .before .before in let c6 = c2 .before .before .before .before in let c8 = c6 .before .before in let c9 = c8 .before in let c10 = c9 .before in let c11 = c10 .before in let c13 = c11 .before .before in many-runs (c13 .args .r) (c13 .args .fds) (c13 .args .out .now) _ _ _ (c11 .if1 .left) (c10 .if2 .left) (c9 .if3 .left) (c8 .size .ensures .0) (c8 .size .ensures .1) (c6 .put-two6 .ensures) (c2 .put-fds .ensures)
 
 pub put-reply-spec : {M : Type 1} → statement M
 put-reply-spec =

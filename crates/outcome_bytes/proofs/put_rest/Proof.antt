@@ -28,7 +28,7 @@ same-length : tie.Need-same-length
 same-length c = search needs
 
 returns : tie.Need-returns
-returns c = let t = (let fx = effectWords (c .before .before .before .before .before .before .before .before .before .args .e) in rest-runs (c .before .before .before .before .before .before .before .before .before .args .out .now) _ _ (bytesOf (length fx ∷ fx)) (bytes8 0) (c .before .before .before .before .before .before .before .before .before .args .at) _ (c .before .before .before .before .before .before .put-effect .ensures .0) (c .before .before .before .before .before .before .put-effect .ensures .1 .0) (c .before .before .put8 .ensures)) in (t .0, (t .1, omega (arith, c .before .before .before .before .before .before .put-effect .ensures .1 .1)))
+returns c = let c2 = c .before .before in let c6 = c2 .before .before .before .before in let c9 = c6 .before .before .before in let t = (let fx = effectWords (c9 .args .e) in rest-runs (c9 .args .out .now) _ _ (bytesOf (length fx ∷ fx)) (bytes8 0) (c9 .args .at) _ (c6 .put-effect .ensures .0) (c6 .put-effect .ensures .1 .0) (c2 .put8 .ensures)) in (t .0, (t .1, omega (arith, c6 .put-effect .ensures .1 .1)))
 
 pub put-rest-spec : {M : Type 1} → statement M
 put-rest-spec =

@@ -20,7 +20,7 @@ same-length : tie.Need-same-length
 same-length c = search needs
 
 returns : tie.Need-returns
-returns c = pair-runs (c .before .before .before .before .before .before .before .args .out .now) _ (c .before .before .before .before .before .before .before .args .at) _ _ (c .before .before .before .before .before .before .before .args .t) (c .before .before .before .before .before .before .before .args .which) (c .before .before .before .before .before .word .ensures) (c .before .before .before .before .count .ensures .0) (c .before .before .put-two .ensures)
+returns c = let c2 = c .before .before in let c4 = c2 .before .before in let c5 = c4 .before in let c7 = c5 .before .before in pair-runs (c7 .args .out .now) _ (c7 .args .at) _ _ (c7 .args .t) (c7 .args .which) (c5 .word .ensures) (c4 .count .ensures .0) (c2 .put-two .ensures)
 
 pub put-status-spec : {M : Type 1} → statement M
 put-status-spec =

@@ -35,7 +35,7 @@ same-length : tie.Need-same-length
 same-length c = search needs
 
 returns : tie.Need-returns
-returns c = let l = c .before .before .before .before .before .before .before .before .before .before .before .before .before .before .before .before .before .args .out .now in let at = c .before .before .before .before .before .before .before .before .before .before .before .before .before .before .before .before .before .args .at in let p = bytesOf (statusPair (c .before .before .before .before .before .before .before .before .before .before .before .before .before .before .before .before .before .args .t) Placeholder) in let w = bytesOf (statusPair (c .before .before .before .before .before .before .before .before .before .before .before .before .before .before .before .before .before .args .t) Waiting) in let r = bytesOf (statusPair (c .before .before .before .before .before .before .before .before .before .before .before .before .before .before .before .before .before .args .t) Responded) in let f = bytesOf (statusPair (c .before .before .before .before .before .before .before .before .before .before .before .before .before .before .before .before .before .args .t) Fmap) in next-run l _ _ (p ++ w ++ r) f at (at + 48) 48 (next-run l _ _ (p ++ w) r at (at + 32) 32 (next-run l _ _ p w at (at + 16) 16 (c .before .before .before .before .before .before .before .before .before .before .before .before .before .before .put-status .ensures) refl refl (c .before .before .before .before .before .before .before .before .before .before .put-status2 .ensures)) refl refl (c .before .before .before .before .before .before .put-status3 .ensures)) refl refl (c .before .before .put-status4 .ensures)
+returns c = let c2 = c .before .before in let c6 = c2 .before .before .before .before in let c10 = c6 .before .before .before .before in let c14 = c10 .before .before .before .before in let c17 = c14 .before .before .before in let l = c17 .args .out .now in let at = c17 .args .at in let p = bytesOf (statusPair (c17 .args .t) Placeholder) in let w = bytesOf (statusPair (c17 .args .t) Waiting) in let r = bytesOf (statusPair (c17 .args .t) Responded) in let f = bytesOf (statusPair (c17 .args .t) Fmap) in next-run l _ _ (p ++ w ++ r) f at (at + 48) 48 (next-run l _ _ (p ++ w) r at (at + 32) 32 (next-run l _ _ p w at (at + 16) 16 (c14 .put-status .ensures) refl refl (c10 .put-status2 .ensures)) refl refl (c6 .put-status3 .ensures)) refl refl (c2 .put-status4 .ensures)
 
 pub put-statuses-spec : {M : Type 1} → statement M
 put-statuses-spec =

@@ -27,7 +27,7 @@ same-length : tie.Need-same-length
 same-length c = search needs
 
 returns : tie.Need-returns
-returns c = let t = (let fx = effectWords (c .before .before .before .before .before .before .before .before .before .before .args .e) in step-runs (c .before .before .before .before .before .before .before .before .before .before .args .out .now) _ _ (bytesOf (answerWords (answerOf (c .before .before .before .before .before .before .before .before .before .before .args .a)))) (bytesOf (length fx ∷ fx)) (bytes8 0) 16 _ (c .before .before .before .before .before .before .put-two .ensures ∙ ap (λ (w : List ℕ). sets (c .before .before .before .before .before .before .before .before .before .before .args .out .now) 0 (bytesOf w)) (c .before .before .before .before .before .before .before .before .plain .ensures)) (ap (λ (w : List ℕ). length (bytesOf w)) (c .before .before .before .before .before .before .before .before .plain .ensures)) (c .before .before .put-rest .ensures .0) (c .before .before .put-rest .ensures .1 .0)) in (t .0, (t .1, omega (arith, c .before .before .put-rest .ensures .1 .1)))
+returns c = let c2 = c .before .before in let c6 = c2 .before .before .before .before in let c8 = c6 .before .before in let c10 = c8 .before .before in let t = (let fx = effectWords (c10 .args .e) in step-runs (c10 .args .out .now) _ _ (bytesOf (answerWords (answerOf (c10 .args .a)))) (bytesOf (length fx ∷ fx)) (bytes8 0) 16 _ (c6 .put-two .ensures ∙ ap (λ (w : List ℕ). sets (c10 .args .out .now) 0 (bytesOf w)) (c8 .plain .ensures)) (ap (λ (w : List ℕ). length (bytesOf w)) (c8 .plain .ensures)) (c2 .put-rest .ensures .0) (c2 .put-rest .ensures .1 .0)) in (t .0, (t .1, omega (arith, c2 .put-rest .ensures .1 .1)))
 
 pub put-step-spec : {M : Type 1} → statement M
 put-step-spec =

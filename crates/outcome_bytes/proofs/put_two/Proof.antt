@@ -20,7 +20,7 @@ same-length : tie.Need-same-length
 same-length c = search needs
 
 returns : tie.Need-returns
-returns c = two-runs (c .before .before .before .before .before .before .before .before .before .args .out .now) _ _ (bytes8 (c .before .before .before .before .before .before .before .before .before .args .a)) (bytes8 (c .before .before .before .before .before .before .before .before .before .args .b)) (c .before .before .before .before .before .before .before .before .before .args .at) (c .before .before .before .before .before .before .before .before .before .args .at + 8) (c .before .before .before .before .before .before .put8 .ensures) refl (c .before .before .put82 .ensures)
+returns c = let c2 = c .before .before in let c6 = c2 .before .before .before .before in let c9 = c6 .before .before .before in two-runs (c9 .args .out .now) _ _ (bytes8 (c9 .args .a)) (bytes8 (c9 .args .b)) (c9 .args .at) (c9 .args .at + 8) (c6 .put8 .ensures) refl (c2 .put82 .ensures)
 
 pub put-two-spec : {M : Type 1} → statement M
 put-two-spec = tie.close (tie.spec put8-requires add-put8 put8-requires-2 same-length returns)

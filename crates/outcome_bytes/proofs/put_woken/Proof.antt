@@ -22,7 +22,7 @@ same-length : tie.Need-same-length
 same-length c = search needs
 
 returns : tie.Need-returns
-returns c = let t = (let fx = effectWords (c .before .before .before .before .before .before .before .before .before .before .before .args .e) in told-as (c .before .before .before .before .before .before .before .before .before .before .before .args .out .now) _ _ _ _ fx [] (with-reply (c .before .before .before .before .before .before .before .before .before .before .before .args .a) (c .before .before .before .before .before .before .before .before .before .before .before .args .r) (c .before .before .before .before .before .before .before .before .before .before .before .args .fds) (c .before .before .before .before .before .before .before .before .if1 .taken)) (step-runs (c .before .before .before .before .before .before .before .before .before .before .before .args .out .now) _ _ (bytesOf (answerWords (reply (responseFrom (c .before .before .before .before .before .before .before .before .before .before .before .args .r) (c .before .before .before .before .before .before .before .before .before .before .before .args .fds))))) (bytesOf (length fx ∷ fx)) (bytes8 0) _ _ (c .before .before .before .before .before .before .put-reply .ensures .0) (c .before .before .before .before .before .before .put-reply .ensures .1 .0) (c .before .before .put-rest .ensures .0) (c .before .before .put-rest .ensures .1 .0))) in (t .0, (t .1, omega (arith, c .before .before .put-rest .ensures .1 .1, c .before .before .before .before .before .before .put-reply .ensures .1 .1)))
+returns c = let c2 = c .before .before in let c6 = c2 .before .before .before .before in let c8 = c6 .before .before in let c11 = c8 .before .before .before in let t = (let fx = effectWords (c11 .args .e) in told-as (c11 .args .out .now) _ _ _ _ fx [] (with-reply (c11 .args .a) (c11 .args .r) (c11 .args .fds) (c8 .if1 .taken)) (step-runs (c11 .args .out .now) _ _ (bytesOf (answerWords (reply (responseFrom (c11 .args .r) (c11 .args .fds))))) (bytesOf (length fx ∷ fx)) (bytes8 0) _ _ (c6 .put-reply .ensures .0) (c6 .put-reply .ensures .1 .0) (c2 .put-rest .ensures .0) (c2 .put-rest .ensures .1 .0))) in (t .0, (t .1, omega (arith, c2 .put-rest .ensures .1 .1, c6 .put-reply .ensures .1 .1)))
 
 put-step-requires : tie.Need-put-step-requires
 put-step-requires c κs = search needs
@@ -31,7 +31,7 @@ same-length-2 : tie.Need-same-length-2
 same-length-2 c = search needs
 
 returns-2 : tie.Need-returns-2
-returns-2 c = let t = (told-as (c .before .before .before .before .before .before .before .args .out .now) _ _ _ _ (effectWords (c .before .before .before .before .before .before .before .args .e)) [] (without (c .before .before .before .before .before .before .before .args .a) (c .before .before .before .before .before .before .before .args .r) (c .before .before .before .before .before .before .before .args .fds) (c .before .before .before .before .if1 .left)) (c .before .before .put-step .ensures .0, c .before .before .put-step .ensures .1 .0)) in (t .0, (t .1, c .before .before .put-step .ensures .1 .1))
+returns-2 c = let c2 = c .before .before in let c4 = c2 .before .before in let c7 = c4 .before .before .before in let t = (told-as (c7 .args .out .now) _ _ _ _ (effectWords (c7 .args .e)) [] (without (c7 .args .a) (c7 .args .r) (c7 .args .fds) (c4 .if1 .left)) (c2 .put-step .ensures .0, c2 .put-step .ensures .1 .0)) in (t .0, (t .1, c2 .put-step .ensures .1 .1))
 
 pub put-woken-spec : {M : Type 1} → statement M
 put-woken-spec =

@@ -27,7 +27,7 @@ mul-put8 c = omega (arith, c .before .loop-test .taken, c .before .before .befor
 
 -- src/lib.rt:41:27
 add-put8 : tie.Need-add-put8 Inv-loop μ-loop
-add-put8 c = omega (arith, c .before .loop-test .taken, c .before .before .before .before .before .good .1 .1 .0 .0, c .before .before .before .before .before .pre)
+add-put8 c = let c1 = c .before in let c5 = c1 .before .before .before .before in omega (arith, c1 .loop-test .taken, c5 .good .1 .1 .0 .0, c5 .pre)
 
 -- src/lib.rt:41:39
 mul-put8-2 : tie.Need-mul-put8-2 Inv-loop μ-loop
@@ -51,15 +51,15 @@ loop-less c = omega (arith, c .before .before .before .before .before .loop-test
 
 -- src/lib.rt:40:5
 loop-again : tie.Need-loop-again Inv-loop μ-loop
-loop-again c = (omega (arith, c .before .before .before .before .before .loop-test .taken), word-more (c .before .before .before .before .before .before .before .before .before .args .out .now) (c .before .before .before .before .before .before .loop .out) _ (λ (j : ℕ). getD (c .before .before .before .before .before .before .before .before .before .args .ws .now) j 0) (c .before .before .before .before .before .before .loop .i) _ (c .before .before .before .before .before .before .before .before .before .args .at) _ (c .before .before .before .before .before .before .loop .inv .1) refl refl (c .before .before .put8 .ensures))
+loop-again c = let c2 = c .before .before in let c5 = c2 .before .before .before in let c6 = c5 .before in let c9 = c6 .before .before .before in (omega (arith, c5 .loop-test .taken), word-more (c9 .args .out .now) (c6 .loop .out) _ (λ (j : ℕ). getD (c9 .args .ws .now) j 0) (c6 .loop .i) _ (c9 .args .at) _ (c6 .loop .inv .1) refl refl (c2 .put8 .ensures))
 
 -- src/lib.rt:34:1
 same-length : tie.Need-same-length Inv-loop μ-loop
-same-length c = ap length (c .before .loop .inv .1) ∙ length-sets (c .before .before .before .before .args .out .now) (c .before .before .before .before .args .at) (bytesOf (each (λ (j : ℕ). getD (c .before .before .before .before .args .ws .now) j 0) (c .before .loop .i)))
+same-length c = let c1 = c .before in let c4 = c1 .before .before .before in ap length (c1 .loop .inv .1) ∙ length-sets (c4 .args .out .now) (c4 .args .at) (bytesOf (each (λ (j : ℕ). getD (c4 .args .ws .now) j 0) (c1 .loop .i)))
 
 -- src/lib.rt:34:1
 returns : tie.Need-returns Inv-loop μ-loop
-returns c = c .before .loop .inv .1 ∙ ap (λ (b : List ℕ). sets (c .before .before .before .before .args .out .now) (c .before .before .before .before .args .at) (bytesOf (b))) (ap (each (λ (j : ℕ). getD (c .before .before .before .before .args .ws .now) j 0)) (let z : c .before .loop .i ≡ length (c .before .before .before .before .args .ws .now) = omega (arith, c .loop-test .left, c .before .loop .inv .0) in z) ∙ each-all (c .before .before .before .before .args .ws .now))
+returns c = let c1 = c .before in let c4 = c1 .before .before .before in c1 .loop .inv .1 ∙ ap (λ (b : List ℕ). sets (c4 .args .out .now) (c4 .args .at) (bytesOf (b))) (ap (each (λ (j : ℕ). getD (c4 .args .ws .now) j 0)) (let z : c1 .loop .i ≡ length (c4 .args .ws .now) = omega (arith, c .loop-test .left, c1 .loop .inv .0) in z) ∙ each-all (c4 .args .ws .now))
 
 pub put-words-spec : {M : Type 1} → statement M
 put-words-spec =

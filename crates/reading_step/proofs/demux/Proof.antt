@@ -30,7 +30,7 @@ returns : tie.Need-returns
 returns c = c .done .ensures ∙ ap (λ (r : Result). answered (resultAnswer r)) (sym (c .before .before .a .given .1) ∙ c .before .before .before .before .before .demux .ensures)
 
 returns-2 : tie.Need-returns-2
-returns-2 c = c .refused .ensures ∙ ap no (c .before .before .before .before .number .ensures ∙ ap (λ (r : Result). numberOf (resultAnswer r)) (c .before .before .a2 .given .1)) ∙ ap (λ (r : Result). answered (resultAnswer r)) (sym (c .before .before .a2 .given .1) ∙ c .before .before .before .before .before .demux .ensures)
+returns-2 c = let c2 = c .before .before in let c4 = c2 .before .before in let c5 = c4 .before in c .refused .ensures ∙ ap no (c4 .number .ensures ∙ ap (λ (r : Result). numberOf (resultAnswer r)) (c2 .a2 .given .1)) ∙ ap (λ (r : Result). answered (resultAnswer r)) (sym (c2 .a2 .given .1) ∙ c5 .demux .ensures)
 
 pub demux-spec : {M : Type 1} → statement M
 demux-spec =

@@ -17,7 +17,7 @@ same-length : tie.Need-same-length
 same-length c = search needs
 
 returns : tie.Need-returns
-returns c = c .before .before .words-at .ensures ∙ ap (λ (k : ℕ). sets (c .before .before .before .before .before .before .before .args .out .now) 0 (wordsAt (c .before .before .before .before .before .before .before .args .s .now) k (c .before .before .before .before .before .before .before .args .r .first))) (c .before .before .before .before .first-at .ensures .0)
+returns c = let c2 = c .before .before in let c4 = c2 .before .before in let c7 = c4 .before .before .before in c2 .words-at .ensures ∙ ap (λ (k : ℕ). sets (c7 .args .out .now) 0 (wordsAt (c7 .args .s .now) k (c7 .args .r .first))) (c4 .first-at .ensures .0)
 
 pub first-list-spec : {M : Type 1} → statement M
 first-list-spec = tie.close (tie.spec first-at-requires words-at-requires same-length returns)

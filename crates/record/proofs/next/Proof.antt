@@ -17,10 +17,10 @@ size-requires : tie.Need-size-requires
 size-requires c κs = search needs
 
 returns : tie.Need-returns
-returns c = c .size .ensures ∙ sym (ap (λ (b : Bool). cond b (sizeOf (c .before .before .before .record-at .result)) 0) (c .before .if1 .taken)) ∙ next-is (c .before .before .before .before .before .args .s .now) _ _ (c .before .before .before .record-at .ensures) (c .before .before .is-event .ensures)
+returns c = let c1 = c .before in let c2 = c1 .before in let c3 = c2 .before in let c5 = c3 .before .before in c .size .ensures ∙ sym (ap (λ (b : Bool). cond b (sizeOf (c3 .record-at .result)) 0) (c1 .if1 .taken)) ∙ next-is (c5 .args .s .now) _ _ (c3 .record-at .ensures) (c2 .is-event .ensures)
 
 returns-2 : tie.Need-returns-2
-returns-2 c = sym (ap (λ (b : Bool). cond b (sizeOf (c .before .before .record-at .result)) 0) (c .if1 .left)) ∙ next-is (c .before .before .before .before .args .s .now) _ _ (c .before .before .record-at .ensures) (c .before .is-event .ensures)
+returns-2 c = let c1 = c .before in let c2 = c1 .before in let c4 = c2 .before .before in sym (ap (λ (b : Bool). cond b (sizeOf (c2 .record-at .result)) 0) (c .if1 .left)) ∙ next-is (c4 .args .s .now) _ _ (c2 .record-at .ensures) (c1 .is-event .ensures)
 
 pub next-spec : {M : Type 1} → statement M
 next-spec =

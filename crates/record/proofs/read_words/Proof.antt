@@ -31,7 +31,7 @@ word-requires-9 : tie.Need-word-requires-9
 word-requires-9 c κs = search needs
 
 returns : tie.Need-returns
-returns c = λ i. record { 0 = c .before .before .before .before .before .before .before .before .word .ensures i; 1 = c .before .before .before .before .before .before .before .word2 .ensures i; 2 = c .before .before .before .before .before .before .word3 .ensures i; 3 = c .before .before .before .before .before .word4 .ensures i; 4 = c .before .before .before .before .word5 .ensures i; 5 = c .before .before .before .word6 .ensures i; 6 = c .before .before .word7 .ensures i; 7 = c .before .word8 .ensures i; 8 = c .word9 .ensures i }
+returns c = let c1 = c .before in let c2 = c1 .before in let c3 = c2 .before in let c4 = c3 .before in let c5 = c4 .before in let c6 = c5 .before in let c7 = c6 .before in let c8 = c7 .before in λ i. record { 0 = c8 .word .ensures i; 1 = c7 .word2 .ensures i; 2 = c6 .word3 .ensures i; 3 = c5 .word4 .ensures i; 4 = c4 .word5 .ensures i; 5 = c3 .word6 .ensures i; 6 = c2 .word7 .ensures i; 7 = c1 .word8 .ensures i; 8 = c .word9 .ensures i }
 
 pub read-words-spec : {M : Type 1} → statement M
 read-words-spec =

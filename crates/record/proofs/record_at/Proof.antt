@@ -28,7 +28,7 @@ half-requires-3 : tie.Need-half-requires-3
 half-requires-3 c κs = search needs
 
 returns : tie.Need-returns
-returns c = λ i. record { kind = c .before .before .before .before .before .before .byte .ensures i; first = c .before .before .before .before .before .byte2 .ensures i; second = c .before .before .before .before .byte3 .ensures i; flags = c .before .before .before .byte4 .ensures i; number = c .before .before .half .ensures i; uid = c .before .half2 .ensures i; gid = c .half3 .ensures i; words = c .before .before .before .before .before .before .before .read-words .ensures i }
+returns c = let c1 = c .before in let c2 = c1 .before in let c3 = c2 .before in let c4 = c3 .before in let c5 = c4 .before in let c6 = c5 .before in let c7 = c6 .before in λ i. record { kind = c6 .byte .ensures i; first = c5 .byte2 .ensures i; second = c4 .byte3 .ensures i; flags = c3 .byte4 .ensures i; number = c2 .half .ensures i; uid = c1 .half2 .ensures i; gid = c .half3 .ensures i; words = c7 .read-words .ensures i }
 
 pub record-at-spec : {M : Type 1} → statement M
 record-at-spec =

@@ -30,7 +30,7 @@ mul-word c = omega (arith, c .before .loop-test .taken, c .before .before .befor
 
 -- src/lib.rt:256:43
 add-word : tie.Need-add-word Inv-loop μ-loop
-add-word c = omega (arith, c .before .loop-test .taken, c .before .before .before .wide .ensures .1, c .before .before .before .before .before .before .pre)
+add-word c = let c1 = c .before in let c3 = c1 .before .before in let c6 = c3 .before .before .before in omega (arith, c1 .loop-test .taken, c3 .wide .ensures .1, c6 .pre)
 
 -- src/lib.rt:256:31
 word-requires : tie.Need-word-requires Inv-loop μ-loop
@@ -50,15 +50,15 @@ loop-less c = omega (arith, c .before .before .before .before .before .loop-test
 
 -- src/lib.rt:255:5
 loop-again : tie.Need-loop-again Inv-loop μ-loop
-loop-again c = (omega (arith, c .before .before .before .before .before .loop-test .taken), c .before .before .put .ensures ∙ grown (c .before .before .before .before .before .before .before .before .before .before .args .out .now) (c .before .before .before .before .before .before .loop .out) (λ (j : ℕ). word (c .before .before .before .before .before .before .before .before .before .before .args .s .now) (c .before .before .before .before .before .before .before .before .before .before .args .at + 8 * j)) (c .before .before .before .before .before .before .loop .i) (c .before .before .before .word .result) (c .before .before .before .before .before .before .loop .inv .1) (c .before .before .before .word .ensures))
+loop-again c = let c2 = c .before .before in let c3 = c2 .before in let c5 = c3 .before .before in let c6 = c5 .before in let c10 = c6 .before .before .before .before in (omega (arith, c5 .loop-test .taken), c2 .put .ensures ∙ grown (c10 .args .out .now) (c6 .loop .out) (λ (j : ℕ). word (c10 .args .s .now) (c10 .args .at + 8 * j)) (c6 .loop .i) (c3 .word .result) (c6 .loop .inv .1) (c3 .word .ensures))
 
 -- src/lib.rt:249:1
 same-length : tie.Need-same-length Inv-loop μ-loop
-same-length c = ap length (c .before .loop .inv .1) ∙ length-sets (c .before .before .before .before .before .args .out .now) 0 (wordsAt (c .before .before .before .before .before .args .s .now) (c .before .before .before .before .before .args .at) (c .before .loop .i))
+same-length c = let c1 = c .before in let c5 = c1 .before .before .before .before in ap length (c1 .loop .inv .1) ∙ length-sets (c5 .args .out .now) 0 (wordsAt (c5 .args .s .now) (c5 .args .at) (c1 .loop .i))
 
 -- src/lib.rt:249:1
 returns : tie.Need-returns Inv-loop μ-loop
-returns c = subst (λ (k : ℕ). c .before .loop .out ≡ sets (c .before .before .before .before .before .args .out .now) 0 (wordsAt (c .before .before .before .before .before .args .s .now) (c .before .before .before .before .before .args .at) k)) (let z : c .before .loop .i ≡ c .before .before .before .before .before .args .n = omega (arith, c .loop-test .left, c .before .loop .inv .0, c .before .before .wide .ensures .0) in z) (c .before .loop .inv .1)
+returns c = let c1 = c .before in let c2 = c1 .before in let c5 = c2 .before .before .before in subst (λ (k : ℕ). c1 .loop .out ≡ sets (c5 .args .out .now) 0 (wordsAt (c5 .args .s .now) (c5 .args .at) k)) (let z : c1 .loop .i ≡ c5 .args .n = omega (arith, c .loop-test .left, c1 .loop .inv .0, c2 .wide .ensures .0) in z) (c1 .loop .inv .1)
 
 pub words-at-spec : {M : Type 1} → statement M
 words-at-spec =

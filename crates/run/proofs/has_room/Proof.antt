@@ -49,19 +49,19 @@ room-requires c κs = search needs
 
 -- src/lib.rt:269:13
 returns-2 : tie.Need-returns-2 Inv-loop μ-loop
-returns-2 c = spent-short (c .before .before .before .before .before .before .before .before .before .args .events .now) (c .before .before .before .before .before .before .before .before .before .args .most) (c .before .before .before .before .before .loop .left) (c .before .before .before .before .before .loop .at) (c .before .room .result) (c .before .before .before .before .before .loop .size) (c .before .before .before .before .before .loop .inv .2) (c .before .before .before .before .before .loop .inv .1) (c .before .before .before .before .loop-test .taken) (c .before .before .record-at .result) (c .before .before .record-at .ensures ∙ ap recordOf (part-is (c .before .before .before .before .before .before .before .before .before .args .events .now) (c .before .before .before .before .before .loop .at))) (c .before .room .ensures .0) (c .if2 .taken)
+returns-2 c = let c1 = c .before in let c2 = c1 .before in let c4 = c2 .before .before in let c5 = c4 .before in let c9 = c5 .before .before .before .before in spent-short (c9 .args .events .now) (c9 .args .most) (c5 .loop .left) (c5 .loop .at) (c1 .room .result) (c5 .loop .size) (c5 .loop .inv .2) (c5 .loop .inv .1) (c4 .loop-test .taken) (c2 .record-at .result) (c2 .record-at .ensures ∙ ap recordOf (part-is (c9 .args .events .now) (c5 .loop .at))) (c1 .room .ensures .0) (c .if2 .taken)
 
 -- src/lib.rt:272:9
 add-at : tie.Need-add-at Inv-loop μ-loop
-add-at c = omega (arith, spent-place (c .before .before .before .before .before .before .before .before .before .args .events .now) (c .before .before .before .before .before .before .before .before .before .args .most) (c .before .before .before .before .before .loop .left) (c .before .before .before .before .before .loop .at) 0 (c .before .before .before .before .before .loop .size) (c .before .before .before .before .before .loop .inv .2) (c .before .before .before .before .before .loop .inv .1) (c .before .before .before .before .before .loop .inv .0), c .before .before .before .before .before .before .before .before .before .good .0 .0)
+add-at c = let c5 = c .before .before .before .before .before in let c9 = c5 .before .before .before .before in omega (arith, spent-place (c9 .args .events .now) (c9 .args .most) (c5 .loop .left) (c5 .loop .at) 0 (c5 .loop .size) (c5 .loop .inv .2) (c5 .loop .inv .1) (c5 .loop .inv .0), c9 .good .0 .0)
 
 -- src/lib.rt:273:29
 sub-next : tie.Need-sub-next Inv-loop μ-loop
-sub-next c = omega (arith, spent-place (c .before .before .before .before .before .before .before .before .before .args .events .now) (c .before .before .before .before .before .before .before .before .before .args .most) (c .before .before .before .before .before .loop .left) (c .before .before .before .before .before .loop .at) 0 (c .before .before .before .before .before .loop .size) (c .before .before .before .before .before .loop .inv .2) (c .before .before .before .before .before .loop .inv .1) (c .before .before .before .before .before .loop .inv .0))
+sub-next c = let c5 = c .before .before .before .before .before in let c9 = c5 .before .before .before .before in omega (arith, spent-place (c9 .args .events .now) (c9 .args .most) (c5 .loop .left) (c5 .loop .at) 0 (c5 .loop .size) (c5 .loop .inv .2) (c5 .loop .inv .1) (c5 .loop .inv .0))
 
 -- src/lib.rt:273:29
 part-next-start : tie.Need-part-next-start Inv-loop μ-loop
-part-next-start c = omega (arith, spent-place (c .before .before .before .before .before .before .before .before .before .args .events .now) (c .before .before .before .before .before .before .before .before .before .args .most) (c .before .before .before .before .before .loop .left) (c .before .before .before .before .before .loop .at) 0 (c .before .before .before .before .before .loop .size) (c .before .before .before .before .before .loop .inv .2) (c .before .before .before .before .before .loop .inv .1) (c .before .before .before .before .before .loop .inv .0))
+part-next-start c = let c5 = c .before .before .before .before .before in let c9 = c5 .before .before .before .before in omega (arith, spent-place (c9 .args .events .now) (c9 .args .most) (c5 .loop .left) (c5 .loop .at) 0 (c5 .loop .size) (c5 .loop .inv .2) (c5 .loop .inv .1) (c5 .loop .inv .0))
 
 -- src/lib.rt:273:29
 part-next-end : tie.Need-part-next-end Inv-loop μ-loop
@@ -73,15 +73,15 @@ next-requires-2 c κs = search needs
 
 -- src/lib.rt:265:5
 loop-less : tie.Need-loop-less Inv-loop μ-loop
-loop-less c = omega (arith, spent-place (c .before .before .before .before .before .before .before .before .before .before .before .args .events .now) (c .before .before .before .before .before .before .before .before .before .before .before .args .most) (c .before .before .before .before .before .before .before .loop .left) (c .before .before .before .before .before .before .before .loop .at) 0 (c .before .before .before .before .before .before .before .loop .size) (c .before .before .before .before .before .before .before .loop .inv .2) (c .before .before .before .before .before .before .before .loop .inv .1) (c .before .before .before .before .before .before .before .loop .inv .0), some (c .before .before .before .before .before .before .before .loop .size) (c .before .before .before .before .before .before .loop-test .taken))
+loop-less c = let c6 = c .before .before .before .before .before .before in let c7 = c6 .before in let c11 = c7 .before .before .before .before in omega (arith, spent-place (c11 .args .events .now) (c11 .args .most) (c7 .loop .left) (c7 .loop .at) 0 (c7 .loop .size) (c7 .loop .inv .2) (c7 .loop .inv .1) (c7 .loop .inv .0), some (c7 .loop .size) (c6 .loop-test .taken))
 
 -- src/lib.rt:265:5
 loop-again : tie.Need-loop-again Inv-loop μ-loop
-loop-again c = (spent-place (c .before .before .before .before .before .before .before .before .before .before .before .args .events .now) (c .before .before .before .before .before .before .before .before .before .before .before .args .most) (c .before .before .before .before .before .before .before .loop .left) (c .before .before .before .before .before .before .before .loop .at) 0 (c .before .before .before .before .before .before .before .loop .size) (c .before .before .before .before .before .before .before .loop .inv .2) (c .before .before .before .before .before .before .before .loop .inv .1) (c .before .before .before .before .before .before .before .loop .inv .0), c .next2 .ensures ∙ ap nextOf (part-is (c .before .before .before .before .before .before .before .before .before .before .before .args .events .now) (c .before .before .before .before .before .before .before .loop .at + c .before .before .before .before .before .before .before .loop .size)), spent-on (c .before .before .before .before .before .before .before .before .before .before .before .args .events .now) (c .before .before .before .before .before .before .before .before .before .before .before .args .most) (c .before .before .before .before .before .before .before .loop .left) (c .before .before .before .before .before .before .before .loop .at) (c .before .before .before .room .result) (c .before .before .before .before .before .before .before .loop .size) (c .before .before .before .before .before .before .before .loop .inv .2) (c .before .before .before .before .before .before .before .loop .inv .1) (c .before .before .before .before .before .before .loop-test .taken) (c .before .before .before .before .record-at .result) (c .before .before .before .before .record-at .ensures ∙ ap recordOf (part-is (c .before .before .before .before .before .before .before .before .before .before .before .args .events .now) (c .before .before .before .before .before .before .before .loop .at))) (c .before .before .before .room .ensures .0) (c .before .before .if2 .left))
+loop-again c = let c2 = c .before .before in let c3 = c2 .before in let c4 = c3 .before in let c6 = c4 .before .before in let c7 = c6 .before in let c11 = c7 .before .before .before .before in (spent-place (c11 .args .events .now) (c11 .args .most) (c7 .loop .left) (c7 .loop .at) 0 (c7 .loop .size) (c7 .loop .inv .2) (c7 .loop .inv .1) (c7 .loop .inv .0), c .next2 .ensures ∙ ap nextOf (part-is (c11 .args .events .now) (c7 .loop .at + c7 .loop .size)), spent-on (c11 .args .events .now) (c11 .args .most) (c7 .loop .left) (c7 .loop .at) (c3 .room .result) (c7 .loop .size) (c7 .loop .inv .2) (c7 .loop .inv .1) (c6 .loop-test .taken) (c4 .record-at .result) (c4 .record-at .ensures ∙ ap recordOf (part-is (c11 .args .events .now) (c7 .loop .at))) (c3 .room .ensures .0) (c2 .if2 .left))
 
 -- src/lib.rt:256:1
 returns-3 : tie.Need-returns-3 Inv-loop μ-loop
-returns-3 c = spent-ends (c .before .before .before .before .before .args .events .now) (c .before .before .before .before .before .args .most) (c .before .loop .left) (c .before .loop .at) 0 (c .before .loop .size) (c .before .loop .inv .2) (c .before .loop .inv .1) (c .loop-test .left)
+returns-3 c = let c1 = c .before in let c5 = c1 .before .before .before .before in spent-ends (c5 .args .events .now) (c5 .args .most) (c1 .loop .left) (c1 .loop .at) 0 (c1 .loop .size) (c1 .loop .inv .2) (c1 .loop .inv .1) (c .loop-test .left)
 
 pub has-room-spec : {M : Type 1} → statement M
 has-room-spec =

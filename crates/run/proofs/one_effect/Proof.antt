@@ -53,52 +53,52 @@ provide-mmap-requires : tie.Need-provide-mmap-requires
 provide-mmap-requires c κs = search needs
 
 returns : tie.Need-returns
-returns c = λ bs lent. as-kind (c .before .before .before .before .before .args .r) (c .before .before .before .before .before .args .first .now) (c .before .before .before .before .before .args .second .now) bs lent _ _ _ 1 (c .before .match .keys1) (c .«open» .ensures (c .before .before .before .before .before .args .words .now))
+returns c = let c1 = c .before in let c5 = c1 .before .before .before .before in λ bs lent. as-kind (c5 .args .r) (c5 .args .first .now) (c5 .args .second .now) bs lent _ _ _ 1 (c1 .match .keys1) (c .«open» .ensures (c5 .args .words .now))
 
 returns-2 : tie.Need-returns-2
-returns-2 c = λ bs lent. as-kind (c .before .before .before .before .before .args .r) (c .before .before .before .before .before .args .first .now) (c .before .before .before .before .before .args .second .now) bs lent _ _ _ 2 (c .before .match .keys2) (c .copy .ensures (c .before .before .before .before .before .args .words .now))
+returns-2 c = let c1 = c .before in let c5 = c1 .before .before .before .before in λ bs lent. as-kind (c5 .args .r) (c5 .args .first .now) (c5 .args .second .now) bs lent _ _ _ 2 (c1 .match .keys2) (c .copy .ensures (c5 .args .words .now))
 
 returns-3 : tie.Need-returns-3
-returns-3 c = λ bs lent. as-kind (c .before .before .before .before .before .args .r) (c .before .before .before .before .before .args .first .now) (c .before .before .before .before .before .args .second .now) bs lent _ _ _ 3 (c .before .match .keys3) (c .drop .ensures (c .before .before .before .before .before .args .words .now))
+returns-3 c = let c1 = c .before in let c5 = c1 .before .before .before .before in λ bs lent. as-kind (c5 .args .r) (c5 .args .first .now) (c5 .args .second .now) bs lent _ _ _ 3 (c1 .match .keys3) (c .drop .ensures (c5 .args .words .now))
 
 returns-4 : tie.Need-returns-4
-returns-4 c = λ bs lent. as-kind (c .before .before .before .before .before .args .r) (c .before .before .before .before .before .args .first .now) (c .before .before .before .before .before .args .second .now) bs lent _ _ _ 4 (c .before .match .keys4) (c .put .ensures (c .before .before .before .before .before .args .words .now))
+returns-4 c = let c1 = c .before in let c5 = c1 .before .before .before .before in λ bs lent. as-kind (c5 .args .r) (c5 .args .first .now) (c5 .args .second .now) bs lent _ _ _ 4 (c1 .match .keys4) (c .put .ensures (c5 .args .words .now))
 
 returns-5 : tie.Need-returns-5
-returns-5 c = λ bs lent. as-kind (c .before .before .before .before .before .args .r) (c .before .before .before .before .before .args .first .now) (c .before .before .before .before .before .args .second .now) bs lent _ _ _ 5 (c .before .match .keys5) (c .ended .ensures (c .before .before .before .before .before .args .words .now))
+returns-5 c = let c1 = c .before in let c5 = c1 .before .before .before .before in λ bs lent. as-kind (c5 .args .r) (c5 .args .first .now) (c5 .args .second .now) bs lent _ _ _ 5 (c1 .match .keys5) (c .ended .ensures (c5 .args .words .now))
 
 returns-6 : tie.Need-returns-6
-returns-6 c = λ bs lent. as-kind (c .before .before .before .before .before .args .r) (c .before .before .before .before .before .args .first .now) (c .before .before .before .before .before .args .second .now) bs lent _ _ _ 6 (c .before .match .keys6) (c .next-id .ensures (c .before .before .before .before .before .args .words .now))
+returns-6 c = let c1 = c .before in let c5 = c1 .before .before .before .before in λ bs lent. as-kind (c5 .args .r) (c5 .args .first .now) (c5 .args .second .now) bs lent _ _ _ 6 (c1 .match .keys6) (c .next-id .ensures (c5 .args .words .now))
 
 returns-7 : tie.Need-returns-7
-returns-7 c = λ bs lent. as-kind (c .before .before .before .before .before .before .args .r) (c .before .before .before .before .before .before .args .first .now) (c .before .before .before .before .before .before .args .second .now) bs lent _ _ _ 7 (c .before .before .match .keys7) (c .submit .ensures)
+returns-7 c = let c2 = c .before .before in let c6 = c2 .before .before .before .before in λ bs lent. as-kind (c6 .args .r) (c6 .args .first .now) (c6 .args .second .now) bs lent _ _ _ 7 (c2 .match .keys7) (c .submit .ensures)
 
 returns-8 : tie.Need-returns-8
-returns-8 c = λ bs lent. as-kind (c .before .before .before .before .before .before .args .r) (c .before .before .before .before .before .before .args .first .now) (c .before .before .before .before .before .before .args .second .now) bs lent _ _ _ 8 (c .before .before .match .keys8) (c .call .ensures)
+returns-8 c = let c2 = c .before .before in let c6 = c2 .before .before .before .before in λ bs lent. as-kind (c6 .args .r) (c6 .args .first .now) (c6 .args .second .now) bs lent _ _ _ 8 (c2 .match .keys8) (c .call .ensures)
 
 returns-9 : tie.Need-returns-9
-returns-9 c = λ bs lent. as-kind (c .before .before .before .before .before .before .args .r) (c .before .before .before .before .before .before .args .first .now) (c .before .before .before .before .before .before .args .second .now) bs lent _ _ _ 9 (c .before .before .match .keys9) (c .call-generic .ensures)
+returns-9 c = let c2 = c .before .before in let c6 = c2 .before .before .before .before in λ bs lent. as-kind (c6 .args .r) (c6 .args .first .now) (c6 .args .second .now) bs lent _ _ _ 9 (c2 .match .keys9) (c .call-generic .ensures)
 
 returns-10 : tie.Need-returns-10
-returns-10 c = λ bs lent. as-kind (c .before .before .before .before .before .before .args .r) (c .before .before .before .before .before .before .args .first .now) (c .before .before .before .before .before .before .args .second .now) bs lent _ _ _ 10 (c .before .before .match .keys10) (c .translate-std-fs-call .ensures)
+returns-10 c = let c2 = c .before .before in let c6 = c2 .before .before .before .before in λ bs lent. as-kind (c6 .args .r) (c6 .args .first .now) (c6 .args .second .now) bs lent _ _ _ 10 (c2 .match .keys10) (c .translate-std-fs-call .ensures)
 
 returns-11 : tie.Need-returns-11
-returns-11 c = λ bs lent. as-kind (c .before .before .before .before .before .before .args .r) (c .before .before .before .before .before .before .args .first .now) (c .before .before .before .before .before .before .args .second .now) bs lent _ _ _ 11 (c .before .before .match .keys11) (c .request-fmap .ensures)
+returns-11 c = let c2 = c .before .before in let c6 = c2 .before .before .before .before in λ bs lent. as-kind (c6 .args .r) (c6 .args .first .now) (c6 .args .second .now) bs lent _ _ _ 11 (c2 .match .keys11) (c .request-fmap .ensures)
 
 returns-12 : tie.Need-returns-12
-returns-12 c = λ bs lent. as-kind (c .before .before .before .before .before .before .args .r) (c .before .before .before .before .before .before .args .first .now) (c .before .before .before .before .before .before .args .second .now) bs lent _ _ _ 12 (c .before .before .match .keys12) (c .close .ensures)
+returns-12 c = let c2 = c .before .before in let c6 = c2 .before .before .before .before in λ bs lent. as-kind (c6 .args .r) (c6 .args .first .now) (c6 .args .second .now) bs lent _ _ _ 12 (c2 .match .keys12) (c .close .ensures)
 
 returns-13 : tie.Need-returns-13
-returns-13 c = λ bs lent. as-kind (c .before .before .before .before .before .before .args .r) (c .before .before .before .before .before .before .args .first .now) (c .before .before .before .before .before .before .args .second .now) bs lent _ _ _ 13 (c .before .before .match .keys13) (c .detach .ensures)
+returns-13 c = let c2 = c .before .before in let c6 = c2 .before .before .before .before in λ bs lent. as-kind (c6 .args .r) (c6 .args .first .now) (c6 .args .second .now) bs lent _ _ _ 13 (c2 .match .keys13) (c .detach .ensures)
 
 returns-14 : tie.Need-returns-14
-returns-14 c = λ bs lent. as-kind (c .before .before .before .before .before .args .r) (c .before .before .before .before .before .args .first .now) (c .before .before .before .before .before .args .second .now) bs lent _ _ _ 17 (c .before .match .keys14) (c .call-fdwrite .ensures (c .before .before .before .before .before .args .words .now))
+returns-14 c = let c1 = c .before in let c5 = c1 .before .before .before .before in λ bs lent. as-kind (c5 .args .r) (c5 .args .first .now) (c5 .args .second .now) bs lent _ _ _ 17 (c1 .match .keys14) (c .call-fdwrite .ensures (c5 .args .words .now))
 
 returns-15 : tie.Need-returns-15
-returns-15 c = λ bs lent. as-kind (c .before .before .before .before .before .args .r) (c .before .before .before .before .before .args .first .now) (c .before .before .before .before .before .args .second .now) bs lent _ _ _ 18 (c .before .match .keys15) (c .call-fdread .ensures (c .before .before .before .before .before .args .words .now))
+returns-15 c = let c1 = c .before in let c5 = c1 .before .before .before .before in λ bs lent. as-kind (c5 .args .r) (c5 .args .first .now) (c5 .args .second .now) bs lent _ _ _ 18 (c1 .match .keys15) (c .call-fdread .ensures (c5 .args .words .now))
 
 returns-16 : tie.Need-returns-16
-returns-16 c = let r = c .before .match .rest in λ bs lent. as-last (c .before .before .before .before .before .args .r) (c .before .before .before .before .before .args .first .now) (c .before .before .before .before .before .args .second .now) bs lent _ _ (c .before .before .before .before .before .args .kind) (r .0 .0 .0 .0 .0 .0 .0 .0 .0 .0 .0 .0 .0 .0 .1) (r .0 .0 .0 .0 .0 .0 .0 .0 .0 .0 .0 .0 .0 .1) (r .0 .0 .0 .0 .0 .0 .0 .0 .0 .0 .0 .0 .1) (r .0 .0 .0 .0 .0 .0 .0 .0 .0 .0 .0 .1) (r .0 .0 .0 .0 .0 .0 .0 .0 .0 .0 .1) (r .0 .0 .0 .0 .0 .0 .0 .0 .0 .1) (r .0 .0 .0 .0 .0 .0 .0 .0 .1) (r .0 .0 .0 .0 .0 .0 .0 .1) (r .0 .0 .0 .0 .0 .0 .1) (r .0 .0 .0 .0 .0 .1) (r .0 .0 .0 .0 .1) (r .0 .0 .0 .1) (r .0 .0 .1) (c .before .before .before .before .before .pre .0) (c .before .before .before .before .before .pre .1 .0) (c .before .before .before .before .before .pre .1 .1) (r .0 .1) (r .1) (c .provide-mmap .ensures (c .before .before .before .before .before .args .words .now))
+returns-16 c = let c1 = c .before in let c5 = c1 .before .before .before .before in let r = c1 .match .rest in λ bs lent. as-last (c5 .args .r) (c5 .args .first .now) (c5 .args .second .now) bs lent _ _ (c5 .args .kind) (r .0 .0 .0 .0 .0 .0 .0 .0 .0 .0 .0 .0 .0 .0 .1) (r .0 .0 .0 .0 .0 .0 .0 .0 .0 .0 .0 .0 .0 .1) (r .0 .0 .0 .0 .0 .0 .0 .0 .0 .0 .0 .0 .1) (r .0 .0 .0 .0 .0 .0 .0 .0 .0 .0 .0 .1) (r .0 .0 .0 .0 .0 .0 .0 .0 .0 .0 .1) (r .0 .0 .0 .0 .0 .0 .0 .0 .0 .1) (r .0 .0 .0 .0 .0 .0 .0 .0 .1) (r .0 .0 .0 .0 .0 .0 .0 .1) (r .0 .0 .0 .0 .0 .0 .1) (r .0 .0 .0 .0 .0 .1) (r .0 .0 .0 .0 .1) (r .0 .0 .0 .1) (r .0 .0 .1) (c5 .pre .0) (c5 .pre .1 .0) (c5 .pre .1 .1) (r .0 .1) (r .1) (c .provide-mmap .ensures (c5 .args .words .now))
 
 pub one-effect-spec : {M : Type 1} → statement M
 one-effect-spec =

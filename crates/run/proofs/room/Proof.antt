@@ -23,7 +23,7 @@ add-result-2 : tie.Need-add-result-2
 add-result-2 c = search needs
 
 returns : tie.Need-returns
-returns c = (ap₂ (λ (n m : ℕ). 192 + n + 27 * m) (c .least .ensures) (c .before .before .before .before .tail .ensures .0) ∙ room-is-read (c .before .before .before .before .before .args .r) (c .before .before .if1 .taken), omega (arith, c .least .ensures, c .before .before .before .before .tail .ensures .1))
+returns c = let c2 = c .before .before in let c4 = c2 .before .before in let c5 = c4 .before in (ap₂ (λ (n m : ℕ). 192 + n + 27 * m) (c .least .ensures) (c4 .tail .ensures .0) ∙ room-is-read (c5 .args .r) (c2 .if1 .taken), omega (arith, c .least .ensures, c4 .tail .ensures .1))
 
 mul-result-2 : tie.Need-mul-result-2
 mul-result-2 c = search needs
