@@ -39,7 +39,7 @@ ghost use Rattle.events.specs.Complete.{writeOf};
 ghost use Rattle.events.specs.Descriptors.{moveOf, obtainCallOf};
 ghost use Rattle.events.specs.Supply.{supplyOf};
 ghost use Rattle.events.specs.Replies.{intoRegularOf, callGenericOf, noticeOf, kopenatOf, kdupOf};
-ghost use Rattle.outcome_bytes.specs.Output.{statusWords};
+ghost use Rattle.state_bytes.specs.StateBytes.{statusWords};
 ghost use Rattle.parse_cqe.specs.Parsed.{parsedOf, parsedAnswer};
 ghost use Rattle.reading_step.specs.Opened.{openedOf};
 ghost use Rattle.run.specs.Run.{endOf, outAfter, fxAfter};
