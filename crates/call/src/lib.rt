@@ -111,13 +111,13 @@ pub fn call(
                     d.queue = longer;
                     let flags = flag::event_read();
                     let fx = effect::root(d.scheme, flags);
-                    let mut u = s;
-                    u.table = t;
-                    u.driver = d;
                     return CallStep {
                         answer: CallAnswer::Called(Tag(n as u64)),
                         effect: fx,
-                        state: u,
+                        state: State {
+                            driver: d,
+                            table: t,
+                        },
                     };
                 }
             }

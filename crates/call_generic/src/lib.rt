@@ -138,13 +138,13 @@ fn call_with(
     d.queue = longer;
     let bits = flag::event_read();
     let fx = effect::root(d.scheme, bits);
-    let mut u = s;
-    u.table = t;
-    u.driver = d;
     GenericStep {
         answer: GenericAnswer::Called(Tag(n as u64)),
         effect: fx,
-        state: u,
+        state: State {
+            driver: d,
+            table: t,
+        },
     }
 }
 

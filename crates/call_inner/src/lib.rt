@@ -218,14 +218,15 @@ pub fn wake(
             };
             let w = slot::interrupted(v, span);
             t.slots[at] = w;
-            let mut u = s;
-            u.table = t;
             return WakeStep {
                 answer: WakeAnswer::Interrupted,
                 reply: blank,
                 fds: empty,
                 effect: none,
-                state: u,
+                state: State {
+                    driver: d,
+                    table: t,
+                },
             };
         }
         Turn::Cancel => {
@@ -245,15 +246,15 @@ pub fn wake(
             d.queue = longer;
             let bits = flag::event_read();
             let fx = effect::root(d.scheme, bits);
-            let mut u = s;
-            u.table = t;
-            u.driver = d;
             return WakeStep {
                 answer: WakeAnswer::Blocked,
                 reply: blank,
                 fds: empty,
                 effect: fx,
-                state: u,
+                state: State {
+                    driver: d,
+                    table: t,
+                },
             };
         }
         Turn::HandOver => {
@@ -267,14 +268,15 @@ pub fn wake(
             t.next[at] = head;
             t.head = n.0;
             t.holds = out;
-            let mut u = s;
-            u.table = t;
             return WakeStep {
                 answer: WakeAnswer::Replied,
                 reply: reply,
                 fds: fds,
                 effect: none,
-                state: u,
+                state: State {
+                    driver: d,
+                    table: t,
+                },
             };
         }
     }

@@ -74,12 +74,12 @@ pub fn request_fmap(
     d.queue = longer;
     let bits = flag::event_read();
     let fx = effect::root(d.scheme, bits);
-    let mut u = s;
-    u.table = t;
-    u.driver = d;
     FmapStep {
         answer: FmapAnswer::Requested(Tag(n as u64)),
         effect: fx,
-        state: u,
+        state: State {
+            driver: d,
+            table: t,
+        },
     }
 }

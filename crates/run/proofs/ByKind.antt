@@ -15,7 +15,8 @@ use Rattle.outcome_bytes.specs.Output.{outcomeBytes}
 use Rattle.record.specs.declared.Record.{Record}
 use Rattle.record.specs.Record.{recordOf, firstAt, secondAt, tailAt, tailOf, nextOf, wordsAt, eventNamed, eventOf, eventAt, supplyOf}
 use Rattle.record.proofs.Laws.{all-there}
-use Rattle.run.specs.Run.{wakeIn, readIn, writeIn, listIn, storedBy, roomOf}
+use Rattle.run_room.specs.Room.{roomOf}
+use Rattle.run.specs.Run.{wakeIn, readIn, writeIn, listIn, storedBy}
 
 module _ (r : Record) (xs ys bs : List ℕ) (lent : ℕ) where
   pub as-kind : (o : Outcome) (w : World) (n k : ℕ) → n ≡ k → o ≡ step w (eventNamed k r xs ys bs lent) → o ≡ step w (eventNamed n r xs ys bs lent)

@@ -12,7 +12,8 @@ use Rattle.events.specs.Demand3.{Demanded}
 use Rattle.events.proofs.Demanded.{demand3}
 use Rattle.record.specs.Record.{decoded}
 use Rattle.run.specs.declared.RunEnd.{RunEnd}
-use Rattle.run.specs.Run.{runOf, needed, outputOf, lentAfter, wholeEnd, endOf, outAfter, fxAfter}
+use Rattle.run_room.specs.Room.{needed}
+use Rattle.run.specs.Run.{runOf, outputOf, lentAfter, wholeEnd, endOf, outAfter, fxAfter}
 
 -- demand 3 of the events that any bytes hold
 pub run-demand3 : (scheme lent : ℕ) (bs : List ℕ) → Demanded (runOf scheme lent bs)

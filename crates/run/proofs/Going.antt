@@ -19,8 +19,10 @@ use Rattle.outcome_bytes.specs.Output.{outcomeBytes}
 use Rattle.state_bytes.specs.StateBytes.{stateBytes}
 use Rattle.record.specs.Record.{recordOf, nextOf, eventAt, Decoded, stops, before, decoded}
 use Rattle.record.proofs.Laws.{some, next-there, walk-ends, walk-goes-on}
-use Rattle.run.specs.Run.{runOf, storedBy, toldOf, lentAfter, outputOf, roomOf, needed, wholeEnd}
-use Rattle.run.proofs.Rooms.{part-is, needed-ends, needed-goes-on}
+use Rattle.run_room.specs.Room.{roomOf, needed}
+use Rattle.run.specs.Run.{runOf, storedBy, toldOf, lentAfter, outputOf, wholeEnd}
+use Rattle.run_room.proofs.Rooms.{needed-ends, needed-goes-on}
+use Rattle.word_put.proofs.Stores.{part-is}
 
 -- a run of one event more
 run-more : (es : List Event) (r : Run) (e : Event) → runFrom r (es ++ (e ∷ [])) ≡ next (runFrom r es) e

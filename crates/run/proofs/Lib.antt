@@ -1,5 +1,4 @@
 pub mod ByKind
 pub mod Turns
-pub mod Rooms
 pub mod Going
 pub mod Claimed

@@ -23,7 +23,7 @@ use Rattle.record.specs.Record.{wordsAt}
 use Rattle.record.proofs.Laws.{each-length}
 use Rattle.wait_queue.specs.declared.WaitQueue.{WaitQueue}
 use Rattle.wait_queue.specs.Queue.{wordsFrom, unread, removed}
-use Rattle.wait_queue.proofs.Unread.{length-bytes}
+use Rattle.wait_queue.proofs.Unread.{length-bytes, length-words}
 use Rattle.wait_queue_receive.specs.declared.ReceiveAnswer.the-variants.{Bytes}
 use Rattle.wait_queue_receive.specs.Receive.{copied, emptyBy, receivedIf, receiveAnswer}
 
@@ -64,11 +64,6 @@ turned l n k o o' a fx bs u e ea ef eb eu p = (
 )
 
 -- a read copies what fits, and what is unread has no more than 8,192 bytes
-length-words : (q : WaitQueue) (ws : List ℕ) (n i : ℕ) → length (wordsFrom q ws i n) ≡ n
-unfolding wordsFrom
-length-words q ws zero i = refl
-length-words q ws (suc n) i = ap suc (length-words q ws n (suc i))
-
 pub read-counts : (w : World) (len flags : ℕ) → min len (queueOf w .len * 64) ≡ length (readOf w len flags .bytes)
 read-counts w len flags =
     sym (length-take (min len (queueOf w .len * 64)) (unread (queueOf w) (w .words)) ∙ (let z : min (min len (queueOf w .len * 64)) (length (unread (queueOf w) (w .words))) ≡ min len (queueOf w .len * 64) = omega (arith, length-bytes (wordsFrom (queueOf w) (w .words) 0 (queueOf w .len * 8)), length-words (queueOf w) (w .words) (queueOf w .len * 8) 0) in z))

@@ -1,5 +1,5 @@
 -- A run as bytes: decoded to events (crate record), run as `Run` of crate events has it, and told in bytes (crate outcome_bytes).
-use Prim.Native.Nat.{ℕ, _+_, _-_, _*_, min}
+use Prim.Native.Nat.{ℕ, _-_, min}
 use mathlib.Core.Bool.{cond}
 use mathlib.Core.List.{List, [], _∷_, _++_}
 use lib.Dec.{eqb, leb}
@@ -13,7 +13,8 @@ use Rattle.events.specs.Run.{Turn, Run, run}
 use Rattle.outcome_bytes.specs.Output.{outcomeBytes}
 use Rattle.state_bytes.specs.StateBytes.{stateBytes}
 use Rattle.record.specs.declared.Record.{Record}
-use Rattle.record.specs.Record.{recordOf, firstAt, secondAt, tailAt, tailOf, wordsAt, eventNamed, walk, decoded}
+use Rattle.record.specs.Record.{firstAt, secondAt, tailAt, tailOf, wordsAt, eventNamed, decoded}
+use Rattle.run_room.specs.Room.{needed}
 use Rattle.run.specs.declared.RunEnd.{RunEnd}
 
 -- the run of the events that bytes hold, from a fresh state with its queue's words 0; `lent` words are there for writes
@@ -27,7 +28,7 @@ outcomeOf t = step (t .before) (t .event)
 abbrev pub storedBy : World → Event → List ℕ
 storedBy w e = cond (isWrite e) (step w e .effects) []
 
--- the events that more than a step is made of
+-- the event of a record by its kind: a wake, a read, a write
 abbrev pub wakeIn : Record → Event
 wakeIn r = wake (r .words .0) (r .number) (r .words .1) (r .words .2) (r .words .3)
 
@@ -53,13 +54,6 @@ lentAfter fx (t ∷ ts) = sets (lentAfter fx ts) 0 (storedBy (t .before) (t .eve
 -- each event's bytes, and after the last the state's
 abbrev pub outputOf : Run → List ℕ
 outputOf r = toldOf (r .turns) ++ stateBytes (r .world)
-
--- the room that an event's bytes may take: a reply of 16 descriptions, the bytes of a read, 18 effects for each 16 bytes of a write
-abbrev pub roomOf : Record → ℕ
-roomOf r = 192 + cond (eqb (r .kind) 15) (min (r .words .0) 8192) 0 + 27 * tailOf r
-
-abbrev pub needed : List ℕ → ℕ
-needed bs = walk (λ rest. 1608) (λ rest n. roomOf (recordOf rest) + n) (length bs) bs
 
 -- 205, the record at `place` is no event; 0, all were run
 abbrev pub wholeEnd : ℕ → ℕ → List ℕ → RunEnd

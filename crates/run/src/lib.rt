@@ -8,7 +8,7 @@ ghost use mathlib.Core.Path.{_≡_};
 ghost use mathlib.Core.List.{List};
 ghost use Prim.Native.Nat.{ℕ, _+_, _-_, _*_, _≤_, _<_, min};
 ghost use mathlib.Core.Bool.{cond};
-ghost use lib.Dec.{eqb, leb};
+ghost use lib.Dec.{eqb};
 ghost use lib.ListN.{length};
 ghost use lib.Seq.{sets};
 ghost use Rattle.answer_words.specs.Words.{answerOf};
@@ -19,7 +19,8 @@ ghost use Rattle.events.specs.Event.{step};
 ghost use Rattle.events.specs.Whole.{Whole};
 ghost use Rattle.outcome_bytes.specs.Output.{outcomeBytes};
 ghost use Rattle.record.specs.Record.{recordOf, tailAt, tailOf, nextOf, eventNamed, eventAt};
-ghost use Rattle.run.specs.Run.{wakeIn, readIn, writeIn, listIn, storedBy, roomOf, needed, runOf, outputOf, lentAfter, wholeEnd, endOf, outAfter, fxAfter};
+ghost use Rattle.run_room.specs.Room.{roomOf, needed};
+ghost use Rattle.run.specs.Run.{wakeIn, readIn, writeIn, listIn, storedBy, runOf, outputOf, lentAfter, wholeEnd, endOf, outAfter, fxAfter};
 
 // The run's own answer: 0, 204 or 205, the place of the record that is no event, and how many bytes were written.
 #[repr(C)]
@@ -88,15 +89,6 @@ fn one_effect(
     }
 }
 
-fn least(a: u64, b: usize) -> usize
-    ensures { λ r. ⌜ r ≡ min a b ⌝ }
-{
-    if a < b as u64 {
-        return a as usize;
-    }
-    b
-}
-
 // So many bytes are unread.
 fn unread_bytes(s: State) -> usize
     ensures { λ r. ⌜ r ≡ s .driver .queue .len * 64 ⌝ }
@@ -135,8 +127,8 @@ fn read_turn(s: State, words: &[u64; 1024], r: Record, buf: &mut [u8], out: &mut
     ensures { λ o. ⌜ o .used ≤ 192 + min (r .words .0) 8192 ⌝ }
 {
     let a = r.words;
-    let n = least(a.0, 8192);
-    let k = least(n as u64, unread_bytes(s));
+    let n = run_room::least(a.0, 8192);
+    let k = run_room::least(n as u64, unread_bytes(s));
     let o = driver_step::read(s, words, &mut buf[..n], r.number);
     let answer = o.answer;
     let after = o.state;
@@ -164,7 +156,7 @@ fn write_turn(
     ensures { λ o. ⌜ o .used ≤ 192 + 27 * tailOf r ⌝ }
 {
     let a = r.words;
-    let n = least(a.0, fx.len());
+    let n = run_room::least(a.0, fx.len());
     let at = record::tail_at(r);
     let k = record::tail(r);
     let o = driver_step::write(s, &mut fx[..n], &rec[at..at + k]);
@@ -240,42 +232,6 @@ fn turn(
     list_turn(kind, s, words, rec, r, first, second, out)
 }
 
-// The room that an event's bytes may take.
-fn room(r: Record) -> usize
-    ensures { λ o. ⌜ o ≡ roomOf r ⌝ }
-    ensures { λ o. ⌜ o ≤ 0x40_0000_0000 ⌝ }
-{
-    let n = record::tail(r);
-    if r.kind == 15 {
-        let a = r.words;
-        return 192 + least(a.0, 8192) + 27 * n;
-    }
-    192 + 27 * n
-}
-
-// Whether what a run writes has room in so many bytes.
-fn has_room(events: &[u8], most: usize) -> bool
-    ensures { λ r. ⌜ r ≡ leb (needed (now (events .entry))) most ⌝ }
-{
-    if most < 1608 {
-        return false;
-    }
-    let mut left = most - 1608;
-    let mut at = 0;
-    let mut size = record_next::next(events);
-    while size != 0 {
-        let r = record::record_at(&events[at..]);
-        let k = room(r);
-        if left < k {
-            return false;
-        }
-        left -= k;
-        at += size;
-        size = record_next::next(&events[at..]);
-    }
-    true
-}
-
 // 205 for a record that is no event.
 fn number_at(at: usize, len: usize) -> u64
     ensures { λ r. ⌜ r ≡ cond (eqb (len - at) 0) 0 205 ⌝ }
@@ -333,7 +289,7 @@ pub fn run(scheme: u64, events: &[u8], out: &mut [u8], fx: &mut [u64]) -> RunEnd
     ensures { λ r. ⌜ now (fx .exit) ≡ fxAfter scheme (length (now (out .entry))) (now (fx .entry)) (now (events .entry)) ⌝ }
     ensures { λ r. ⌜ r .written ≤ length (now (out .entry)) ⌝ }
 {
-    if has_room(events, out.len()) {
+    if run_room::has_room(events, out.len()) {
         return run_all(scheme, events, out, fx);
     }
     RunEnd {

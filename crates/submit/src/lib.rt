@@ -136,13 +136,13 @@ pub fn submit(
                     d.queue = longer;
                     let bits = flag::event_read();
                     let fx = effect::root(d.scheme, bits);
-                    let mut u = s;
-                    u.table = t;
-                    u.driver = d;
                     return SubmitStep {
                         answer: SubmitAnswer::Submitted(tag),
                         effect: fx,
-                        state: u,
+                        state: State {
+                            driver: d,
+                            table: t,
+                        },
                     };
                 }
             }

@@ -69,7 +69,7 @@ pub length-bytes : (a : List ℕ) → length (bytesOf a) ≡ length a * 8
 length-bytes [] = refl
 length-bytes (w ∷ a) = omega (arith, length-bytes a, length-append (bytes8 w) (bytesOf a))
 
-length-words : (q : WaitQueue) (ws : List ℕ) (n i : ℕ) → length (wordsFrom q ws i n) ≡ n
+pub length-words : (q : WaitQueue) (ws : List ℕ) (n i : ℕ) → length (wordsFrom q ws i n) ≡ n
 unfolding wordsFrom
 length-words q ws zero i = refl
 length-words q ws (suc n) i = ap suc (length-words q ws n (suc i))

@@ -1,10 +1,10 @@
 -- Runs of stores, one behind the other and past the end. Assumes nothing.
-use Prim.Native.Nat.{ℕ, suc, _+_, _≤_}
+use Prim.Native.Nat.{ℕ, suc, _+_, _-_, _≤_}
 use mathlib.Core.Path.{_≡_, refl, sym, ap, ap₂, _∙_}
 use mathlib.Core.List.{List, [], _∷_, _++_}
 use native.Mathlib.Omega.{arith}
-use lib.ListN.{length, set, length-set}
-use lib.Seq.{sets, set-out}
+use lib.ListN.{length, set, take, drop, length-set, length-drop}
+use lib.Seq.{sets, set-out, take-all}
 
 -- nothing is stored past the end
 pub sets-past : (vs l : List ℕ) (k : ℕ) → length l ≤ k → l ≡ sets l k vs
@@ -37,3 +37,7 @@ stores3 l f g e j a b c ef eg ee =
 
     two : j + 2 ≡ suc (suc j)
     two = omega arith
+
+-- the rest of a list, as the part of it that a slice is
+pub part-is : (bs : List ℕ) (k : ℕ) → take (length bs - k) (drop k bs) ≡ drop k bs
+part-is bs k = take-all (length bs - k) (drop k bs) (omega (arith, length-drop k bs))

@@ -8,7 +8,7 @@ use native.Mathlib.Omega.{arith}
 use native.Mathlib.Numerals.{add-one}
 use lib.Dec.{eqb, ltb}
 use lib.ListN.{getD, set, length, drop, take, length-append, length-drop}
-use lib.Seq.{sets, set-getD, drop-drop, take-all}
+use lib.Seq.{sets, set-getD, drop-drop}
 use borrow.Author.Tests.{eq-eqb, ne-eqb, ltb-true, lt-ltb, le-ltb}
 use Rattle.closes.specs.declared.Reason.the-variants.{Unusable}
 use Rattle.closes.specs.Closes.{closing, only, closes}
@@ -309,10 +309,6 @@ pub four :
     {A B C D : List ℕ → Type 0} → ((ws : List ℕ) → A ws × (B ws × (C ws × D ws)))
     → ((ws : List ℕ) → A ws) × (((ws : List ℕ) → B ws) × (((ws : List ℕ) → C ws) × ((ws : List ℕ) → D ws)))
 four f = (λ ws. f ws .0, (λ ws. f ws .1 .0, (λ ws. f ws .1 .1 .0, λ ws. f ws .1 .1 .1)))
-
--- the rest of the bytes, as a part of them
-pub part-is : (bs : List ℕ) (k : ℕ) → take (length bs - k) (drop k bs) ≡ drop k bs
-part-is bs k = take-all (length bs - k) (drop k bs) (omega (arith, length-drop k bs))
 
 -- a decision leaves as many counts
 served-size : (b : Bool) (v : Slot) (t : ℕ) (o : Offer) (h : Holds) → length (servedOf b v t (partsOf v o) h .holds .holds) ≡ length (h .holds)

@@ -90,23 +90,23 @@ pub fn write(s: State, fx: &mut [u64], bytes: &[u8]) -> WriteStep
         j += r.words;
         let number = r.number;
         if number != 0 {
-            let mut u = s;
-            u.table = t;
-            u.driver = d;
             return WriteStep {
                 answer: stop(i, number),
                 words: j,
-                state: u,
+                state: State {
+                    driver: d,
+                    table: t,
+                },
             };
         }
         i += 1;
     }
-    let mut u = s;
-    u.table = t;
-    u.driver = d;
     WriteStep {
         answer: WriteAnswer::Written(16 * n as u64),
         words: j,
-        state: u,
+        state: State {
+            driver: d,
+            table: t,
+        },
     }
 }

@@ -71,8 +71,8 @@ element-set-from-v c = search needs
 uid-gid-hack-merge-requires : tie.Need-uid-gid-hack-merge-requires
 uid-gid-hack-merge-requires c κs = search needs
 
-cast-t45 : tie.Need-cast-t45
-cast-t45 c = search needs
+cast-t44 : tie.Need-cast-t44
+cast-t44 c = search needs
 
 send-requires : tie.Need-send-requires
 send-requires c κs = search needs
@@ -83,8 +83,8 @@ event-read-requires c κs = search needs
 root-requires : tie.Need-root-requires
 root-requires c κs = search needs
 
-cast-t47 : tie.Need-cast-t47
-cast-t47 c = search needs
+cast-t46 : tie.Need-cast-t46
+cast-t46 c = search needs
 
 returns-6 : tie.Need-returns-6
 returns-6 c = let a = c .before .before .before .before .before .before .before .before .before .before .before .before .before .before .before .before .before .before .before .before .before .before .before .before .before .before .args in let g = taken-good (a .s .table .holds) (a .fds .now) (ap (λ (t : Taken). t .answer) (sym (c .before .before .before .before .before .before .before .before .before .before .before .before .before .before .before .before .before .take-list .ensures)) ∙ c .before .before .before .before .before .before .before .before .before .before .before .before .before .before .before .enum-told4 .given .1) in called (a .s) (a .words .now) (a .caller) (a .opcode) (a .args) (a .uid) (a .gid) (a .pid) (a .fds .now) (known-good (a .opcode) _ (sym (c .before .before .before .before .before .before .before .before .before .before .before .before .before .before .before .before .before .before .before .before .before .before .before .try-from-raw .ensures) ∙ c .before .before .before .before .before .before .before .before .before .before .before .before .before .before .before .before .before .before .before .before .before .raw .given .1) .0) (g .0) (g .1) (lt-leb _ _ (c .before .before .before .before .before .before .before .before .before .before .before .before .before .before .if1 .left)) (lt-leb _ _ (c .before .before .before .before .before .before .before .before .before .before .if2 .left)) _ (begun-is (a .s) (a .words .now) _ _ _ _ (callEntry (a .opcode) (a .args) (a .uid) (a .gid) (a .pid)) _ _ _ _ (c .before .before .before .before .before .before .waiting .ensures ∙ ap (waitingOf (a .caller)) (ap (λ (t : Taken). t .list) (c .before .before .before .before .before .before .before .before .before .before .before .before .before .before .before .before .before .take-list .ensures) ∙ g .2)) (ap (λ (t : Taken). t .holds) (c .before .before .before .before .before .before .before .before .before .before .before .before .before .before .before .before .before .take-list .ensures)) (entry-is (a .opcode) _ (a .args) (a .uid) (a .gid) (a .pid) _ _ (known-good (a .opcode) _ (sym (c .before .before .before .before .before .before .before .before .before .before .before .before .before .before .before .before .before .before .before .before .before .before .before .try-from-raw .ensures) ∙ c .before .before .before .before .before .before .before .before .before .before .before .before .before .before .before .before .before .before .before .before .before .raw .given .1) .1) (c .before .before .before .before .before .uid-gid-hack-merge .ensures)) (ap (λ (t : Sent). t .queue) (c .before .before .before .send .ensures .0)) (c .before .before .before .send .ensures .1) (c .root .ensures ∙ ap (rootWords (a .s .driver .scheme)) (c .before .event-read .ensures)))
@@ -112,9 +112,9 @@ call-spec =
     mul-v
     element-set-from-v
     uid-gid-hack-merge-requires
-    cast-t45
+    cast-t44
     send-requires
     event-read-requires
     root-requires
-    cast-t47
+    cast-t46
     returns-6)

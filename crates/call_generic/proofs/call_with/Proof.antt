@@ -60,8 +60,8 @@ event-read-requires c κs = search needs
 root-requires : tie.Need-root-requires
 root-requires c κs = search needs
 
-cast-t38 : tie.Need-cast-t38
-cast-t38 c = omega (arith, c .before .before .before .before .before .before .before .before .before .before .before .before .before .if3 .left)
+cast-t37 : tie.Need-cast-t37
+cast-t37 c = omega (arith, c .before .before .before .before .before .before .before .before .before .before .before .before .before .if3 .left)
 
 returns-5 : tie.Need-returns-5
 returns-5 c = let a = c .before .before .before .before .before .before .before .before .before .before .before .before .before .before .before .before .before .before .before .before .args in called (a .s) (a .words .now) (a .op) (a .caller) (a .pid) (a .fds .now) (a .base) (a .len) (a .metadata .now) (c .before .before .before .before .before .before .before .before .before .before .before .before .before .before .before .before .if1 .left) (c .before .before .before .before .before .before .before .before .before .before .before .before .before .before .before .if2 .left) (lt-leb _ _ (c .before .before .before .before .before .before .before .before .before .before .before .before .before .if3 .left)) (lt-leb _ _ (c .before .before .before .before .before .before .before .before .before .if4 .left)) _ (begun-is (a .s) (a .words .now) _ _ _ _ (genericEntry (a .op) (a .pid) (a .fds .now) (a .base) (a .len) (a .metadata .now)) _ _ _ _ (c .before .before .before .before .before .before .waiting .ensures ∙ ap (waitingOf (a .caller)) (c .before .before .before .before .before .before .before .empty .ensures)) refl (c .before .before .before .before .before .entry .ensures) (ap (λ (t : Sent). t .queue) (c .before .before .before .send .ensures .0)) (c .before .before .before .send .ensures .1) (c .root .ensures ∙ ap (rootWords (a .s .driver .scheme)) (c .before .event-read .ensures)))
@@ -86,5 +86,5 @@ call-with-spec =
     send-requires
     event-read-requires
     root-requires
-    cast-t38
+    cast-t37
     returns-5)

@@ -73,8 +73,8 @@ element-set-from-w-2 c = search needs
 sqe-oneway-requires : tie.Need-sqe-oneway-requires
 sqe-oneway-requires c κs = search needs
 
-cast-t53 : tie.Need-cast-t53
-cast-t53 c = search needs
+cast-t52 : tie.Need-cast-t52
+cast-t52 c = search needs
 
 send-requires : tie.Need-send-requires
 send-requires c κs = search needs
@@ -135,7 +135,7 @@ wake-spec =
     mul-w-2
     element-set-from-w-2
     sqe-oneway-requires
-    cast-t53
+    cast-t52
     send-requires
     event-read-requires
     root-requires

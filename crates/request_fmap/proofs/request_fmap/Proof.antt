@@ -37,8 +37,8 @@ element-set-from-v c = search needs
 uid-gid-hack-merge-requires : tie.Need-uid-gid-hack-merge-requires
 uid-gid-hack-merge-requires c κs = search needs
 
-cast-t35 : tie.Need-cast-t35
-cast-t35 c = search needs
+cast-t34 : tie.Need-cast-t34
+cast-t34 c = search needs
 
 send-requires : tie.Need-send-requires
 send-requires c κs = search needs
@@ -49,8 +49,8 @@ event-read-requires c κs = search needs
 root-requires : tie.Need-root-requires
 root-requires c κs = search needs
 
-cast-t37 : tie.Need-cast-t37
-cast-t37 c = search needs
+cast-t36 : tie.Need-cast-t36
+cast-t36 c = search needs
 
 returns-3 : tie.Need-returns-3
 returns-3 c = let a = c .before .before .before .before .before .before .before .before .before .before .before .before .before .before .before .args in requested (a .s) (a .words .now) (a .caller) (a .id) (a .pages) (a .flags) (a .uid) (a .gid) (a .pid) (lt-leb _ _ (c .before .before .before .before .before .before .before .before .before .before .before .before .if1 .left)) (lt-leb _ _ (c .before .before .before .before .before .before .before .before .if2 .left)) _ (begun-is (a .s) (a .words .now) _ _ _ _ (fmapEntry (a .id) (a .pages) (a .flags) (a .uid) (a .gid) (a .pid)) _ _ _ _ (c .before .before .before .before .before .before .map-request .ensures) refl (entry-is (a .s) (a .words .now) (a .caller) (a .id) (a .pages) (a .flags) (a .uid) (a .gid) (a .pid) _ _ (c .before .before .before .before .before .uid-gid-hack-merge .ensures)) (ap (λ (t : Sent). t .queue) (c .before .before .before .send .ensures .0)) (c .before .before .before .send .ensures .1) (c .root .ensures ∙ ap (rootWords (a .s .driver .scheme)) (c .before .event-read .ensures)))
@@ -68,9 +68,9 @@ request-fmap-spec =
     mul-v
     element-set-from-v
     uid-gid-hack-merge-requires
-    cast-t35
+    cast-t34
     send-requires
     event-read-requires
     root-requires
-    cast-t37
+    cast-t36
     returns-3)

@@ -12,7 +12,7 @@ use Rattle.state_bytes.specs.StateBytes.{stateBytes}
 use lib.Seq.{length-sets}
 use Rattle.record.specs.Record.{nextOf, eventAt}
 use Rattle.record.proofs.Laws.{some}
-use Rattle.run.proofs.Rooms.{part-is}
+use Rattle.word_put.proofs.Stores.{part-is}
 use Rattle.run.proofs.Going.{Going, behind, begins, whole, in-out, out-length, fx-length, some-next, place-more, room-more, goes-on, end-room, out-is, end-is, fx-is}
 
 abbrev Inv-loop : tie.InvT-loop

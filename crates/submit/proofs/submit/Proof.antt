@@ -78,8 +78,8 @@ mul-w c = search needs
 element-set-from-w : tie.Need-element-set-from-w
 element-set-from-w c = search needs
 
-cast-t45 : tie.Need-cast-t45
-cast-t45 c = search needs
+cast-t44 : tie.Need-cast-t44
+cast-t44 c = search needs
 
 send-requires : tie.Need-send-requires
 send-requires c κs = search needs
@@ -119,7 +119,7 @@ submit-spec =
     waiting-requires
     mul-w
     element-set-from-w
-    cast-t45
+    cast-t44
     send-requires
     event-read-requires
     root-requires

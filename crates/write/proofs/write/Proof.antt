@@ -12,13 +12,14 @@ use Rattle.handle_parsed.specs.declared.Handled.{Handled}
 use Rattle.handle_parsed.specs.Handled.{handledFx}
 use Rattle.schemev2.specs.Entry.{cqeOf}
 use Rattle.events.specs.Outcome.{Outcome}
-use Rattle.write.proofs.Loop.{Left, begins, goes-on-as, stops-as, refused-is, stops-lent, stops-words, ends, with-room, too-short, parts, four, part-is, holds-size}
+use Rattle.write.proofs.Loop.{Left, begins, goes-on-as, stops-as, refused-is, stops-lent, stops-words, ends, with-room, too-short, parts, four, holds-size}
+use Rattle.word_put.proofs.Stores.{part-is}
 
 abbrev Inv-loop : tie.InvT-loop
-Inv-loop s fx₀ bytes n t₀ d₀ i₀ j₀ fx t d i j = (i ≤ n) × (j ≤ 99 * i) × (length fx ≡ length fx₀) × (length (t .holds .holds) ≡ 64) × ((ws : List ℕ) → Left s ws fx₀ bytes n fx t d i j) × (n ≤ 0x80_0000_0000_0000)
+Inv-loop fx₀ bytes n t₀ d₀ i₀ j₀ fx t d i j = (i ≤ n) × (j ≤ 99 * i) × (length fx ≡ length fx₀) × (length (t .holds .holds) ≡ 64) × ((ws : List ℕ) → Left (record { driver = d₀; table = t₀ }) ws fx₀ bytes n fx t d i j) × (n ≤ 0x80_0000_0000_0000)
 
 abbrev μ-loop : tie.MeasureT-loop
-μ-loop s fx₀ bytes n t₀ d₀ i₀ j₀ fx t d i j = n - i
+μ-loop fx₀ bytes n t₀ d₀ i₀ j₀ fx t d i j = n - i
 
 returns : tie.Need-returns Inv-loop μ-loop
 returns c = let a = c .before .before .before .args in (λ ws. ap (λ (x : Outcome). x .answer) (too-short (a .s) ws _ (a .bytes .now) (c .if1 .taken)), (λ ws. ap (λ (x : Outcome). x .world) (too-short (a .s) ws _ (a .bytes .now) (c .if1 .taken)), (λ ws. ap (λ (x : Outcome). sets (a .fx .now) 0 (x .effects)) (too-short (a .s) ws _ (a .bytes .now) (c .if1 .taken)), λ ws. ap (λ (x : Outcome). length (x .effects)) (too-short (a .s) ws _ (a .bytes .now) (c .if1 .taken)))))

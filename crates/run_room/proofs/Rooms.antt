@@ -5,16 +5,13 @@ use mathlib.Core.Bool.{Bool, true, false, cond}
 use mathlib.Core.List.{List}
 use native.Mathlib.Omega.{arith}
 use lib.Dec.{eqb, leb}
-use lib.ListN.{length, take, drop, length-drop}
-use lib.Seq.{drop-drop, take-all}
+use lib.ListN.{length, drop, length-drop}
+use lib.Seq.{drop-drop}
 use borrow.Author.Tests.{eq-eqb, ne-eqb, le-leb, lt-leb, leb-true, leb-false}
 use Rattle.record.specs.declared.Record.{Record}
 use Rattle.record.specs.Record.{recordOf, tailOf, nextOf, walk}
 use Rattle.record.proofs.Laws.{next-there, walk-ends, walk-goes-on}
-use Rattle.run.specs.Run.{roomOf, needed}
-
-pub part-is : (bs : List ℕ) (k : ℕ) → take (length bs - k) (drop k bs) ≡ drop k bs
-part-is bs k = take-all (length bs - k) (drop k bs) (omega (arith, length-drop k bs))
+use Rattle.run_room.specs.Room.{roomOf, needed}
 
 pub room-is-read : (r : Record) → r .kind ≡ 15 → 192 + min (r .words .0) 8192 + 27 * tailOf r ≡ roomOf r
 room-is-read r e = ap (λ (b : Bool). 192 + cond b (min (r .words .0) 8192) 0 + 27 * tailOf r) (sym (eq-eqb (r .kind) 15 e))

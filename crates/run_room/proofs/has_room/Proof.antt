@@ -1,5 +1,5 @@
-use Rattle.run.proofs.has_room.Statement.{statement}
-use Rattle.run.proofs.has_room.Tie as tie
+use Rattle.run_room.proofs.has_room.Statement.{statement}
+use Rattle.run_room.proofs.has_room.Tie as tie
 use borrow.Author.Needs.{needs}
 use Prim.Native.Nat.{_+_, _-_, _≤_}
 use mathlib.Core.Path.{_≡_, ap, _∙_}
@@ -7,7 +7,8 @@ use native.Mathlib.Omega.{arith}
 use lib.ListN.{length, drop}
 use Rattle.record.specs.Record.{recordOf, nextOf}
 use Rattle.record.proofs.Laws.{some}
-use Rattle.run.proofs.Rooms.{Spent, part-is, too-short, spent-start, spent-short, spent-on, spent-ends, spent-place}
+use Rattle.run_room.proofs.Rooms.{Spent, too-short, spent-start, spent-short, spent-on, spent-ends, spent-place}
+use Rattle.word_put.proofs.Stores.{part-is}
 
 abbrev Inv-loop : tie.InvT-loop
 Inv-loop events most left₀ at₀ size₀ left at size = (at ≤ length events) × (size ≡ nextOf (drop at events)) × Spent events most left at

@@ -1,11 +1,11 @@
--- `run::room` meets its contract. Assumes nothing.
+-- `run_room::room` meets its contract. Assumes nothing.
 use borrow.Author.Needs.{needs}
-use Rattle.run.proofs.room.Statement.{statement}
-use Rattle.run.proofs.room.Tie as tie
+use Rattle.run_room.proofs.room.Statement.{statement}
+use Rattle.run_room.proofs.room.Tie as tie
 use Prim.Native.Nat.{ℕ, _+_, _*_}
 use mathlib.Core.Path.{ap, ap₂, _∙_}
 use native.Mathlib.Omega.{arith}
-use Rattle.run.proofs.Rooms.{room-is-read, room-is-other}
+use Rattle.run_room.proofs.Rooms.{room-is-read, room-is-other}
 
 tail-requires : tie.Need-tail-requires
 tail-requires c κs = search needs
