@@ -295,4 +295,13 @@ impl Layer {
             status: State::status_of(&slots),
         }
     }
+    #[cfg(feature = "parts")]
+    pub fn parts(&self) -> &ffi::State {
+        &self.state
+    }
+
+    #[cfg(feature = "parts")]
+    pub fn parts_mut(&mut self) -> &mut ffi::State {
+        &mut self.state
+    }
 }

@@ -14,6 +14,12 @@ pub use readings::{
 };
 pub use script_steps::run_script;
 
+/// The state's fields.
+#[cfg(feature = "parts")]
+pub mod parts {
+    pub use crate::ffi::{Reply, Slot, State};
+}
+
 /// Runs the events in these bytes from a fresh state, as docs/FORMAT.md says.
 pub fn run(scheme: u64, events: &[u8], out: &mut [u8], fx: &mut [u64]) -> RunEnd {
     // SAFETY: each pointer comes from the slice whose length goes with it.

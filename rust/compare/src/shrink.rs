@@ -1,0 +1,172 @@
+//! A script with a difference, made short: events left out, then numbers and lists made plain, as
+//! long as there is a difference.
+
+use script::{Event, Payload, Script};
+
+const ENTRY: usize = 16;
+const EFFECT_WORDS: u64 = 54;
+
+/// Events with less in them.
+fn plainer(event: &Event) -> Vec<Event> {
+    let mut plainer = Vec::new();
+    let payload = |payload: &Payload, of: fn(Payload) -> Event| {
+        let all = Payload {
+            pid: 0,
+            fds: payload.fds.iter().map(|_| 0).collect(),
+            base: 0,
+            len: 0,
+            meta: payload.meta.iter().map(|word| word & 0xff).collect(),
+            ..*payload
+        };
+        of(all)
+    };
+    match event {
+        Event::Submit {
+            tag, c, op, list, ..
+        } => {
+            let with = |list: Vec<u64>| Event::Submit {
+                tag: *tag,
+                c: *c,
+                op: *op,
+                fl: 0,
+                args: [0; 6],
+                pid: 0,
+                list,
+            };
+            plainer.extend(shorter(list).into_iter().map(with));
+            plainer.push(with(list.clone()));
+        }
+        Event::Call { c, op, list, .. } => {
+            let with = |list: Vec<u64>| Event::Call {
+                c: *c,
+                op: *op,
+                args: [0; 6],
+                uid: 0,
+                gid: 0,
+                pid: 0,
+                list,
+            };
+            plainer.extend(shorter(list).into_iter().map(with));
+            plainer.push(with(list.clone()));
+        }
+        Event::Generic(p) => plainer.push(payload(p, Event::Generic)),
+        Event::Stdfs(p) => plainer.push(payload(p, Event::Stdfs)),
+        Event::Fmap { c, .. } => plainer.push(Event::Fmap {
+            c: *c,
+            id: 0,
+            pages: 0,
+            flags: 0,
+            uid: 0,
+            gid: 0,
+            pid: 0,
+        }),
+        Event::Close { .. } => plainer.push(Event::Close { id: 0 }),
+        Event::Detach { .. } => plainer.push(Event::Detach { id: 0, pid: 0 }),
+        Event::Wake { tag, c, killed, .. } => {
+            plainer.extend([(0, 0), (1, 1)].map(|(base, count)| Event::Wake {
+                tag: *tag,
+                c: *c,
+                killed: *killed,
+                base,
+                count,
+            }))
+        }
+        Event::Read { flags, .. } => {
+            plainer.extend([64, 8_192].map(|len| Event::Read { len, flags: *flags }))
+        }
+        Event::Write { words, bytes } => {
+            let entries = bytes.len() / ENTRY;
+            let enough = *words >= EFFECT_WORDS * entries as u64;
+            for place in 0..entries {
+                let mut bytes = bytes.clone();
+                bytes.drain(ENTRY * place..ENTRY * (place + 1));
+                let words = match enough {
+                    true => EFFECT_WORDS * (entries as u64 - 1),
+                    false => *words,
+                };
+                plainer.push(Event::Write { words, bytes });
+            }
+            let bytes = bytes[..ENTRY * entries].to_vec();
+            if enough {
+                let words = EFFECT_WORDS * entries as u64;
+                plainer.push(Event::Write { words, bytes });
+            }
+        }
+        Event::Move { meta, list } => {
+            let with = |list: Vec<u64>| Event::Move {
+                meta: meta.clone(),
+                list,
+            };
+            plainer.extend(shorter(list).into_iter().map(with));
+        }
+        _ => {}
+    }
+    plainer.retain(|other| other != event);
+    plainer
+}
+
+/// The list without one of its words, or with none.
+fn shorter(list: &[u64]) -> Vec<Vec<u64>> {
+    let without = |place: usize| {
+        let mut list = list.to_vec();
+        list.remove(place);
+        list
+    };
+    match list.len() {
+        0 => Vec::new(),
+        len => [Vec::new()]
+            .into_iter()
+            .chain((0..len).map(without))
+            .collect(),
+    }
+}
+
+/// Leaves out as many events as it can, the last ones first, many at a time and then one by one.
+fn left_out(script: &mut Script, differs: &dyn Fn(&Script) -> bool) -> bool {
+    let mut changed = false;
+    let mut size = script.events.len().div_ceil(2).max(1);
+    loop {
+        let mut end = script.events.len();
+        while end > 0 {
+            let start = end.saturating_sub(size);
+            let mut less = script.clone();
+            less.events.drain(start..end);
+            if differs(&less) {
+                *script = less;
+                changed = true;
+            }
+            end = start;
+        }
+        if size == 1 {
+            return changed;
+        }
+        size = size.div_ceil(2);
+    }
+}
+
+fn made_plain(script: &mut Script, differs: &dyn Fn(&Script) -> bool) -> bool {
+    let mut changed = false;
+    let mut place = 0;
+    while place < script.events.len() {
+        let mut others = plainer(&script.events[place]).into_iter();
+        let found = others.find_map(|event| {
+            let mut other = script.clone();
+            other.events[place] = event;
+            differs(&other).then_some(other)
+        });
+        match found {
+            Some(other) => {
+                *script = other;
+                changed = true;
+            }
+            None => place += 1,
+        }
+    }
+    changed
+}
+
+/// A short script that differs too.
+pub fn shrink(mut script: Script, differs: &dyn Fn(&Script) -> bool) -> Script {
+    while left_out(&mut script, differs) | made_plain(&mut script, differs) {}
+    script
+}
