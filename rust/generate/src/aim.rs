@@ -215,6 +215,12 @@ impl Generator {
             _ => self.draw.word(),
         };
         let mut request = self.tag_in(Phase::Waiting);
+        let listed = self.with_list();
+        if let Some(listed) = self.draw.maybe_of(&listed)
+            && self.draw.chance(50)
+        {
+            request = listed;
+        }
         if self.draw.chance(3) {
             request |= 1 << 32;
         }

@@ -53,8 +53,35 @@ impl Generator {
         self.tag_in(phase) as u32
     }
 
+    /// Entries that were taken.
+    pub(crate) fn learn_entries(&mut self, bytes: &[u8]) {
+        for entry in bytes.chunks_exact(ENTRY) {
+            let tag = u32::from_le_bytes(entry[4..8].try_into().expect("four bytes"));
+            if obtains(entry).is_some()
+                && let Some(Some(given)) = self.given.get_mut(tag as usize)
+            {
+                given.listed = given.listed.saturating_sub(1);
+            }
+        }
+    }
+
+    /// A kind that has something to do, mostly.
+    fn entry_kind(&mut self) -> u8 {
+        let kind = self.draw.weighted(&[30, 14, 7, 16, 14, 10, 1, 1]) as u8;
+        let idle = match kind {
+            1 => self.state.handles.iter().all(Option::is_none),
+            OBTAIN => self.with_list().is_empty(),
+            _ => false,
+        };
+        if idle && self.draw.chance(85) {
+            self.draw.one_of(&[0, 4, 5])
+        } else {
+            kind
+        }
+    }
+
     fn entry(&mut self) -> [u8; ENTRY] {
-        let kind = self.draw.weighted(&[30, 14, 7, 14, 14, 10, 1, 1]) as u8;
+        let kind = self.entry_kind();
         let flags = match self.draw.chance(80) {
             true => kind,
             false => kind | self.draw.byte() & 0xf8,
@@ -78,6 +105,12 @@ impl Generator {
                     true => [self.draw.below(16) as u8, 0, 0],
                     false => extra,
                 };
+                let listed = self.with_list();
+                if let Some(listed) = self.draw.maybe_of(&listed)
+                    && self.draw.chance(80)
+                {
+                    tag = listed as u32;
+                }
                 let occupied = self.occupied && self.draw.chance(8);
                 self.handle(occupied)
             }

@@ -11,6 +11,8 @@ pub(crate) struct Given {
     pub(crate) caller: u32,
     pub(crate) ended: bool,
     pub(crate) returned: bool,
+    /// How many descriptions its list has.
+    pub(crate) listed: u64,
 }
 
 /// Each kind of event, in the order of the weights.
@@ -80,6 +82,24 @@ const PARTS: [[u64; 19]; 7] = [
 ];
 const FILLS_QUEUE: usize = 2;
 
+/// What a part may begin with: many of a kind, until holds, handles, slots or the queue run full.
+const BURSTS: [Option<(Kind, u64)>; 14] = [
+    None,
+    None,
+    None,
+    None,
+    Some((Kind::Open, 5)),
+    Some((Kind::Copy, 20)),
+    Some((Kind::Copy, 60)),
+    Some((Kind::Put, 6)),
+    Some((Kind::Put, 6)),
+    Some((Kind::Call, 30)),
+    Some((Kind::Call, 66)),
+    Some((Kind::Reserve, 66)),
+    Some((Kind::Close, 100)),
+    Some((Kind::Detach, 130)),
+];
+
 /// No tail is longer: 128 reads, then four passes over the slots. A side that answers wrongly
 /// could hold it up.
 const TAIL: u32 = 128 + 4 * 64 + 1;
@@ -103,6 +123,8 @@ pub struct Generator {
     pub(crate) given: [Option<Given>; 64],
     part: usize,
     part_left: u64,
+    /// The kind that comes again, and how often.
+    burst: Option<(Kind, u64)>,
     made: usize,
     tail: Tail,
     tail_left: u32,
@@ -121,6 +143,7 @@ impl Generator {
             given: [None; 64],
             part: 0,
             part_left: 30,
+            burst: None,
             made: 0,
             tail: Tail::Reading,
             tail_left: TAIL,
@@ -141,10 +164,31 @@ impl Generator {
         if self.part_left == 0 {
             self.part = self.draw.below(PARTS.len() as u64) as usize;
             self.part_left = 20 + self.draw.below(150);
+            self.burst = self.draw.one_of(&BURSTS);
         }
         self.part_left -= 1;
-        let kind = self.kind();
+        let kind = self.burst_kind().unwrap_or_else(|| self.kind());
         Some(self.aimed(kind))
+    }
+
+    /// The kind of a burst while it lasts: it ends soon after there is no room for more.
+    fn burst_kind(&mut self) -> Option<Kind> {
+        let (kind, left) = self.burst?;
+        let room = match kind {
+            Kind::Call | Kind::Reserve => !self.full() && self.state.queue < 128,
+            Kind::Close | Kind::Detach => self.state.queue < 128,
+            _ => true,
+        };
+        if left == 0 || !room && self.draw.chance(60) {
+            self.burst = None;
+            return None;
+        }
+        self.burst = Some((kind, left - 1));
+        let held = self.state.outside.iter().any(|n| *n != 0);
+        match kind {
+            Kind::Copy | Kind::Put if !held => Some(Kind::Open),
+            _ => Some(kind),
+        }
     }
 
     /// What an event answered, and the state that it left.
@@ -158,6 +202,10 @@ impl Generator {
             Event::Generic(payload) | Event::Stdfs(payload) => Some(payload.c),
             _ => None,
         };
+        let listed = match event {
+            Event::Submit { list, .. } | Event::Call { list, .. } => list.len() as u64,
+            _ => 0,
+        };
         match (&line.answer, event) {
             (Answer::Ok(tag), _) if caller.is_some() => {
                 if let Some(given) = self.given.get_mut(*tag as usize) {
@@ -165,8 +213,15 @@ impl Generator {
                         caller,
                         ended: false,
                         returned: false,
+                        listed,
                     });
                 }
+            }
+            (Answer::Ok(count), Event::Move { meta, .. }) => self.set_listed(meta, *count),
+            (Answer::Ok(_), Event::Obtain { meta }) => self.set_listed(meta, 0),
+            (Answer::Ok(count), Event::Write { bytes, .. }) => {
+                let taken = (*count as usize).min(bytes.len());
+                self.learn_entries(&bytes[..taken]);
             }
             (Answer::No(4), Event::Wake { tag, .. }) => {
                 if let Some(Some(given)) = self.given.get_mut(*tag as usize) {
@@ -185,6 +240,24 @@ impl Generator {
                 *given = None;
             }
         }
+    }
+
+    fn set_listed(&mut self, meta: &[u64], listed: u64) {
+        let request = meta.get(1).map(|request| *request as usize);
+        if let Some(Some(given)) = request.and_then(|request| self.given.get_mut(request)) {
+            given.listed = listed;
+        }
+    }
+
+    /// The Waiting slots with a list that is not empty.
+    pub(crate) fn with_list(&self) -> Vec<u64> {
+        let has = |tag: &u64| {
+            let given = self.given[*tag as usize];
+            given.is_some_and(|given| given.listed != 0)
+        };
+        let mut tags = self.in_phase(Phase::Waiting);
+        tags.retain(has);
+        tags
     }
 
     pub(crate) fn in_phase(&self, phase: Phase) -> Vec<u64> {
@@ -207,8 +280,9 @@ impl Generator {
                 kind,
                 Kind::Reserve | Kind::Call | Kind::Generic | Kind::Stdfs | Kind::Fmap
             );
-            let queues = takes_slot
-                || matches!(kind, Kind::Submit | Kind::Close | Kind::Detach | Kind::Wake);
+            let queues = takes_slot && kind != Kind::Reserve
+                || matches!(kind, Kind::Submit | Kind::Close | Kind::Detach)
+                || kind == Kind::Wake && self.part != FILLS_QUEUE;
             let has = |phase| self.state.slots.contains(&phase);
             let idle = match kind {
                 Kind::Submit => !has(Phase::Placeholder),
