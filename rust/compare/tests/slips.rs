@@ -198,7 +198,7 @@ const SLIPS: [Slip; 16] = [
             _ => None,
         },
         after: NOT_AFTER,
-        most: 128,
+        most: 135,
     },
     Slip {
         name: "a Cancel for each wake",
