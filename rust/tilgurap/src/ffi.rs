@@ -199,6 +199,7 @@ pub type Words = [u64; 1024];
 
 unsafe extern "C" {
     pub fn tilgurap_fresh(scheme: u64) -> State;
+    pub fn tilgurap_status(s: State, out: *mut [u64; 8]);
     pub fn tilgurap_open(s: State, description: u64) -> Step;
     pub fn tilgurap_copy(s: State, description: u64) -> Step;
     pub fn tilgurap_drop(s: State, description: u64) -> Step;

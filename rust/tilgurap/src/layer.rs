@@ -276,6 +276,14 @@ impl Layer {
         self.stepped(step)
     }
 
+    /// Placeholder, Waiting, Responded and Fmap: one bit a slot, and the count of ones.
+    pub fn status(&self) -> [(u64, u64); 4] {
+        let mut words = [0; 8];
+        // SAFETY: the words are there to be written.
+        unsafe { ffi::tilgurap_status(*self.state, &raw mut words) };
+        array::from_fn(|of| (words[2 * of], words[2 * of + 1]))
+    }
+
     /// The state as a run's last line has it.
     pub fn state(&self) -> State {
         let table = &self.state.table;
@@ -292,7 +300,7 @@ impl Layer {
             holds: table.holds.holds.map(u64::from),
             outside: table.holds.outside.map(u64::from),
             handles: (self.state.driver.handles.at).map(|held| held.checked_sub(1).map(u64::from)),
-            status: State::status_of(&slots),
+            status: self.status(),
         }
     }
     #[cfg(feature = "parts")]
