@@ -5,6 +5,7 @@ use script::{Answer, Event, Line, Script, State};
 
 use crate::known::{self, Occupied};
 use crate::port::Port;
+use crate::refusals::Owners;
 
 /// An event as both sides took it.
 pub enum Taken {
@@ -21,19 +22,9 @@ pub struct Beside<'a, P> {
     scheme: u64,
     kernel: Oracle,
     port: P,
+    owners: Owners,
     /// The events that were put to both.
     events: Vec<Event>,
-}
-
-/// Does the kernel take no such number?
-fn unfit(event: &Event) -> Option<u64> {
-    match event {
-        Event::Wake { tag, killed, .. } if *tag >> 32 != 0 => {
-            Some(if *killed > 1 { 205 } else { 77 })
-        }
-        Event::Supply { tag, .. } if *tag >> 32 != 0 => Some(22),
-        _ => None,
-    }
 }
 
 impl<'a, P: Port> Beside<'a, P> {
@@ -43,6 +34,7 @@ impl<'a, P: Port> Beside<'a, P> {
             scheme,
             kernel: Oracle::new(scheme),
             port: fresh(scheme),
+            owners: Owners::new(),
             events: Vec::new(),
         }
     }
@@ -67,16 +59,11 @@ impl<'a, P: Port> Beside<'a, P> {
         let port = self.port.step(event)?;
         self.events.push(event.clone());
         let taken = if kernel.answer == Answer::Skip {
-            let number = match port.answer {
-                Answer::No(number) => number,
-                _ => 0,
-            };
-            let fits = match unfit(event) {
-                Some(wanted) => number == wanted,
-                None => (201..=207).contains(&number),
-            };
-            if !fits || !port.effects.is_empty() || !port.bytes.is_empty() {
-                return Err(format!("  rust: {kernel}\n  port: {port}"));
+            let number = self.owners.refusal(&before.state(), event);
+            if port != Line::answer(Answer::No(number)) {
+                return Err(format!(
+                    "  rust: {kernel}\n  port: {port}\n  01: no {number}"
+                ));
             }
             if *self.port.layer() != before {
                 return Err(format!("  port: {port}, and its state is another"));
@@ -90,6 +77,9 @@ impl<'a, P: Port> Beside<'a, P> {
         let (kernel, port) = (self.kernel.state(), self.port.state());
         if kernel != port {
             return Err(format!("  rust: {kernel}\n  port: {port}"));
+        }
+        if let Taken::Same(line) = &taken {
+            self.owners.learn(event, line);
         }
         Ok(taken)
     }

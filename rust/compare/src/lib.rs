@@ -7,6 +7,7 @@ pub mod counts;
 pub mod known;
 pub mod limits;
 pub mod port;
+pub mod refusals;
 pub mod runs;
 pub mod shrink;
 pub mod words;

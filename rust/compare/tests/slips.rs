@@ -57,7 +57,7 @@ fn occupied(layer: &Layer) -> usize {
 const NOT_BEFORE: Before = |_, _| None;
 const NOT_AFTER: After = |_, _, _, _| {};
 
-const SLIPS: [Slip; 16] = [
+const SLIPS: [Slip; 18] = [
     Slip {
         name: "a killed wake vacates the slot",
         before: NOT_BEFORE,
@@ -242,6 +242,26 @@ const SLIPS: [Slip; 16] = [
         },
         after: NOT_AFTER,
         most: 1,
+    },
+    Slip {
+        name: "205 where 206 belongs",
+        before: NOT_BEFORE,
+        after: |_, _, _, line| {
+            if line.answer == Answer::No(206) {
+                line.answer = Answer::No(205);
+            }
+        },
+        most: 18,
+    },
+    Slip {
+        name: "a wake that is not its caller's says EBADFD",
+        before: NOT_BEFORE,
+        after: |_, _, event, line| {
+            if let (Event::Wake { .. }, Answer::No(201)) = (event, &line.answer) {
+                line.answer = Answer::No(77);
+            }
+        },
+        most: 3,
     },
     Slip {
         name: "a refused submit takes its list",
