@@ -15,18 +15,21 @@ const BATCHES: usize = 6;
 /// on neither side.
 const INTERRUPTED: Duration = Duration::from_micros(30);
 
-/// Nanoseconds of both sides, and how many events they were for.
+/// Nanoseconds of the kernel, of the steps and in a run, and how many events they were for.
 #[derive(Clone, Copy, Default)]
 struct Times {
     rust: f64,
     port: f64,
+    run: f64,
     events: f64,
 }
 
-/// One kind of event: a batch of it on fresh sides, timed.
+/// One kind of event: a batch of it on fresh sides, timed; and for a run events that come before,
+/// and events of that kind.
 struct Kind {
     name: &'static str,
     batch: fn(&mut Both),
+    run: fn() -> (Vec<Event>, Vec<Event>),
 }
 
 /// Both sides, and their time so far.
@@ -250,25 +253,39 @@ fn reply(tags: std::ops::Range<u8>) -> Event {
     }
 }
 
-fn calls(both: &mut Both) {
-    for _ in 0..64 {
-        both.put(&call_line());
-    }
-    both.put(&event("read 4096 0"));
+fn many(count: usize, line: &str) -> Vec<Event> {
+    vec![event(line); count]
 }
 
-fn lists(both: &mut Both) {
-    calls(both);
-    both.put(&event("open 0"));
-    for _ in 1..64 {
-        both.put(&event("copy 0"));
-    }
+fn each_tag(line: &str) -> Vec<Event> {
+    let of = |tag: u64| event(&line.replace("TAG", &tag.to_string()));
+    (0..64).map(of).collect()
+}
+
+fn wakes() -> Vec<Event> {
+    each_tag("wake TAG 100 0 0 0")
+}
+
+/// 64 calls that wait, their entries read.
+fn waiting() -> Vec<Event> {
+    let mut events = vec![call_line(); 64];
+    events.push(event("read 4096 0"));
+    events
+}
+
+/// And a description with a hold for each.
+fn waiting_with_holds() -> Vec<Event> {
+    let mut events = waiting();
+    events.push(event("open 0"));
+    events.extend(many(63, "copy 0"));
+    events
 }
 
 const KINDS: [Kind; 17] = [
     Kind {
         name: "reserve",
         batch: |both| (0..64).for_each(|_| both.time(&event("reserve 1"))),
+        run: || (vec![], many(64, "reserve 1")),
     },
     Kind {
         name: "submit",
@@ -278,38 +295,52 @@ const KINDS: [Kind; 17] = [
                 both.call(&event("submit 0 100 6 0 1 2 3 4 5 6 9 0"), ENTERED);
             }
         },
+        run: || {
+            let submit = |tag| event(&format!("submit {tag} 100 6 0 1 2 3 4 5 6 9 0"));
+            (many(64, "reserve 100"), (0..64).map(submit).collect())
+        },
     },
     Kind {
         name: "call",
         batch: |both| (0..32).for_each(|_| both.call(&call_line(), ENTERED)),
+        run: || (vec![], vec![call_line(); 64]),
     },
     Kind {
         name: "generic",
         batch: |both| {
             (0..32).for_each(|_| both.call(&Event::Generic(payload()), ENTERED));
         },
+        run: || (vec![], vec![Event::Generic(payload()); 64]),
     },
     Kind {
         name: "stdfs",
         batch: |both| {
             (0..32).for_each(|_| both.call(&Event::Stdfs(payload()), ENTERED));
         },
+        run: || (vec![], vec![Event::Stdfs(payload()); 64]),
     },
     Kind {
         name: "wake, still blocked",
         batch: |both| {
             (0..32).for_each(|_| both.call(&call_line(), [false, true, false]));
         },
+        run: || (waiting(), wakes()),
     },
     Kind {
         name: "wake, reply",
         batch: |both| {
             (0..32).for_each(|_| both.call(&call_line(), [false, false, true]));
         },
+        run: || {
+            let mut before = waiting();
+            before.extend((0..4).map(|part| reply(16 * part..16 * (part + 1))));
+            (before, wakes())
+        },
     },
     Kind {
         name: "fmap",
         batch: |both| (0..64).for_each(|_| both.time(&event("fmap 1 2 3 4 5 6 7"))),
+        run: || (vec![], many(64, "fmap 1 2 3 4 5 6 7")),
     },
     Kind {
         name: "supply",
@@ -319,14 +350,22 @@ const KINDS: [Kind; 17] = [
                 both.time(&event(&format!("supply {tag} 0 4096 1")));
             }
         },
+        run: || {
+            (
+                many(64, "fmap 1 2 3 4 5 6 7"),
+                each_tag("supply TAG 0 4096 1"),
+            )
+        },
     },
     Kind {
         name: "close",
         batch: |both| (0..128).for_each(|_| both.time(&event("close 5"))),
+        run: || (vec![], many(128, "close 5")),
     },
     Kind {
         name: "detach",
         batch: |both| (0..128).for_each(|_| both.time(&event("detach 5 9"))),
+        run: || (vec![], many(128, "detach 5 9")),
     },
     Kind {
         name: "read, one entry",
@@ -334,6 +373,7 @@ const KINDS: [Kind; 17] = [
             (0..128).for_each(|_| both.put(&event("close 5")));
             (0..128).for_each(|_| both.time(&event("read 64 0")));
         },
+        run: || (many(128, "close 5"), many(128, "read 64 0")),
     },
     Kind {
         name: "read, 128 entries",
@@ -343,40 +383,59 @@ const KINDS: [Kind; 17] = [
                 both.time(&event("read 8192 0"));
             }
         },
+        run: || (many(128, "close 5"), many(1, "read 8192 0")),
     },
     Kind {
         name: "write, one reply",
         batch: |both| {
-            calls(both);
+            waiting().iter().for_each(|event| both.put(event));
             (0..64).for_each(|tag| both.time(&reply(tag..tag + 1)));
+        },
+        run: || {
+            let replies = (0..64).map(|tag| reply(tag..tag + 1));
+            (waiting(), replies.collect())
         },
     },
     Kind {
         name: "write, 16 replies",
         batch: |both| {
-            calls(both);
+            waiting().iter().for_each(|event| both.put(event));
             (0..4).for_each(|part| both.time(&reply(16 * part..16 * (part + 1))));
+        },
+        run: || {
+            let replies = (0..4).map(|part| reply(16 * part..16 * (part + 1)));
+            (waiting(), replies.collect())
         },
     },
     Kind {
         name: "move, one description",
         batch: |both| {
-            lists(both);
+            waiting_with_holds()
+                .iter()
+                .for_each(|event| both.put(event));
             for tag in 0..64 {
                 both.time(&event(&format!("move 2 1 {tag} 1 0")));
             }
         },
+        run: || (waiting_with_holds(), each_tag("move 2 1 TAG 1 0")),
     },
     Kind {
         name: "obtain, one description",
         batch: |both| {
-            lists(both);
+            waiting_with_holds()
+                .iter()
+                .for_each(|event| both.put(event));
             for tag in 0..64 {
                 both.put(&event(&format!("move 2 1 {tag} 1 0")));
             }
             for tag in 0..64 {
                 both.time(&event(&format!("obtain 2 0 {tag}")));
             }
+        },
+        run: || {
+            let mut before = waiting_with_holds();
+            before.extend(each_tag("move 2 1 TAG 1 0"));
+            (before, each_tag("obtain 2 0 TAG"))
         },
     },
 ];
@@ -440,6 +499,37 @@ struct Ran {
     interrupted: u64,
 }
 
+/// The time of these events in one run.
+fn run_time(events: &[Event]) -> f64 {
+    let records = events.iter().map(|event| event.encode().expect("a record"));
+    let bytes = records.collect::<Vec<Vec<u8>>>().concat();
+    let room = |event: &Event| match event {
+        Event::Read { len, .. } => 192 + *len as usize,
+        Event::Write { bytes, .. } => 192 + 27 * bytes.len(),
+        _ => 192,
+    };
+    // ones, so that its pages are there before the clock runs
+    let mut out = vec![1; 1_608 + events.iter().map(room).sum::<usize>()];
+    let mut fx = vec![0; 54 * 16];
+    let mut run = || {
+        let start = Instant::now();
+        let end = tilgurap::run(7, &bytes, &mut out, &mut fx);
+        let spent = nanoseconds(start.elapsed());
+        assert_eq!((end.number, end.place), (0, bytes.len() as u64));
+        spent
+    };
+    // the first brings it all near
+    run();
+    run()
+}
+
+/// What an event of that kind takes in a run: a run with them and one without.
+fn run_of_kind(kind: &Kind) -> f64 {
+    let (before, timed) = (kind.run)();
+    let all = [&before[..], &timed[..]].concat();
+    (run_time(&all) - run_time(&before)) / timed.len() as f64
+}
+
 fn run(pieces: &[Piece], clock: f64) -> Ran {
     let mut both = Both::new(clock);
     let mut events = Vec::new();
@@ -465,14 +555,7 @@ fn run(pieces: &[Piece], clock: f64) -> Ran {
             }
         }
     }
-    let bytes: Vec<u8> = (events.iter())
-        .flat_map(|event| event.encode().expect("a record"))
-        .collect();
-    let mut out = vec![0; 1_608 + events.len() * (192 + 27 * 16 + 128)];
-    let start = Instant::now();
-    let end = tilgurap::run(7, &bytes, &mut out, &mut [0; 54]);
-    let run = nanoseconds(start.elapsed());
-    assert_eq!((end.number, end.place), (0, bytes.len() as u64));
+    let run = run_time(&events);
     Ran {
         rust: both.times.rust / both.times.events,
         steps: both.times.port / both.times.events,
@@ -501,8 +584,8 @@ fn main() {
     let over = nanoseconds(oracle::hand_overs(count)) / f64::from(count);
     println!("a thread's hand-over, there and back: {over:.0} ns, in no figure below\n");
 
-    println!("| event, through its exported step | Rust ns | port ns | port / Rust |");
-    println!("|---|---|---|---|");
+    println!("| event | Rust ns | step ns | step / Rust | in `tilgurap_run` ns | in it / Rust |");
+    println!("|---|---|---|---|---|---|");
     let mut interrupted = 0;
     let mut kinds = vec![Vec::new(); KINDS.len()];
     for _ in 0..ROUNDS {
@@ -516,17 +599,20 @@ fn main() {
                 times.events += both.times.events;
                 interrupted += both.interrupted;
             }
+            times.run = run_of_kind(kind) * times.events;
             rounds.push(times);
         }
     }
     for (kind, rounds) in KINDS.iter().zip(kinds) {
         let of = |of: fn(&Times) -> f64| spread(rounds.iter().map(of).collect()).0;
         println!(
-            "| {} | {:.0} | {:.0} | {} |",
+            "| {} | {:.0} | {:.0} | {} | {:.0} | {} |",
             kind.name,
             of(|times| times.rust / times.events),
             of(|times| times.port / times.events),
-            ratio(rounds.iter().map(|times| times.port / times.rust).collect())
+            ratio(rounds.iter().map(|times| times.port / times.rust).collect()),
+            of(|times| times.run / times.events),
+            ratio(rounds.iter().map(|times| times.run / times.rust).collect())
         );
     }
 
