@@ -4,13 +4,14 @@ use std::sync::{Arc, Mutex, PoisonError};
 
 use script::Reply;
 use syscall::CallFlags;
+use syscall::schemev2::Cqe;
 
 use crate::context::Context;
 use crate::context::file::InternalFlags;
 use crate::context::memory::AddrSpaceWrapper;
 use crate::machine::Machine;
 use crate::oracle::{Description, clean, description, number};
-use crate::scheme::user::probe::Handed;
+use crate::scheme::user::probe::{self, Handed};
 use crate::scheme::user::{UserInner, UserScheme};
 use crate::scheme::{CallerCtx, KernelScheme, OpenResult, SchemeId, StrOrBytes};
 use crate::sync::RwLock;
@@ -132,4 +133,9 @@ pub fn read_reply(front: Front, reply: &Reply) -> (Reading, Option<bool>) {
     let reading = read.unwrap_or_else(|error| Reading::Error(error.errno as u64));
     let after = noticed.read(clean().token()).internal_flags.contains(told);
     (reading, (after == notice).then_some(notice))
+}
+
+/// What `parse_cqe` refuses an entry with.
+pub fn parse_cqe(entry: &Cqe) -> std::result::Result<(), u64> {
+    probe::parse(entry).map_err(|error| error.errno as u64)
 }

@@ -3,11 +3,13 @@
 
 mod event;
 mod fields;
+mod format;
 mod output;
 mod script;
 mod state;
 
 pub use event::{Event, Payload};
+pub use format::NoPlace;
 pub use output::{Answer, Effect, Line, OutputLine, Reply};
 pub use script::{Mistake, Script};
 pub use state::{Phase, State};

@@ -6,7 +6,7 @@ use std::sync::Arc;
 
 use script::Phase;
 use slab::Slab;
-use syscall::schemev2::{Opcode, Sqe, SqeFlags};
+use syscall::schemev2::{Cqe, Opcode, Sqe, SqeFlags};
 
 use super::{ParsedCqe, Response, State, UserInner};
 use crate::context::file::LockedFileDescription;
@@ -39,6 +39,11 @@ impl From<Response> for Handed {
 fn clean() -> CleanLockToken {
     // SAFETY: the oracle looks when nobody holds a lock.
     unsafe { CleanLockToken::new() }
+}
+
+/// Is that entry taken apart, or refused before its tag is looked at?
+pub fn parse(entry: &Cqe) -> Result<()> {
+    ParsedCqe::parse_cqe(entry).map(|_| ())
 }
 
 /// What runs the scheme's private functions.

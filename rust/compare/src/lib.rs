@@ -1,0 +1,13 @@
+//! The layer beside the kernel's own code: the same events put to both, what each says compared,
+//! and a difference made short.
+
+pub mod beside;
+pub mod bytes;
+pub mod counts;
+pub mod known;
+pub mod limits;
+pub mod port;
+pub mod refusals;
+pub mod runs;
+pub mod shrink;
+pub mod words;

@@ -1,0 +1,92 @@
+//! `compare SEEDS EVENTS [FIRST]`: so many runs of so many events each, on the layer and on the
+//! kernel's own code, from the first seed (0) on. Status 0 where they say the same, 1 where they
+//! differ: then a short script shows it.
+
+use std::process::ExitCode;
+use std::time::{Duration, Instant};
+
+use compare::counts::Counts;
+use compare::{limits, runs, words};
+use script::OutputLine;
+use tilgurap::Layer;
+
+const USAGE: &str = "usage: compare SEEDS EVENTS [FIRST]";
+const RANDOM_WORDS: u64 = 2_000_000;
+const BETWEEN: Duration = Duration::from_secs(2);
+
+fn numbers(args: &[String]) -> Option<(u64, usize, u64)> {
+    match args {
+        [seeds, events] => Some((seeds.parse().ok()?, events.parse().ok()?, 0)),
+        [seeds, events, first] => Some((
+            seeds.parse().ok()?,
+            events.parse().ok()?,
+            first.parse().ok()?,
+        )),
+        _ => None,
+    }
+}
+
+/// The script with both sides' lines.
+fn show(difference: &runs::Difference) {
+    println!(
+        "seed {}, event {}: they differ. Shortest script found:\n",
+        difference.seed, difference.place
+    );
+    print!("{}", difference.script);
+    let sides = [
+        ("rust", oracle::run(&difference.script)),
+        ("port", tilgurap::run_script(&difference.script)),
+    ];
+    for (side, lines) in sides {
+        println!("\n{side}:");
+        for line in lines {
+            match line {
+                OutputLine::Event(line) => println!("{line}"),
+                OutputLine::State(state) => println!("{state}"),
+            }
+        }
+    }
+    println!("\n{}", difference.what);
+}
+
+fn main() -> ExitCode {
+    let args: Vec<String> = std::env::args().skip(1).collect();
+    let Some((seeds, events, first)) = numbers(&args) else {
+        eprintln!("{USAGE}");
+        return ExitCode::from(2);
+    };
+
+    let others = words::compare(RANDOM_WORDS);
+    match &others {
+        Ok(compared) => println!(
+            "compared: {} error words, {} entries, {} refusals before the tag, {} readings of replies",
+            compared.error_words, compared.entries, compared.refusals, compared.readings
+        ),
+        Err(what) => println!("they differ: {what}"),
+    }
+    let limits = limits::compare();
+    match &limits {
+        Ok(compared) => println!("compared: {compared} events up to 65,535 holds"),
+        Err(what) => println!("they differ: {what}"),
+    }
+
+    let (mut counts, mut told) = (Counts::default(), Instant::now());
+    for seed in first..first.saturating_add(seeds) {
+        if let Err(difference) = runs::compare(seed, events, &Layer::new, &mut counts) {
+            show(&difference);
+            return ExitCode::FAILURE;
+        }
+        if told.elapsed() > BETWEEN {
+            told = Instant::now();
+            eprintln!("seed {seed}, {} events compared", counts.compared);
+        }
+    }
+    print!("{counts}");
+    match others.is_ok() && limits.is_ok() {
+        true => {
+            println!("\nno difference");
+            ExitCode::SUCCESS
+        }
+        false => ExitCode::FAILURE,
+    }
+}

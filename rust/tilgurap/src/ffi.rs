@@ -1,0 +1,322 @@
+//! The exported functions as they are declared in `crates/tilgurap`, and twins of the structs that
+//! cross. A slice crosses as its pointer and its length.
+
+#[derive(Clone, Copy, Debug, PartialEq, Eq)]
+#[repr(C)]
+pub struct Tag(pub u64);
+
+#[derive(Clone, Copy, Debug, PartialEq, Eq)]
+#[repr(C)]
+pub struct PageSpan {
+    pub base: u64,
+    pub count: u64,
+}
+
+/// `kind` 0 a success, 1 an error, 2 one descriptor, 3 many: they stand in the list beside it.
+#[derive(Clone, Copy, Debug, PartialEq, Eq)]
+#[repr(C)]
+pub struct Reply {
+    pub kind: u8,
+    pub extra0: u8,
+    pub notice: bool,
+    pub word: u64,
+}
+
+/// A list of descriptions.
+#[derive(Clone, Copy, Debug, PartialEq, Eq)]
+#[repr(C)]
+pub struct List {
+    pub at: [u8; 16],
+    pub len: u8,
+}
+
+/// `state` 0 vacant, 1 Placeholder, 2 Waiting, 3 Responded, 4 Fmap.
+#[derive(Clone, Copy, Debug, PartialEq, Eq)]
+#[repr(C)]
+pub struct Slot {
+    pub state: u8,
+    pub caller: u32,
+    pub canceling: bool,
+    pub ended: bool,
+    pub returned: bool,
+    pub span: PageSpan,
+    pub reply: Reply,
+    pub fds: List,
+}
+
+#[derive(Clone, Copy, Debug, PartialEq, Eq)]
+#[repr(C)]
+pub struct Holds {
+    pub holds: [u16; 64],
+    pub outside: [u16; 64],
+}
+
+/// The slots, and the chain of vacated ones.
+#[derive(Clone, Copy, Debug, PartialEq, Eq)]
+#[repr(C)]
+pub struct Table {
+    pub slots: [Slot; 64],
+    pub next: [u8; 64],
+    pub head: u8,
+    pub holds: Holds,
+}
+
+/// 0 for an empty handle, else the description and one.
+#[derive(Clone, Copy, Debug, PartialEq, Eq)]
+#[repr(C)]
+pub struct Handles {
+    pub at: [u16; 64],
+}
+
+#[derive(Clone, Copy, Debug, PartialEq, Eq)]
+#[repr(C)]
+pub struct WaitQueue {
+    pub first: u8,
+    pub len: u8,
+}
+
+#[derive(Clone, Copy, Debug, PartialEq, Eq)]
+#[repr(C)]
+pub struct Driver {
+    pub scheme: u64,
+    pub handles: Handles,
+    pub queue: WaitQueue,
+}
+
+#[derive(Clone, Copy, Debug, PartialEq, Eq)]
+#[repr(C)]
+pub struct State {
+    pub driver: Driver,
+    pub table: Table,
+}
+
+/// `kind` 0 done, 1 refused, 2 would wait, 3 still blocked, 4 a reply.
+#[derive(Clone, Copy, Debug, PartialEq, Eq)]
+#[repr(C)]
+pub struct AnswerWords {
+    pub kind: u64,
+    pub value: u64,
+}
+
+/// Kind 0 is no effect.
+#[derive(Clone, Copy, Debug, PartialEq, Eq)]
+#[repr(C)]
+pub struct Effect {
+    pub kind: u64,
+    pub a: u64,
+    pub b: u64,
+}
+
+#[repr(C)]
+pub struct Step {
+    pub answer: AnswerWords,
+    pub effect: Effect,
+    pub state: State,
+}
+
+#[repr(C)]
+pub struct Woken {
+    pub answer: AnswerWords,
+    pub reply: Reply,
+    pub fds: List,
+    pub effect: Effect,
+    pub state: State,
+}
+
+#[repr(C)]
+pub struct Received {
+    pub answer: AnswerWords,
+    pub state: State,
+}
+
+#[repr(C)]
+pub struct Completed {
+    pub answer: AnswerWords,
+    pub words: usize,
+    pub state: State,
+}
+
+#[repr(C)]
+pub struct Regular {
+    pub answer: AnswerWords,
+    pub notice: bool,
+}
+
+/// `kind` 0 a number of the scheme's own, 1 a description, 2 refused.
+#[repr(C)]
+pub struct OpenedWords {
+    pub kind: u64,
+    pub value: u64,
+    pub flags: u8,
+}
+
+/// How a run ended: its number, the place in the input, the bytes written.
+#[derive(Clone, Copy, Debug, PartialEq, Eq)]
+#[repr(C)]
+pub struct RunEnd {
+    pub number: u64,
+    pub place: u64,
+    pub written: u64,
+}
+
+/// A submission entry.
+#[derive(Clone, Copy, Debug, PartialEq, Eq)]
+#[repr(C)]
+pub struct Sqe {
+    pub opcode: u8,
+    pub sqe_flags: u8,
+    pub tag: u32,
+    pub args: [u64; 6],
+    pub caller: u64,
+}
+
+/// A completion entry.
+#[derive(Clone, Copy, Debug, PartialEq, Eq)]
+#[repr(C)]
+pub struct Cqe {
+    pub flags: u8,
+    pub extra_raw: [u8; 3],
+    pub tag: u32,
+    pub result: u64,
+}
+
+/// Six arguments.
+#[derive(Clone, Copy)]
+#[repr(C)]
+pub struct Args(pub [u64; 6]);
+
+const _: () = assert!(size_of::<Slot>() == 72 && size_of::<List>() == 17);
+const _: () = assert!(size_of::<Table>() == 4_936 && size_of::<Driver>() == 144);
+const _: () = assert!(size_of::<State>() == 5_080);
+const _: () = assert!(size_of::<Step>() == 5_120 && size_of::<Woken>() == 5_160);
+const _: () = assert!(size_of::<Received>() == 5_096 && size_of::<Completed>() == 5_104);
+const _: () = assert!(size_of::<Regular>() == 24 && size_of::<OpenedWords>() == 24);
+const _: () = assert!(size_of::<RunEnd>() == 24 && size_of::<Args>() == 48);
+const _: () = assert!(size_of::<Sqe>() == 64 && size_of::<Cqe>() == 16);
+
+/// The queue's words.
+pub type Words = [u64; 1024];
+
+unsafe extern "C" {
+    pub fn tilgurap_fresh(scheme: u64) -> State;
+    pub fn tilgurap_status(s: State, out: *mut [u64; 8]);
+    pub fn tilgurap_open(s: State, description: u64) -> Step;
+    pub fn tilgurap_copy(s: State, description: u64) -> Step;
+    pub fn tilgurap_drop(s: State, description: u64) -> Step;
+    pub fn tilgurap_put(s: State, description: u64, handle: u64) -> Step;
+    pub fn tilgurap_ended(s: State, caller: u32) -> Step;
+    pub fn tilgurap_next_id(s: State, caller: u32) -> Step;
+    pub fn tilgurap_submit(
+        s: State,
+        words: *mut Words,
+        tag: Tag,
+        caller: u32,
+        opcode: u64,
+        flags: u8,
+        args: Args,
+        pid: u64,
+        fds: *const u64,
+        fds_len: usize,
+    ) -> Step;
+    pub fn tilgurap_call(
+        s: State,
+        words: *mut Words,
+        caller: u32,
+        opcode: u64,
+        args: Args,
+        uid: u32,
+        gid: u32,
+        pid: u64,
+        fds: *const u64,
+        fds_len: usize,
+    ) -> Step;
+    pub fn tilgurap_call_generic(
+        s: State,
+        words: *mut Words,
+        caller: u32,
+        pid: u64,
+        fds: *const u64,
+        fds_len: usize,
+        base: u64,
+        len: u64,
+        metadata: *const u64,
+        metadata_len: usize,
+    ) -> Step;
+    pub fn tilgurap_translate_std_fs_call(
+        s: State,
+        words: *mut Words,
+        caller: u32,
+        pid: u64,
+        fds: *const u64,
+        fds_len: usize,
+        base: u64,
+        len: u64,
+        metadata: *const u64,
+        metadata_len: usize,
+    ) -> Step;
+    pub fn tilgurap_request_fmap(
+        s: State,
+        words: *mut Words,
+        caller: u32,
+        id: u64,
+        pages: u64,
+        flags: u64,
+        uid: u32,
+        gid: u32,
+        pid: u64,
+    ) -> Step;
+    pub fn tilgurap_close(s: State, words: *mut Words, id: u64) -> Step;
+    pub fn tilgurap_detach(s: State, words: *mut Words, id: u64, pid: u64) -> Step;
+    pub fn tilgurap_wake(
+        s: State,
+        words: *mut Words,
+        tag: Tag,
+        caller: u32,
+        killed: u64,
+        base: u64,
+        count: u64,
+    ) -> Woken;
+    pub fn tilgurap_read(
+        s: State,
+        words: *const Words,
+        out: *mut u8,
+        out_len: usize,
+        flags: u32,
+    ) -> Received;
+    pub fn tilgurap_write(
+        s: State,
+        fx: *mut u64,
+        fx_len: usize,
+        bytes: *const u8,
+        bytes_len: usize,
+    ) -> Completed;
+    pub fn tilgurap_call_fdwrite(
+        s: State,
+        metadata: *const u64,
+        metadata_len: usize,
+        fds: *const u64,
+        fds_len: usize,
+    ) -> Step;
+    pub fn tilgurap_call_fdread(s: State, metadata: *const u64, metadata_len: usize) -> Step;
+    pub fn tilgurap_provide_mmap(s: State, tag: Tag, offset: u64, base: u64, count: u64) -> Step;
+    pub fn tilgurap_into_regular(reply: Reply, fds: List) -> AnswerWords;
+    pub fn tilgurap_read_call_generic(reply: Reply, fds: List) -> Regular;
+    pub fn tilgurap_kopenat(reply: Reply, fds: List) -> OpenedWords;
+    pub fn tilgurap_kdup(reply: Reply, fds: List) -> OpenedWords;
+    pub fn tilgurap_demux(word: u64) -> AnswerWords;
+    pub fn tilgurap_run(
+        scheme: u64,
+        events: *const u8,
+        events_len: usize,
+        out: *mut u8,
+        out_len: usize,
+        fx: *mut u64,
+        fx_len: usize,
+    ) -> RunEnd;
+    pub fn tilgurap_mux_error(errno: i32) -> u64;
+    pub fn tilgurap_sqe(bytes: *const u8, bytes_len: usize) -> Sqe;
+    pub fn tilgurap_cqe(bytes: *const u8, bytes_len: usize) -> Cqe;
+    pub fn tilgurap_sqe_bytes(e: Sqe, out: *mut [u8; 64]);
+    pub fn tilgurap_cqe_bytes(e: Cqe, out: *mut [u8; 16]);
+    pub fn tilgurap_parse_cqe(e: Cqe) -> u64;
+}

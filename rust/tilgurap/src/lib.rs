@@ -1,0 +1,37 @@
+//! The layer, called from Rust: the exported functions of `libtilgurap.a` behind an owner of the
+//! state, and the events and lines of a script on top.
+
+mod ffi;
+mod layer;
+mod readings;
+mod script_steps;
+
+pub use ffi::{Cqe, RunEnd, Sqe};
+pub use layer::{Layer, Outcome};
+pub use readings::{
+    Opened, cqe, cqe_bytes, demux, into_regular, kdup, kopenat, mux_error, parse_cqe,
+    read_call_generic, sqe, sqe_bytes,
+};
+pub use script_steps::run_script;
+
+/// The state's fields.
+#[cfg(feature = "parts")]
+pub mod parts {
+    pub use crate::ffi::{Reply, Slot, State};
+}
+
+/// Runs the events in these bytes from a fresh state, as docs/FORMAT.md says.
+pub fn run(scheme: u64, events: &[u8], out: &mut [u8], fx: &mut [u64]) -> RunEnd {
+    // SAFETY: each pointer comes from the slice whose length goes with it.
+    unsafe {
+        ffi::tilgurap_run(
+            scheme,
+            events.as_ptr(),
+            events.len(),
+            out.as_mut_ptr(),
+            out.len(),
+            fx.as_mut_ptr(),
+            fx.len(),
+        )
+    }
+}
