@@ -1,8 +1,8 @@
--- `respond::one_or_none` meets its contract. Assumes nothing.
+-- `reply_parts::one_or_none` meets its contract. Assumes nothing.
 use borrow.Author.Needs.{needs}
-use Rattle.respond.proofs.one_or_none.Statement.{statement}
-use Rattle.respond.proofs.one_or_none.Tie as tie
-use Rattle.respond.proofs.Laws.{named-none, named-one}
+use Rattle.reply_parts.proofs.one_or_none.Statement.{statement}
+use Rattle.reply_parts.proofs.one_or_none.Tie as tie
+use Rattle.reply_parts.proofs.Laws.{named-none, named-one}
 
 empty-requires : tie.Need-empty-requires
 empty-requires c κs = search needs

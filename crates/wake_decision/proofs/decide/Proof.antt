@@ -1,10 +1,10 @@
--- `call_inner::decide` meets its contract. Assumes nothing.
+-- `wake_decision::decide` meets its contract. Assumes nothing.
 use borrow.Author.Needs.{needs}
-use Rattle.call_inner.proofs.Cases.{decided-as}
+use Rattle.wake_decision.proofs.Laws.{decided-as}
 use borrow.Author.Tests.{eq-eqb, ne-eqb, le-leb, lt-leb, not-true, not-false}
 use mathlib.Core.Path.{refl, sym, _∙_}
-use Rattle.call_inner.proofs.decide.Statement.{statement}
-use Rattle.call_inner.proofs.decide.Tie as tie
+use Rattle.wake_decision.proofs.decide.Statement.{statement}
+use Rattle.wake_decision.proofs.decide.Tie as tie
 
 phase-of-requires : tie.Need-phase-of-requires
 phase-of-requires c κs = search needs

@@ -1,11 +1,11 @@
--- `respond::stored_errno` meets its contract. Assumes nothing.
-use Rattle.respond.proofs.stored_errno.Statement.{statement}
-use Rattle.respond.proofs.stored_errno.Tie as tie
+-- `reply_parts::stored_errno` meets its contract. Assumes nothing.
+use Rattle.reply_parts.proofs.stored_errno.Statement.{statement}
+use Rattle.reply_parts.proofs.stored_errno.Tie as tie
 use mathlib.Core.Bool.{true, false}
 use mathlib.Core.Path.{refl}
 use borrow.Author.Tests.{eq-eqb, ne-eqb}
 use Rattle.events.proofs.Stage.{clash}
-use Rattle.respond.proofs.Laws.{errno-is}
+use Rattle.reply_parts.proofs.Laws.{errno-is}
 
 returns : tie.Need-returns
 returns c = let a = c .before .before .args in errno-is (a .canceling) (a .errno) true true (c .before .if1 .taken) (λ q. eq-eqb _ _ (c .if2 .taken)) (λ q. clash true refl q)

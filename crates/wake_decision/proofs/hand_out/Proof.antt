@@ -1,11 +1,11 @@
--- `call_inner::hand_out` meets its contract. Assumes nothing.
+-- `wake_decision::hand_out` meets its contract. Assumes nothing.
 use borrow.Author.Needs.{needs}
-use Rattle.call_inner.proofs.hand_out.Statement.{statement}
-use Rattle.call_inner.proofs.hand_out.Tie as tie
+use Rattle.wake_decision.proofs.hand_out.Statement.{statement}
+use Rattle.wake_decision.proofs.hand_out.Tie as tie
 use mathlib.Core.Path.{_≡_}
 use native.Mathlib.Omega.{arith}
 use lib.ListN.{length}
-use Rattle.call_inner.proofs.Cases.{holds-none, holds-list, holds-nothing, holds-one}
+use Rattle.wake_decision.proofs.Laws.{holds-none, holds-list, holds-nothing, holds-one}
 
 returns : tie.Need-returns
 returns c = let a = c .before .args in holds-none (a .h) (a .r) (a .fds) (c .if1 .taken)

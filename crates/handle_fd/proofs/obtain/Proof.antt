@@ -1,11 +1,11 @@
--- `handle_parsed::obtain` meets its contract. Assumes nothing.
+-- `handle_fd::obtain` meets its contract. Assumes nothing.
 use borrow.Author.Needs.{needs}
-use Rattle.handle_parsed.proofs.obtain.Statement.{statement}
-use Rattle.handle_parsed.proofs.obtain.Tie as tie
+use Rattle.handle_fd.proofs.obtain.Statement.{statement}
+use Rattle.handle_fd.proofs.obtain.Tie as tie
 use mathlib.Core.Path.{refl, sym, _∙_}
 use native.Mathlib.Omega.{arith}
 use Rattle.slot.specs.declared.Phase.the-variants.{Vacant, Placeholder, Responded, Fmap}
-use Rattle.handle_parsed.proofs.Laws.{obtain-turned, obtain-none, obtain-some, obtain-few}
+use Rattle.handle_fd.proofs.Laws.{obtain-turned, obtain-none, obtain-some, obtain-few}
 
 phase-of-requires : tie.Need-phase-of-requires
 phase-of-requires c κs = search needs

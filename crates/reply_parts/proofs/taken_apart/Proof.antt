@@ -1,8 +1,8 @@
--- `respond::taken_apart` meets its contract. Assumes nothing.
+-- `reply_parts::taken_apart` meets its contract. Assumes nothing.
 use borrow.Author.Needs.{needs}
-use Rattle.respond.proofs.taken_apart.Statement.{statement}
-use Rattle.respond.proofs.taken_apart.Tie as tie
-use Rattle.respond.proofs.Laws.{parts-regular, parts-fd, parts-listed}
+use Rattle.reply_parts.proofs.taken_apart.Statement.{statement}
+use Rattle.reply_parts.proofs.taken_apart.Tie as tie
+use Rattle.reply_parts.proofs.Laws.{parts-regular, parts-fd, parts-listed}
 
 empty-requires : tie.Need-empty-requires
 empty-requires c κs = search needs

@@ -1,10 +1,10 @@
--- `call_inner::is_wakeable` meets its contract. Assumes nothing.
-use Rattle.call_inner.proofs.is_wakeable.Statement.{statement}
-use Rattle.call_inner.proofs.is_wakeable.Tie as tie
+-- `wake_decision::is_wakeable` meets its contract. Assumes nothing.
+use Rattle.wake_decision.proofs.is_wakeable.Statement.{statement}
+use Rattle.wake_decision.proofs.is_wakeable.Tie as tie
 use mathlib.Core.Bool.{true, false}
 use mathlib.Core.Path.{refl}
 use borrow.Author.Tests.{eq-eqb, ne-eqb}
-use Rattle.call_inner.proofs.Cases.{wakeable-is}
+use Rattle.wake_decision.proofs.Laws.{wakeable-is}
 
 returns : tie.Need-returns
 returns c = let a = c .before .before .args in wakeable-is (a .v) (a .caller) false _ _ (ne-eqb _ _ (c .if1 .taken)) refl refl

@@ -1,8 +1,8 @@
--- `respond::stored` meets its contract. Assumes nothing.
+-- `reply_parts::stored` meets its contract. Assumes nothing.
 use borrow.Author.Needs.{needs}
-use Rattle.respond.proofs.stored.Statement.{statement}
-use Rattle.respond.proofs.stored.Tie as tie
-use Rattle.respond.proofs.Laws.{stored-ok, stored-err}
+use Rattle.reply_parts.proofs.stored.Statement.{statement}
+use Rattle.reply_parts.proofs.stored.Tie as tie
+use Rattle.reply_parts.proofs.Laws.{stored-ok, stored-err}
 
 number-requires : tie.Need-number-requires
 number-requires c κs = search needs

@@ -7,11 +7,11 @@ use Rattle.slot.specs.declared.Phase.the-variants.{Vacant, Placeholder, Waiting
 use Rattle.slot.specs.declared.Reply.{Reply}
 use Rattle.events.specs.Outcome.{Answer, no, blocked, reply}
 use Rattle.events.specs.Wake.{responseFrom}
-use Rattle.call_inner.specs.declared.Decided.{Decided}
-use Rattle.call_inner.specs.declared.Turn.{Turn}
-use Rattle.call_inner.specs.declared.Turn.the-variants.{Stay, Interrupt, Cancel, HandOver}
-use Rattle.call_inner.specs.declared.WakeAnswer.{WakeAnswer}
-use Rattle.call_inner.specs.declared.WakeAnswer.the-variants.{Replied, Blocked, BadArgument, BadDescriptor, NotYours, Interrupted, QueueFull}
+use Rattle.wake_decision.specs.declared.Decided.{Decided}
+use Rattle.wake_decision.specs.declared.Turn.{Turn}
+use Rattle.wake_decision.specs.declared.Turn.the-variants.{Stay, Interrupt, Cancel, HandOver}
+use Rattle.wake_decision.specs.declared.WakeAnswer.{WakeAnswer}
+use Rattle.wake_decision.specs.declared.WakeAnswer.the-variants.{Replied, Blocked, BadArgument, BadDescriptor, NotYours, Interrupted, QueueFull}
 
 abbrev pub wakeAnswer : WakeAnswer → Reply → Fds → Answer
 wakeAnswer Replied r l = reply (responseFrom r l)

@@ -1,8 +1,8 @@
--- `handle_parsed::descriptor` meets its contract. Assumes nothing.
+-- `handle_fd::descriptor` meets its contract. Assumes nothing.
 use borrow.Author.Needs.{needs}
-use Rattle.handle_parsed.proofs.descriptor.Statement.{statement}
-use Rattle.handle_parsed.proofs.descriptor.Tie as tie
-use Rattle.handle_parsed.proofs.Laws.{handle-empty, handle-served, handle-refused}
+use Rattle.handle_fd.proofs.descriptor.Statement.{statement}
+use Rattle.handle_fd.proofs.descriptor.Tie as tie
+use Rattle.handle_fd.proofs.Laws.{handle-empty, handle-served, handle-refused}
 
 held-at-requires : tie.Need-held-at-requires
 held-at-requires c κs = search needs
