@@ -1,8 +1,8 @@
--- `call_generic::entry` meets its contract. Assumes nothing.
+-- `generic_entry::entry` meets its contract. Assumes nothing.
 use borrow.Author.Needs.{needs}
-use Rattle.call_generic.proofs.entry.Statement.{statement}
-use Rattle.call_generic.proofs.entry.Tie as tie
-use Rattle.call_generic.proofs.Cases.{entry-two, entry-one}
+use Rattle.generic_entry.proofs.entry.Statement.{statement}
+use Rattle.generic_entry.proofs.entry.Tie as tie
+use Rattle.generic_entry.proofs.Laws.{entry-two, entry-one}
 
 word-or-zero-requires : tie.Need-word-or-zero-requires
 word-or-zero-requires c κs = search needs

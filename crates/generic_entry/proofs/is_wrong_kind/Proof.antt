@@ -1,7 +1,7 @@
--- `call_generic::is_wrong_kind` meets its contract. Assumes nothing.
-use Rattle.call_generic.proofs.is_wrong_kind.Statement.{statement}
-use Rattle.call_generic.proofs.is_wrong_kind.Tie as tie
-use Rattle.call_generic.proofs.Cases.{kind-none, kind-nine, kind-some}
+-- `generic_entry::is_wrong_kind` meets its contract. Assumes nothing.
+use Rattle.generic_entry.proofs.is_wrong_kind.Statement.{statement}
+use Rattle.generic_entry.proofs.is_wrong_kind.Tie as tie
+use Rattle.generic_entry.proofs.Laws.{kind-none, kind-nine, kind-some}
 
 returns : tie.Need-returns
 returns c = let a = c .before .args in kind-none (a .kind) (c .if1 .taken)

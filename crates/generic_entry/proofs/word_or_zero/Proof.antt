@@ -1,8 +1,8 @@
--- `call_generic::word_or_zero` meets its contract. Assumes nothing.
+-- `generic_entry::word_or_zero` meets its contract. Assumes nothing.
 use borrow.Author.Needs.{needs}
-use Rattle.call_generic.proofs.word_or_zero.Statement.{statement}
-use Rattle.call_generic.proofs.word_or_zero.Tie as tie
-use Rattle.call_generic.proofs.Cases.{no-word}
+use Rattle.generic_entry.proofs.word_or_zero.Statement.{statement}
+use Rattle.generic_entry.proofs.word_or_zero.Tie as tie
+use Rattle.generic_entry.proofs.Laws.{no-word}
 
 returns : tie.Need-returns
 returns c = let a = c .before .args in no-word (a .words .now) (a .i) (c .if1 .taken)
