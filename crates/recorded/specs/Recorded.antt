@@ -4,9 +4,7 @@ use mathlib.Core.Path.{_≡_}
 use mathlib.Core.Bool.{Bool, cond, _&&_}
 use mathlib.Core.List.{List, [], _∷_}
 use lib.Dec.{eqb, leb}
-use lib.ListN.{length}
 use Rattle.record.specs.Record.{decoded}
-use Rattle.run.specs.declared.RunEnd.{RunEnd}
 use Rattle.run.specs.Run.{runOf, needed, outputOf, endOf}
 use Rattle.recorded.specs.declared.Compared.{Compared}
 

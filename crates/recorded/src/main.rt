@@ -331,29 +331,33 @@ fn copy_all(s: State) -> Copies {
     c
 }
 
-fn print_holds(s: State) {
-    let mut told = [0; 1608];
-    outcome_bytes::put_state(&mut told, s);
-    print_field(b", holds ", le::word(&told, 48));
-    print_field(b", outside ", le::word(&told, 560));
-    print_field(b", handle 0 ", le::word(&told, 1032));
+fn print_limit(copies: u64, kind: u64, value: u64, told: &[u8]) {
+    print_field(b"207: copy ", copies);
+    print_field(b" answered kind ", kind);
+    print_field(b" number ", value);
+    print_field(b", holds ", le::word(told, 48));
+    print_field(b", outside ", le::word(told, 560));
+    print_field(b", handle 0 ", le::word(told, 1032));
     io::write_all(STDOUT_FILENO, b"\n");
 }
 
-fn print_copied(c: Copies) {
-    print_field(b"207: copy ", c.copies);
-    print_field(b" answered kind ", c.kind);
-    print_field(b" number ", c.value);
+fn print_copies(c: Copies) {
     let s = c.state;
-    print_holds(s);
+    let mut told = [0; 1608];
+    outcome_bytes::put_state(&mut told, s);
+    print_limit(c.copies, c.kind, c.value, &told);
 }
 
-// 01's 207, which no file has, since a run to it has 65,536 events: 5 is opened, put into handle 0 and copied until that is refused.
+// Opened, copied, and one of the two holds put into handle 0.
+fn held() -> State {
+    let c = copied(uncopied(opened(state::fresh(7))));
+    let s = c.state;
+    placed(s)
+}
+
+// 01's 207, which no file has, since a run to it has 65,536 events: description 5 is copied until that is refused.
 fn hold_limit() {
-    let s = opened(state::fresh(7));
-    let c = copied(uncopied(s));
-    let t = c.state;
-    print_copied(copy_all(placed(t)));
+    print_copies(copy_all(held()));
 }
 
 fn main() {

@@ -1,12 +1,13 @@
-//! What the recorded runs cover: how often each event got each answer, and each kind of completion
-//! entry its own.
+//! What the recorded runs cover: how often each event got each answer, each kind of completion
+//! entry its own, and each of them by the phase of its slot.
 
 use std::collections::BTreeMap;
 use std::fmt::{self, Display, Formatter};
 
-use script::{Answer, Event, Line, Reply};
+use script::{Answer, Event, Line, Phase, Reply, State};
 
 const ENTRY: usize = 16;
+const PAGE: u64 = 4_096;
 
 /// Each answer that the kernel has for each event, as its source reads.
 const ANSWERS: [(&str, &[&str]); 19] = [
@@ -56,6 +57,63 @@ const ENTRY_ANSWERS: [(&str, &[&str]); 7] = [
     ("kind 6, 7", &["no 22", "refused later"]),
 ];
 
+const PHASES: [(Phase, &str); 5] = [
+    (Phase::Vacant, "Vacant"),
+    (Phase::Placeholder, "Placeholder"),
+    (Phase::Waiting, "Waiting"),
+    (Phase::Responded, "Responded"),
+    (Phase::Fmap, "Fmap"),
+];
+
+const REPLY_BY_PHASE: [&[&str]; 5] = [&["no 77"], &["no 77"], &["ok"], &["no 22"], &["no 22"]];
+const CALL_BY_PHASE: [&[&str]; 5] = [&["no 22"], &["no 2"], &["ok"], &["no 2"], &["no 2"]];
+
+/// The answers by the phase of the slot before, where nothing else is wrong with the event or with
+/// the first entry of the write.
+const BY_PHASE: [(&str, [&[&str]; 5]); 10] = [
+    (
+        "wake",
+        [
+            &["no 77"],
+            &["no 77"],
+            &["no 4", "blocked, Cancel queued", "blocked"],
+            &[
+                "regular ok",
+                "regular ok, notice",
+                "regular err",
+                "regular err, notice",
+                "fd",
+                "many",
+            ],
+            &["no 77"],
+        ],
+    ),
+    ("entry of kind 0", REPLY_BY_PHASE),
+    ("entry of kind 1, its handle full", REPLY_BY_PHASE),
+    ("entry of kind 1, its handle empty", [&["no 22"]; 5]),
+    (
+        "entry of kind 3",
+        [&["no 22"], &["no 2"], &["ok", "no 2"], &["no 2"], &["no 2"]],
+    ),
+    ("entry of kind 4", REPLY_BY_PHASE),
+    ("entry of kind 5", REPLY_BY_PHASE),
+    ("move", CALL_BY_PHASE),
+    ("obtain", CALL_BY_PHASE),
+    (
+        "supply",
+        [
+            &["no 22"],
+            &["no 77"],
+            &["no 22"],
+            &["no 22"],
+            &["ok", "no 3"],
+        ],
+    ),
+];
+
+/// The bits of an obtain entry's extra bytes that have a name (syscall/src/flag.rs).
+const OBTAIN_BITS: u32 = 15;
+
 fn kind(event: &Event) -> &'static str {
     match event {
         Event::Open { .. } => "open",
@@ -103,7 +161,87 @@ fn entry_kind(entry: &[u8]) -> &'static str {
     ENTRY_ANSWERS[usize::from(entry[0] % 8).min(6)].0
 }
 
-type Counts = BTreeMap<(&'static str, String), u64>;
+/// The first entry of a write: its row of `BY_PHASE` and its tag.
+fn first_entry(bytes: &[u8], state: &State) -> Option<(&'static str, u64)> {
+    let entry: &[u8; ENTRY] = bytes.first_chunk()?;
+    let number = |at: usize| {
+        let half: &[u8; 4] = entry[at..].first_chunk().expect("four bytes");
+        u32::from_le_bytes(*half)
+    };
+    let handle = u64::from(number(8)) | u64::from(number(12)) << 32;
+    let held = usize::try_from(handle)
+        .ok()
+        .and_then(|h| state.handles.get(h));
+    let row = match entry[0] % 8 {
+        0 => "entry of kind 0",
+        1 if held.is_some_and(Option::is_some) => "entry of kind 1, its handle full",
+        1 => "entry of kind 1, its handle empty",
+        3 if number(0) >> 8 <= OBTAIN_BITS => "entry of kind 3",
+        4 => "entry of kind 4",
+        5 => "entry of kind 5",
+        _ => return None,
+    };
+    Some((row, u64::from(number(4))))
+}
+
+/// The event's row of `BY_PHASE` and its tag, where it has one and nothing else is wrong with it.
+fn tagged(event: &Event, state: &State) -> Option<(&'static str, u64)> {
+    match event {
+        Event::Wake { tag, .. } => Some(("wake", *tag)),
+        Event::Write { bytes, .. } => first_entry(bytes, state),
+        Event::Move { meta, .. } if meta.len() == 2 && meta[0] == 1 => Some(("move", meta[1])),
+        Event::Obtain { meta } if meta.len() == 2 && meta[0] == 0 => Some(("obtain", meta[1])),
+        Event::Supply {
+            tag,
+            offset,
+            base,
+            count,
+        } if offset % PAGE == 0 && base % PAGE == 0 && *count == 1 => Some(("supply", *tag)),
+        _ => None,
+    }
+}
+
+fn phase_name(state: &State, tag: u64) -> &'static str {
+    let slot = usize::try_from(tag)
+        .ok()
+        .and_then(|tag| state.slots.get(tag));
+    let phase = slot.copied().unwrap_or(Phase::Vacant);
+    PHASES[phase as usize].1
+}
+
+/// How often each row got each answer.
+#[derive(Default)]
+struct Counts(BTreeMap<String, BTreeMap<String, u64>>);
+
+impl Counts {
+    fn add(&mut self, row: &str, answer: &str) {
+        let row = self.0.entry(row.to_owned()).or_default();
+        *row.entry(answer.to_owned()).or_default() += 1;
+    }
+
+    fn count(&self, row: &str, answer: &str) -> u64 {
+        let row = self.0.get(row);
+        row.and_then(|row| row.get(answer)).copied().unwrap_or(0)
+    }
+}
+
+/// A table's rows, and the answers of each.
+type Table = Vec<(String, &'static [&'static str])>;
+
+fn plain(rows: &[(&str, &'static [&'static str])]) -> Table {
+    let own = |row: &(&str, &'static [&'static str])| (row.0.to_owned(), row.1);
+    rows.iter().map(own).collect()
+}
+
+fn by_phase() -> Table {
+    let mut table = Table::new();
+    for (row, answers) in BY_PHASE {
+        for ((_, phase), answers) in PHASES.iter().zip(answers) {
+            table.push((format!("{row}, {phase}"), answers));
+        }
+    }
+    table
+}
 
 #[derive(Default)]
 pub struct Cover {
@@ -113,14 +251,18 @@ pub struct Cover {
     pub skipped: u64,
     pub no_place: u64,
     pub occupied: u64,
+    recorded: u64,
     events: Counts,
     entries: Counts,
-    /// Effects by kind.
+    phases: Counts,
+    /// By kind.
     effects: BTreeMap<u64, u64>,
 }
 
 impl Cover {
-    pub fn add(&mut self, event: &Event, line: &Line) {
+    /// An event, the state before it, and what it answered.
+    pub fn add(&mut self, event: &Event, before: &State, line: &Line) {
+        self.recorded += 1;
         let answer = answer(event, line);
         for effect in &line.effects {
             *self.effects.entry(effect.kind).or_default() += 1;
@@ -128,7 +270,11 @@ impl Cover {
         if let Event::Write { bytes, .. } = event {
             self.add_entries(bytes, &line.answer);
         }
-        *self.events.entry((kind(event), answer)).or_default() += 1;
+        if let Some((row, tag)) = tagged(event, before) {
+            let row = format!("{row}, {}", phase_name(before, tag));
+            self.phases.add(&row, &answer);
+        }
+        self.events.add(kind(event), &answer);
     }
 
     fn add_entries(&mut self, bytes: &[u8], answer: &Answer) {
@@ -138,33 +284,32 @@ impl Cover {
             other => unreachable!("a write answers {other}"),
         };
         for (place, entry) in bytes.chunks_exact(ENTRY).enumerate().take(taken + 1) {
-            let answer = match place < taken {
-                true => "taken".to_owned(),
-                false => refused.clone(),
-            };
-            *self.entries.entry((entry_kind(entry), answer)).or_default() += 1;
+            let answer = if place < taken { "taken" } else { &refused };
+            self.entries.add(entry_kind(entry), answer);
         }
+    }
+
+    fn tables(&self) -> [(&Counts, Table); 3] {
+        [
+            (&self.events, plain(&ANSWERS)),
+            (&self.entries, plain(&ENTRY_ANSWERS)),
+            (&self.phases, by_phase()),
+        ]
     }
 
     /// Was every answer that the kernel has recorded, and no other?
     pub fn complete(&self) -> Result<(), String> {
-        let tables = [
-            (&self.events, &ANSWERS[..]),
-            (&self.entries, &ENTRY_ANSWERS[..]),
-        ];
-        for (counts, table) in tables {
-            let expected = |(kind, answer): &(&str, String)| {
-                let row = table.iter().find(|(name, _)| name == kind);
-                row.is_some_and(|(_, answers)| answers.contains(&answer.as_str()))
-            };
-            if let Some((kind, answer)) = counts.keys().find(|key| !expected(key)) {
-                return Err(format!("{kind} answered {answer}, which is in no table"));
+        for (counts, table) in self.tables() {
+            for (row, answers) in &counts.0 {
+                let wanted = table.iter().find(|(name, _)| name == row);
+                let wanted = wanted.map_or(&[][..], |(_, answers)| *answers);
+                if let Some(other) = answers.keys().find(|a| !wanted.contains(&a.as_str())) {
+                    return Err(format!("{row}: answered {other}, which is in no table"));
+                }
             }
-            for (kind, answers) in table {
-                for answer in *answers {
-                    if !counts.contains_key(&(*kind, (*answer).to_owned())) {
-                        return Err(format!("no {kind} is recorded that answers {answer}"));
-                    }
+            for (row, answers) in &table {
+                if let Some(missing) = answers.iter().find(|a| counts.count(row, a) == 0) {
+                    return Err(format!("{row}: no answer {missing} is recorded"));
                 }
             }
         }
@@ -172,35 +317,23 @@ impl Cover {
     }
 }
 
-fn rows(
-    f: &mut Formatter,
-    counts: &Counts,
-    table: &[(&'static str, &[&'static str])],
-) -> fmt::Result {
-    for (kind, answers) in table {
-        let cells = answers.iter().map(|answer| {
-            let count = counts.get(&(*kind, (*answer).to_owned()));
-            format!("{answer}: {}", count.unwrap_or(&0))
-        });
-        writeln!(f, "| {kind} | {} |", cells.collect::<Vec<_>>().join("; "))?;
-    }
-    Ok(())
-}
-
 impl Display for Cover {
     fn fmt(&self, f: &mut Formatter) -> fmt::Result {
-        let events: u64 = self.events.values().sum();
-        let entries: u64 = self.entries.values().sum();
-        writeln!(f, "{} runs, {events} events, {entries} entries", self.runs)?;
+        writeln!(f, "{} runs, {} events", self.runs, self.recorded)?;
         writeln!(
             f,
-            "left out: {} that only 01 refuses, {} with no place, {} that may find a handle occupied",
+            "left out: {} that only 01 refuses or that do not fit the kernel's types, {} with no place, {} that may find a handle occupied",
             self.skipped, self.no_place, self.occupied
         )?;
-        rows(f, &self.events, &ANSWERS)?;
-        rows(f, &self.entries, &ENTRY_ANSWERS)?;
+        for (counts, table) in self.tables() {
+            for (row, answers) in table {
+                let cell = |answer: &&str| format!("{answer}: {}", counts.count(&row, answer));
+                let cells: Vec<String> = answers.iter().map(cell).collect();
+                writeln!(f, "| {row} | {} |", cells.join("; "))?;
+            }
+        }
         let effects = self.effects.iter();
         let effects: Vec<String> = effects.map(|(kind, n)| format!("{kind}: {n}")).collect();
-        writeln!(f, "| effects | {} |", effects.join("; "))
+        writeln!(f, "| effects, by kind | {} |", effects.join("; "))
     }
 }

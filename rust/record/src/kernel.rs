@@ -63,7 +63,8 @@ impl<'a> Kernel<'a> {
         if !self.run.has_room(event) {
             return Ok(Taken::Full);
         }
-        if may_find_occupied(event, &self.oracle.state()) {
+        let before = self.oracle.state();
+        if may_find_occupied(event, &before) {
             self.cover.occupied += 1;
             return Ok(Taken::LeftOut);
         }
@@ -72,7 +73,7 @@ impl<'a> Kernel<'a> {
             self.cover.skipped += 1;
             return Ok(Taken::LeftOut);
         }
-        self.cover.add(event, &line);
+        self.cover.add(event, &before, &line);
         self.run.add(event, &line)?;
         Ok(Taken::Recorded(line))
     }

@@ -1,16 +1,13 @@
 -- `recorded::check_number` meets its contract: what is left to do from here is the whole. Assumes nothing.
 use borrow.Author.Needs.{needs}
 use Prim.Native.Nat.{ℕ, _+_, _-_, _*_, _%_, _<_, _≤_}
-use mathlib.Core.Path.{_≡_, refl, sym, ap, _∙_}
+use mathlib.Core.Path.{_≡_, ap, _∙_}
 use native.Mathlib.Omega.{arith}
 use lib.ListN.{length, drop}
 use Rattle.recorded.specs.Recorded.{checkOf}
 use Rattle.recorded.proofs.Laws.{check-on, check-ends}
 use Rattle.recorded.proofs.check_number.Statement.{statement}
 use Rattle.recorded.proofs.check_number.Tie as tie
-use Rattle.recorded.proofs.check_number.Reads as reads
-use Rattle.recorded.proofs.check_number.Lts as lts
-use Rattle.recorded.proofs.wide.Reads as wide-reads
 
 abbrev Inv-loop : tie.InvT-loop
 Inv-loop before bytes check₀ i₀ check i = (i ≤ length bytes) × (check < 4_294_967_291) × (checkOf check (drop i bytes) ≡ checkOf (before % 4_294_967_291) bytes)
@@ -18,39 +15,30 @@ Inv-loop before bytes check₀ i₀ check i = (i ≤ length bytes) × (check < 4
 abbrev μ-loop : tie.MeasureT-loop
 μ-loop before bytes check₀ i₀ check i = length bytes - i
 
--- src/main.rt:39:5
 loop-holds : tie.Need-loop-holds Inv-loop μ-loop
 loop-holds c = search needs
 
--- src/main.rt:40:18
 mul-check : tie.Need-mul-check Inv-loop μ-loop
 mul-check c = omega arith
 
--- src/main.rt:40:37
 shared-slice-read-wide : tie.Need-shared-slice-read-wide Inv-loop μ-loop
 shared-slice-read-wide c = search needs
 
--- src/main.rt:40:32
 wide-requires : tie.Need-wide-requires Inv-loop μ-loop
 wide-requires c κs = search needs
 
--- src/main.rt:40:18
 add-check : tie.Need-add-check Inv-loop μ-loop
 add-check c = omega arith
 
--- src/main.rt:41:9
 add-i : tie.Need-add-i Inv-loop μ-loop
 add-i c = search needs
 
--- src/main.rt:39:5
 loop-less : tie.Need-loop-less Inv-loop μ-loop
 loop-less c = search needs
 
--- src/main.rt:39:5
 loop-again : tie.Need-loop-again Inv-loop μ-loop
-loop-again c = (omega arith, omega arith, ap (λ (x : ℕ). checkOf (((c .before .before .before .loop .check) * 256 + x) % 4_294_967_291) (drop ((c .before .before .before .loop .i) + 1) (c .before .before .before .before .before .args .bytes .now))) (c .wide .ensures .0) ∙ check-on (c .before .before .before .before .before .args .bytes .now) (c .before .before .before .loop .i) (c .before .before .before .loop .check) (c .before .before .loop-test .taken) ∙ c .before .before .before .loop .inv .2)
+loop-again c = let c2 = c .before .before in let c3 = c2 .before in let c5 = c3 .before .before in (omega arith, omega arith, ap (λ (x : ℕ). checkOf (((c3 .loop .check) * 256 + x) % 4_294_967_291) (drop ((c3 .loop .i) + 1) (c5 .args .bytes .now))) (c .wide .ensures .0) ∙ check-on (c5 .args .bytes .now) (c3 .loop .i) (c3 .loop .check) (c2 .loop-test .taken) ∙ c3 .loop .inv .2)
 
--- src/main.rt:34:1
 returns : tie.Need-returns Inv-loop μ-loop
 returns c = check-ends (c .before .before .before .args .bytes .now) (c .before .loop .i) (c .before .loop .check) (omega arith) ∙ c .before .loop .inv .2
 

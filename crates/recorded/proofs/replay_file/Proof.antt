@@ -3,12 +3,9 @@ use borrow.Author.Needs.{needs}
 use Prim.Native.Nat.{_-_, _≤_}
 use Rattle.recorded.proofs.replay_file.Statement.{statement}
 use Rattle.recorded.proofs.replay_file.Tie as tie
-use Rattle.recorded.proofs.replay_file.Reads as reads
-use Rattle.recorded.proofs.replay_file.Lts as lts
 use Rattle.io.proofs.large_buffer.Reads as large-buffer-reads
 use Rattle.io.proofs.read_full.Reads as read-full-reads
 use Rattle.io.proofs.write_all.Reads as write-all-reads
-use Rattle.le.proofs.word.Reads as word-reads
 use Rattle.recorded.proofs.check_number.Reads as check-number-reads
 use Rattle.recorded.proofs.next_run.Reads as next-run-reads
 use Rattle.recorded.proofs.print_tally.Reads as print-tally-reads
@@ -19,99 +16,75 @@ Inv-loop fd got runs head₀ events₀ recorded₀ out₀ fx₀ t₀ i₀ t14 he
 abbrev μ-loop : tie.MeasureT-loop
 μ-loop fd got runs head₀ events₀ recorded₀ out₀ fx₀ t₀ i₀ t14 head events recorded out fx t i = runs - i
 
--- src/main.rt:222:33
 slice-aggregate-read-full : tie.Need-slice-aggregate-read-full Inv-loop μ-loop
 slice-aggregate-read-full c = search needs
 
--- src/main.rt:222:9
 read-full-requires : tie.Need-read-full-requires Inv-loop μ-loop
 read-full-requires c κs = search needs
 
--- src/main.rt:224:38
 slice-aggregate-write-all : tie.Need-slice-aggregate-write-all Inv-loop μ-loop
 slice-aggregate-write-all c = search needs
 
--- src/main.rt:224:9
 write-all-requires : tie.Need-write-all-requires Inv-loop μ-loop
 write-all-requires c κs = search needs
 
--- src/main.rt:225:9
 returns : tie.Need-returns Inv-loop μ-loop
 returns c = search needs
 
--- src/main.rt:227:25
 slice-aggregate-word : tie.Need-slice-aggregate-word Inv-loop μ-loop
 slice-aggregate-word c = search needs
 
--- src/main.rt:227:9
 word-requires : tie.Need-word-requires Inv-loop μ-loop
 word-requires c κs = search needs
 
--- src/main.rt:229:22
 large-buffer-requires : tie.Need-large-buffer-requires Inv-loop μ-loop
 large-buffer-requires c κs = search needs
 
--- src/main.rt:230:24
 large-buffer-requires-2 : tie.Need-large-buffer-requires-2 Inv-loop μ-loop
 large-buffer-requires-2 c κs = search needs
 
--- src/main.rt:239:32
 slice-aggregate-check-number : tie.Need-slice-aggregate-check-number Inv-loop μ-loop
 slice-aggregate-check-number c = search needs
 
--- src/main.rt:239:16
 check-number-requires : tie.Need-check-number-requires Inv-loop μ-loop
 check-number-requires c κs = search needs
 
--- src/main.rt:242:5
 loop-holds : tie.Need-loop-holds Inv-loop μ-loop
 loop-holds c = search needs
 
--- src/main.rt:243:9
 next-run-requires : tie.Need-next-run-requires Inv-loop μ-loop
 next-run-requires c κs = search needs
 
--- src/main.rt:253:13
 returns-2 : tie.Need-returns-2 Inv-loop μ-loop
 returns-2 c = search needs
 
--- src/main.rt:255:9
 add-i : tie.Need-add-i Inv-loop μ-loop
 add-i c = search needs
 
--- src/main.rt:242:5
 loop-less : tie.Need-loop-less Inv-loop μ-loop
 loop-less c = search needs
 
--- src/main.rt:242:5
 loop-again : tie.Need-loop-again Inv-loop μ-loop
 loop-again c = search needs
 
--- src/main.rt:258:26
 slice-aggregate-read-full-2 : tie.Need-slice-aggregate-read-full-2 Inv-loop μ-loop
 slice-aggregate-read-full-2 c = search needs
 
--- src/main.rt:258:8
 read-full-requires-2 : tie.Need-read-full-requires-2 Inv-loop μ-loop
 read-full-requires-2 c κs = search needs
 
--- src/main.rt:259:38
 slice-aggregate-write-all-2 : tie.Need-slice-aggregate-write-all-2 Inv-loop μ-loop
 slice-aggregate-write-all-2 c = search needs
 
--- src/main.rt:259:9
 write-all-requires-2 : tie.Need-write-all-requires-2 Inv-loop μ-loop
 write-all-requires-2 c κs = search needs
 
--- src/main.rt:260:9
 returns-3 : tie.Need-returns-3 Inv-loop μ-loop
 returns-3 c = search needs
 
--- src/main.rt:262:5
 print-tally-requires : tie.Need-print-tally-requires Inv-loop μ-loop
 print-tally-requires c κs = search needs
 
--- src/main.rt:220:1
 returns-4 : tie.Need-returns-4 Inv-loop μ-loop
 returns-4 c = search needs
 
