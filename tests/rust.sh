@@ -1,6 +1,7 @@
 #!/usr/bin/env bash
-# Formatting, lints and tests of the Rust in rust/, where cargo is there. The oracle is built from the kernel's sources, in the
-# folder that REDOX_SRC names, and slab: without them it is skipped. What is skipped says so.
+# Formatting, lints and tests of the Rust in rust/, where cargo is there. What calls the layer is linked with its static library
+# (`rt staticlib tilgurap`, some minutes): where none is built it is skipped, as in a clean checkout. The oracle is built from the
+# kernel's sources, in the folder that REDOX_SRC names, and slab: without them it is skipped. What is skipped says so.
 set -euo pipefail
 cd "$(dirname "$0")/../rust"
 
@@ -8,16 +9,37 @@ if ! command -v cargo > /dev/null; then
     echo "skipped: rust/, since there is no cargo"
     exit 0
 fi
-(
-    cd script
-    cargo fmt --check
-    cargo clippy --quiet --offline --all-targets -- --deny warnings
-    cargo test --quiet --offline
-)
-(cd oracle && cargo fmt --check)
+for package in script generate tilgurap driver oracle compare; do
+    (cd "$package" && cargo fmt --check)
+done
+
+# lints and tests of a package that needs nothing but Rust
+check() {
+    (
+        cd "$1"
+        cargo clippy --quiet --offline --all-targets -- --deny warnings
+        cargo test --quiet --offline
+    )
+}
+check script
+check generate
+
+library=${TILGURAP_LIB:-../target/staticlib}/libtilgurap.a
+if [ -f "$library" ]; then
+    check tilgurap
+    check driver
+else
+    echo "skipped: lints and tests of rust/tilgurap, rust/driver and rust/compare, since $library is not built"
+fi
+
 if [ -z "${REDOX_SRC:-}" ]; then
-    echo "skipped: the oracle's lints and tests, since REDOX_SRC is not set"
+    echo "skipped: lints and tests of rust/oracle and rust/compare, since REDOX_SRC is not set"
     exit 0
 fi
 sh oracle/build.sh clippy --quiet --all-targets -- --deny warnings
 sh oracle/build.sh test --quiet --workspace
+if [ -f "$library" ]; then
+    sh oracle/build.sh clippy --quiet --all-targets --manifest-path ../compare/Cargo.toml -- --deny warnings
+    # a test looks for slips in many runs
+    sh oracle/build.sh test --quiet --release --manifest-path ../compare/Cargo.toml
+fi

@@ -6,7 +6,7 @@ use mathlib.Core.List.{List, [], _∷_}
 use native.Mathlib.Omega.{arith}
 use lib.Dec.{eqb}
 use lib.ListN.{set, getD, length}
-use borrow.Author.Tests.{lt-ltb, le-ltb, eq-eqb, ne-eqb}
+use borrow.Author.Tests.{lt-ltb, le-ltb}
 use Rattle.counts.specs.Counts.{more}
 use Rattle.counts.proofs.Steps.{more-out}
 use Rattle.fd_list.specs.declared.List.{List as Fds}
@@ -19,20 +19,25 @@ use Rattle.ids.specs.declared.Tag.{Tag}
 use Rattle.ids.specs.Ids.{slotOf}
 use Rattle.slot.specs.declared.PageSpan.{PageSpan}
 use Rattle.slot.specs.declared.Phase.{Phase}
-use Rattle.slot.specs.declared.Phase.the-variants.{Vacant, Waiting, Responded}
+use Rattle.slot.specs.declared.Phase.the-variants.{Vacant, Placeholder, Waiting, Responded, Fmap}
 use Rattle.slot.specs.declared.Reply.{Reply}
 use Rattle.slot.specs.declared.Slot.{Slot}
-use Rattle.slot.specs.Slots.{phaseOf, vacantSlot, canceledOf, interruptedOf}
+use Rattle.slot.specs.Slots.{phaseOf, noReply, noFds, vacantSlot, canceledOf, interruptedOf}
 use Rattle.state.specs.declared.State.{State}
 use Rattle.table.specs.declared.Table.{Table}
 use Rattle.table.specs.Table.{noSlot, stored, putAt, vacateAt}
 use Rattle.table.proofs.Cases.{slot-out, slot-in, put-in, vacate-in}
 use Rattle.wait_queue.specs.declared.WaitQueue.{WaitQueue}
 use Rattle.wait_queue.specs.Queue.{sentOf, sentWords}
-use Rattle.events.specs.World.{world, slotIn, phaseIn, tableWith, queueFull}
-use Rattle.events.specs.Outcome.{Response, Outcome, outcome, no, blocked, reply, readable}
+use Rattle.events.specs.World.{World, world, slotIn, phaseIn, tableWith, queueFull}
+use Rattle.events.specs.Outcome.{Response, Outcome, outcome, no, blocked, reply, refuse, checked, readable}
 use Rattle.events.specs.Submit.{args6, entry}
-use Rattle.events.specs.Wake.{responseBy, responseFrom, responseOf, heldIn, cancelEntry, handedOver, interrupted, blockedBy, awaits, wakeable, wakeOf}
+use Rattle.events.specs.Wake.{responseBy, responseFrom, responseOf, heldIn, cancelEntry, handedOver, interrupted, blockedBy, waitedBy, wokenBy, wakeable, wakeRows, wakeOf}
+use Rattle.call_inner.specs.declared.Decided.{Decided}
+use Rattle.call_inner.specs.declared.Turn.{Turn}
+use Rattle.call_inner.specs.declared.Turn.the-variants.{Stay, Interrupt, Cancel, HandOver}
+use Rattle.call_inner.specs.declared.WakeAnswer.{WakeAnswer}
+use Rattle.call_inner.specs.Wake.{wakeAnswer, decidedOf}
 
 -- the decision on a slot
 pub wakeable-is :
@@ -76,95 +81,131 @@ module _ (h : Holds) (r : Reply) (l : Fds) where
       → o ≡ outsideOf h (heldIn (responseFrom r l))
   holds-one o m p q e f = one-held (r .kind) o p q (f ∙ ap (λ (x : Fds). outsideOf h (numbers x)) e)
 
+-- what each turn comes to
+abbrev carried : Turn → WakeAnswer → World → ℕ → PageSpan → Reply → Fds → Outcome
+carried Stay a w n span r l = outcome (wakeAnswer a r l) [] w
+carried Interrupt a w n span r l = interrupted w n span
+carried Cancel a w n span r l = blockedBy false false w n
+carried HandOver a w n span r l = handedOver w n
+
+-- the definition, by the tests that the decision makes
+abbrev waitedAs : Bool → Bool → Bool → World → ℕ → PageSpan → Outcome
+waitedAs true c f w n span = interrupted w n span
+waitedAs false c f w n span = blockedBy c f w n
+
+abbrev wokenAs : Phase → Bool → Bool → Bool → World → ℕ → PageSpan → Outcome
+wokenAs Vacant k c f w n span = refuse w 77
+wokenAs Placeholder k c f w n span = refuse w 77
+wokenAs Waiting k c f w n span = waitedAs k c f w n span
+wokenAs Responded k c f w n span = handedOver w n
+wokenAs Fmap k c f w n span = refuse w 77
+
+abbrev wakeAs : Phase → Bool → Bool → Bool → Bool → World → ℕ → PageSpan → Outcome
+wakeAs p y k c f w n span = checked (refuse w) (wakeRows false p y) (wokenAs p k c f w n span)
+
+module _ (w : World) (n : ℕ) (span : PageSpan) (r : Reply) (l : Fds) where
+  abbrev By : Phase → Bool → Bool → Bool → Bool → Type 0
+  By p y k c f = carried (decidedOf p y k c f .turn) (decidedOf p y k c f .answer) w n span r l ≡ wakeAs p y k c f w n span
+
+  decided-is : (p : Phase) (y k c f : Bool) → By p y k c f
+  decided-is Vacant y k c f = refl
+  decided-is Placeholder y k c f = refl
+  decided-is Fmap y k c f = refl
+  decided-is Waiting false k c f = refl
+  decided-is Waiting true true c f = refl
+  decided-is Waiting true false true f = refl
+  decided-is Waiting true false false true = refl
+  decided-is Waiting true false false false = refl
+  decided-is Responded false k c f = refl
+  decided-is Responded true k c f = refl
+
+module _ (w : World) (n killed : ℕ) (span : PageSpan) where
+  waited-is : (k : Bool) → waitedAs k (slotIn w n .canceling) (queueFull w) w n span ≡ waitedBy k w n span
+  waited-is true = refl
+  waited-is false = refl
+
+  woken-is : (p : Phase) → wokenAs p (eqb killed 1) (slotIn w n .canceling) (queueFull w) w n span ≡ wokenBy p w n killed span
+  woken-is Vacant = refl
+  woken-is Placeholder = refl
+  woken-is Waiting = waited-is (eqb killed 1)
+  woken-is Responded = refl
+  woken-is Fmap = refl
+
+-- the decision by its tests
+pub decided-as :
+    {p p′ : Phase} {y y′ k k′ c c′ f f′ : Bool} → p ≡ p′ → y ≡ y′ → k ≡ k′ → c ≡ c′ → f ≡ f′ → decidedOf p′ y′ k′ c′ f′ ≡ decidedOf p y k c f
+decided-as ep ey ek ec ef = sym (λ i. decidedOf (ep i) (ey i) (ek i) (ec i) (ef i))
+
 module _ (s : State) (ws : List ℕ) (n : Tag) (c killed base count : ℕ) where
   abbrev span : PageSpan
   span = record { base = base; count = count }
 
+  abbrev w : World
+  w = world s ws
+
   abbrev Is : Outcome → Type 0
-  Is o = o ≡ wakeOf (world s ws) (n .0) c killed base count
+  Is o = o ≡ wakeOf w (n .0) c killed base count
 
   module _ (fx : List ℕ) (none : fx ≡ []) where
-    pub bad-killed : 1 < killed → Is (outcome (no 205) fx (world s ws))
+    pub bad-killed : 1 < killed → Is (outcome (no 205) fx w)
     bad-killed q = rw (lt-ltb 1 killed q, none) refl
 
-    idle : (p : Phase) → killed ≤ 1 → phaseIn (world s ws) (n .0) ≡ p → awaits p ≡ false → Is (outcome (no 77) fx (world s ws))
-    idle p x q r = rw (le-ltb 1 killed x, q, r, none) refl
+    module _ (k : SlotNo) (is : k ≡ slotOf n) (x : killed ≤ 1) where
+      pub no-slot : 64 ≤ k .0 → Is (outcome (no 77) fx w)
+      no-slot h =
+          let p : phaseIn w (n .0) ≡ Vacant = ap phaseOf (sym (slot-out (s .table) n k is vacantSlot refl h)) in rw (le-ltb 1 killed x, p, none) refl
 
-    module _ (k : SlotNo) (is : k ≡ slotOf n) where
-      pub no-slot : killed ≤ 1 → 64 ≤ k .0 → Is (outcome (no 77) fx (world s ws))
-      no-slot x h = idle Vacant x (ap phaseOf (sym (slot-out (s .table) n k is vacantSlot refl h))) refl
-
-      module _ (x : killed ≤ 1) (h : k .0 < 64) where
+      module _ (h : k .0 < 64) where
         abbrev v : Slot
         v = getD (s .table .slots) (k .0) noSlot
 
-        here : v ≡ slotIn (world s ws) (n .0)
+        here : v ≡ slotIn w (n .0)
         here = slot-in (s .table) n k is h
 
-        pub idle-slot : (p : Phase) → phaseOf v ≡ p → awaits p ≡ false → Is (outcome (no 77) fx (world s ws))
-        idle-slot p q r = idle p x (ap phaseOf (sym here) ∙ q) r
+        whole : wakeAs (phaseOf v) (wakeable v c) (eqb killed 1) (v .canceling) (queueFull w) w (n .0) span ≡ wakeOf w (n .0) c killed base count
+        whole =
+            ap (λ (u : Slot). wakeAs (phaseOf u) (wakeable u c) (eqb killed 1) (u .canceling) (queueFull w) w (n .0) span) here
+            ∙ ap₂ (λ (b : Bool) (o : Outcome). checked (refuse w) (wakeRows b (phaseIn w (n .0)) (wakeable (slotIn w (n .0)) c)) o) (sym (le-ltb 1 killed x)) (woken-is w (n .0) killed span (phaseIn w (n .0)))
 
-        pub not-yours : (p : Phase) → phaseOf v ≡ p → awaits p ≡ true → wakeable v c ≡ false → Is (outcome (no 201) fx (world s ws))
-        not-yours p q r y =
-            let qp : phaseIn (world s ws) (n .0) ≡ p = ap phaseOf (sym here) ∙ q in
-            let qy : wakeable (slotIn (world s ws) (n .0)) c ≡ false = ap (λ (u : Slot). wakeable u c) (sym here) ∙ y in
-            rw (le-ltb 1 killed x, qp, r, qy, none) refl
+        module _ (d : Decided) (ed : d ≡ decidedOf (phaseOf v) (wakeable v c) (eqb killed 1) (v .canceling) (queueFull w)) where
+          turned : (t : Turn) (o : Outcome) (r : Reply) (l : Fds) → d .turn ≡ t → o ≡ carried t (d .answer) w (n .0) span r l → Is o
+          turned t o r l et eo =
+              eo
+              ∙ ap (λ (u : Turn). carried u (d .answer) w (n .0) span r l) (sym et)
+              ∙ ap (λ (e : Decided). carried (e .turn) (e .answer) w (n .0) span r l) ed
+              ∙ decided-is w (n .0) span r l (phaseOf v) (wakeable v c) (eqb killed 1) (v .canceling) (queueFull w)
+              ∙ whole
 
-        module _ (q : phaseOf v ≡ Waiting) (y : wakeable v c ≡ true) where
-          qp : phaseIn (world s ws) (n .0) ≡ Waiting
-          qp = ap phaseOf (sym here) ∙ q
-
-          qy : wakeable (slotIn (world s ws) (n .0)) c ≡ true
-          qy = ap (λ (u : Slot). wakeable u c) (sym here) ∙ y
+          pub stays : (r : Reply) (l : Fds) → d .turn ≡ Stay → Is (outcome (wakeAnswer (d .answer) r l) fx w)
+          stays r l et = turned Stay _ r l et (ap (λ (z : List ℕ). outcome (wakeAnswer (d .answer) r l) z w) none)
 
           pub killed-now :
-              killed ≡ 1 → (u : Slot) → u ≡ interruptedOf v span
+              (u : Slot) → d .turn ≡ Interrupt → u ≡ interruptedOf v span
               → Is (outcome (no 4) fx (world (record { driver = s .driver; table = stored (s .table) (k .0) u }) ws))
-          killed-now e u eu =
-              let p : stored (s .table) (k .0) u ≡ putAt (s .table) (n .0) (interruptedOf (slotIn (world s ws) (n .0)) span) =
+          killed-now u et eu =
+              let p : stored (s .table) (k .0) u ≡ putAt (s .table) (n .0) (interruptedOf (slotIn w (n .0)) span) =
               put-in (s .table) n k is u h ∙ ap (putAt (s .table) (n .0)) (eu ∙ ap (λ (z : Slot). interruptedOf z span) here) in
-              let last : interrupted (world s ws) (n .0) span ≡ wakeOf (world s ws) (n .0) c killed base count =
-              rw (le-ltb 1 killed x, qp, qy, eq-eqb killed 1 e) refl in
-              (λ i. outcome (no 4) (none i) (world (record { driver = s .driver; table = p i }) ws)) ∙ last
+              turned Interrupt _ noReply noFds et (λ i. outcome (no 4) (none i) (world (record { driver = s .driver; table = p i }) ws))
 
-          module _ (ne : killed ≡ 1 → ⊥) where
-            by : (a b : Bool) → slotIn (world s ws) (n .0) .canceling ≡ a → queueFull (world s ws) ≡ b → blockedBy a b (world s ws) (n .0) ≡ wakeOf (world s ws) (n .0) c killed base count
-            by a b qa qb =
-                let last : blockedBy (slotIn (world s ws) (n .0) .canceling) (queueFull (world s ws)) (world s ws) (n .0) ≡ wakeOf (world s ws) (n .0) c killed base count =
-                rw (le-ltb 1 killed x, qp, qy, ne-eqb killed 1 ne) refl in
-                ap₂ (λ (x y : Bool). blockedBy x y (world s ws) (n .0)) (sym qa) (sym qb) ∙ last
+          pub blocked-now :
+              (u : Slot) (b : ℕ) (q : WaitQueue) (xs gx : List ℕ) → d .turn ≡ Cancel → u ≡ canceledOf v → b ≡ sqeOneway
+              → q ≡ sentOf (s .driver .queue) .queue → xs ≡ sentWords (s .driver .queue) ws (entry 25 b (k .0) (args6 0 0 0 0 0 0) 0) → gx ≡ readable w
+              → Is (outcome blocked gx (world (record { driver = record { scheme = s .driver .scheme; handles = s .driver .handles; queue = q }; table = stored (s .table) (k .0) u }) xs))
+          blocked-now u b q xs gx et eu eb eq ex eg =
+              let m : k .0 ≡ n .0 = omega (arith, ap (λ (z : SlotNo). z .0) is, h) in
+              let p : stored (s .table) (k .0) u ≡ putAt (s .table) (n .0) (canceledOf (slotIn w (n .0))) =
+              put-in (s .table) n k is u h ∙ ap (putAt (s .table) (n .0)) (eu ∙ ap canceledOf here) in
+              let ew : xs ≡ sentWords (s .driver .queue) ws (cancelEntry (n .0)) =
+              ex ∙ ap₂ (λ (f j : ℕ). sentWords (s .driver .queue) ws (entry 25 f j (args6 0 0 0 0 0 0) 0)) eb m in
+              turned Cancel _ noReply noFds et
+              (λ i. outcome blocked (eg i) (world (record { driver = record { scheme = s .driver .scheme; handles = s .driver .handles; queue = eq i }; table = p i }) (ew i)))
 
-            at : {A : Type 0} (f : Slot → A) (a : A) → f v ≡ a → f (slotIn (world s ws) (n .0)) ≡ a
-            at f a e = ap f (sym here) ∙ e
-
-            pub still : v .canceling ≡ true → Is (outcome blocked fx (world s ws))
-            still e = ap (λ (z : List ℕ). outcome blocked z (world s ws)) none ∙ by true (queueFull (world s ws)) (at (λ (u : Slot). u .canceling) true e) refl
-
-            pub queue-full : v .canceling ≡ false → queueFull (world s ws) ≡ true → Is (outcome (no 203) fx (world s ws))
-            queue-full e g = ap (λ (z : List ℕ). outcome (no 203) z (world s ws)) none ∙ by false true (at (λ (u : Slot). u .canceling) false e) g
-
-            pub blocked-now :
-                v .canceling ≡ false → queueFull (world s ws) ≡ false → (u : Slot) (b : ℕ) (q' : WaitQueue) (xs gx : List ℕ) → u ≡ canceledOf v → b ≡ sqeOneway
-                → q' ≡ sentOf (s .driver .queue) .queue → xs ≡ sentWords (s .driver .queue) ws (entry 25 b (k .0) (args6 0 0 0 0 0 0) 0) → gx ≡ readable (world s ws)
-                → Is (outcome blocked gx (world (record { driver = record { scheme = s .driver .scheme; handles = s .driver .handles; queue = q' }; table = stored (s .table) (k .0) u }) xs))
-            blocked-now e g u b q' xs gx eu eb eq ex eg =
-                let m : k .0 ≡ n .0 = omega (arith, ap (λ (z : SlotNo). z .0) is, h) in
-                let p : stored (s .table) (k .0) u ≡ putAt (s .table) (n .0) (canceledOf (slotIn (world s ws) (n .0))) =
-                put-in (s .table) n k is u h ∙ ap (putAt (s .table) (n .0)) (eu ∙ ap canceledOf here) in
-                let ew : xs ≡ sentWords (s .driver .queue) ws (cancelEntry (n .0)) =
-                ex ∙ ap₂ (λ (f j : ℕ). sentWords (s .driver .queue) ws (entry 25 f j (args6 0 0 0 0 0 0) 0)) eb m in
-                (λ i. outcome blocked (eg i) (world (record { driver = record { scheme = s .driver .scheme; handles = s .driver .handles; queue = eq i }; table = p i }) (ew i)))
-                ∙ by false false (at (λ (z : Slot). z .canceling) false e) g
-
-        pub handed :
-            phaseOf v ≡ Responded → wakeable v c ≡ true → (u : Slot) (g : Holds) → u ≡ vacantSlot → g ≡ outsideOf (s .table .holds) (heldIn (responseOf v))
-            → Is (outcome (reply (responseOf v)) fx
-            (world (record { driver = s .driver; table = record { slots = set (s .table .slots) (k .0) u; next = set (s .table .next) (k .0) (s .table .head); head = k .0; holds = g } }) ws))
-        handed q y u g eu eg =
-            let qp : phaseIn (world s ws) (n .0) ≡ Responded = ap phaseOf (sym here) ∙ q in
-            let qy : wakeable (slotIn (world s ws) (n .0)) c ≡ true = ap (λ (z : Slot). wakeable z c) (sym here) ∙ y in
-            let p = vacate-in (s .table) n k is u eu h in
-            let eh : g ≡ outsideOf (s .table .holds) (heldIn (responseOf (slotIn (world s ws) (n .0)))) = eg ∙ ap (λ (z : Slot). outsideOf (s .table .holds) (heldIn (responseOf z))) here in
-            let er : responseOf v ≡ responseOf (slotIn (world s ws) (n .0)) = ap responseOf here in
-            let last : handedOver (world s ws) (n .0) ≡ wakeOf (world s ws) (n .0) c killed base count = rw (le-ltb 1 killed x, qp, qy) refl in
-            (λ i. outcome (reply (er i)) (none i) (world (record { driver = s .driver; table = tableWith (p i) (eh i) }) ws)) ∙ last
+          pub handed :
+              (u : Slot) (g : Holds) → d .turn ≡ HandOver → u ≡ vacantSlot → g ≡ outsideOf (s .table .holds) (heldIn (responseOf v))
+              → Is (outcome (reply (responseOf v)) fx
+              (world (record { driver = s .driver; table = record { slots = set (s .table .slots) (k .0) u; next = set (s .table .next) (k .0) (s .table .head); head = k .0; holds = g } }) ws))
+          handed u g et eu eg =
+              let p = vacate-in (s .table) n k is u eu h in
+              let eh : g ≡ outsideOf (s .table .holds) (heldIn (responseOf (slotIn w (n .0)))) = eg ∙ ap (λ (z : Slot). outsideOf (s .table .holds) (heldIn (responseOf z))) here in
+              let er : responseOf v ≡ responseOf (slotIn w (n .0)) = ap responseOf here in
+              turned HandOver _ noReply noFds et (λ i. outcome (reply (er i)) (none i) (world (record { driver = s .driver; table = tableWith (p i) (eh i) }) ws))

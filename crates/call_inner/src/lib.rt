@@ -12,13 +12,14 @@ use slot::Reply;
 use slot::Slot;
 use state::State;
 ghost use mathlib.Core.Path.{_≡_};
+ghost use lib.Dec.{eqb, leb};
 ghost use Rattle.effect.specs.Effect.{effectWords};
 ghost use Rattle.holds.specs.Holds.{outsideOf};
-ghost use Rattle.slot.specs.Slots.{noReply};
+ghost use Rattle.slot.specs.Slots.{phaseOf, noReply};
 ghost use Rattle.events.specs.World.{world};
 ghost use Rattle.events.specs.Outcome.{outcome};
 ghost use Rattle.events.specs.Wake.{responseFrom, heldIn, wakeable, wakeOf};
-ghost use Rattle.call_inner.specs.Wake.{wakeAnswer};
+ghost use Rattle.call_inner.specs.Wake.{wakeAnswer, decidedOf};
 
 pub enum WakeAnswer {
     Replied,
@@ -28,6 +29,19 @@ pub enum WakeAnswer {
     NotYours,
     Interrupted,
     QueueFull,
+}
+
+// What a wake does: nothing, marks the call killed, queues a Cancel, hands the reply over.
+enum Turn {
+    Stay,
+    Interrupt,
+    Cancel,
+    HandOver,
+}
+
+struct Decided {
+    pub answer: WakeAnswer,
+    pub turn: Turn,
 }
 
 // A reply handed over stands beside the answer, with its list.
@@ -83,6 +97,69 @@ fn hand_out(h: Holds, r: Reply, fds: List) -> Holds
     holds::to_outside(h, one)
 }
 
+// The decision on the tag's slot, with so many entries unread.
+fn decide(v: Slot, caller: u32, killed: u64, unread: u8) -> Decided
+    ensures { λ r. ⌜ r ≡ decidedOf (phaseOf v) (wakeable v caller) (eqb killed 1) (v .canceling) (leb 128 unread) ⌝ }
+{
+    let p = slot::phase_of(v);
+    match p {
+        Phase::Vacant => Decided {
+            answer: WakeAnswer::BadDescriptor,
+            turn: Turn::Stay,
+        },
+        Phase::Placeholder => Decided {
+            answer: WakeAnswer::BadDescriptor,
+            turn: Turn::Stay,
+        },
+        Phase::Fmap => Decided {
+            answer: WakeAnswer::BadDescriptor,
+            turn: Turn::Stay,
+        },
+        Phase::Waiting => {
+            if !is_wakeable(v, caller) {
+                return Decided {
+                    answer: WakeAnswer::NotYours,
+                    turn: Turn::Stay,
+                };
+            }
+            if killed == 1 {
+                return Decided {
+                    answer: WakeAnswer::Interrupted,
+                    turn: Turn::Interrupt,
+                };
+            }
+            if v.canceling {
+                return Decided {
+                    answer: WakeAnswer::Blocked,
+                    turn: Turn::Stay,
+                };
+            }
+            if 128 <= unread {
+                return Decided {
+                    answer: WakeAnswer::QueueFull,
+                    turn: Turn::Stay,
+                };
+            }
+            return Decided {
+                answer: WakeAnswer::Blocked,
+                turn: Turn::Cancel,
+            };
+        }
+        Phase::Responded => {
+            if !is_wakeable(v, caller) {
+                return Decided {
+                    answer: WakeAnswer::NotYours,
+                    turn: Turn::Stay,
+                };
+            }
+            return Decided {
+                answer: WakeAnswer::Replied,
+                turn: Turn::HandOver,
+            };
+        }
+    }
+}
+
 pub fn wake(
     s: State,
     words: &mut [u64; 1024],
@@ -118,83 +195,40 @@ pub fn wake(
         };
     }
     let mut t = s.table;
+    let mut d = s.driver;
+    let q = d.queue;
     let v = t.slots[at];
-    let p = slot::phase_of(v);
-    match p {
-        Phase::Vacant => {
+    let decided = decide(v, caller, killed, q.len);
+    let answer = decided.answer;
+    let turn = decided.turn;
+    match turn {
+        Turn::Stay => {
             return WakeStep {
-                answer: WakeAnswer::BadDescriptor,
+                answer: answer,
                 reply: blank,
                 fds: empty,
                 effect: none,
                 state: s,
             };
         }
-        Phase::Placeholder => {
+        Turn::Interrupt => {
+            let span = PageSpan {
+                base: base,
+                count: count,
+            };
+            let w = slot::interrupted(v, span);
+            t.slots[at] = w;
+            let mut u = s;
+            u.table = t;
             return WakeStep {
-                answer: WakeAnswer::BadDescriptor,
+                answer: WakeAnswer::Interrupted,
                 reply: blank,
                 fds: empty,
                 effect: none,
-                state: s,
+                state: u,
             };
         }
-        Phase::Fmap => {
-            return WakeStep {
-                answer: WakeAnswer::BadDescriptor,
-                reply: blank,
-                fds: empty,
-                effect: none,
-                state: s,
-            };
-        }
-        Phase::Waiting => {
-            if !is_wakeable(v, caller) {
-                return WakeStep {
-                    answer: WakeAnswer::NotYours,
-                    reply: blank,
-                    fds: empty,
-                    effect: none,
-                    state: s,
-                };
-            }
-            if killed == 1 {
-                let span = PageSpan {
-                    base: base,
-                    count: count,
-                };
-                let w = slot::interrupted(v, span);
-                t.slots[at] = w;
-                let mut u = s;
-                u.table = t;
-                return WakeStep {
-                    answer: WakeAnswer::Interrupted,
-                    reply: blank,
-                    fds: empty,
-                    effect: none,
-                    state: u,
-                };
-            }
-            if v.canceling {
-                return WakeStep {
-                    answer: WakeAnswer::Blocked,
-                    reply: blank,
-                    fds: empty,
-                    effect: none,
-                    state: s,
-                };
-            }
-            let mut d = s.driver;
-            let q = d.queue;
-            if 128 <= q.len {
-                return WakeStep {
-                    answer: WakeAnswer::QueueFull,
-                    reply: blank,
-                    fds: empty,
-                    effect: none,
-                    state: s,
-                };
-            }
+        Turn::Cancel => {
             let w = slot::canceled(v);
             t.slots[at] = w;
             let flags = flag::sqe_oneway();
@@ -222,16 +256,7 @@ pub fn wake(
                 state: u,
             };
         }
-        Phase::Responded => {
-            if !is_wakeable(v, caller) {
-                return WakeStep {
-                    answer: WakeAnswer::NotYours,
-                    reply: blank,
-                    fds: empty,
-                    effect: none,
-                    state: s,
-                };
-            }
+        Turn::HandOver => {
             let reply = v.reply;
             let fds = v.fds;
             let held = t.holds;

@@ -4,26 +4,16 @@ use mathlib.Core.Path.{_≡_, refl, sym, ap, _∙_}
 use mathlib.Core.Bool.{Bool, true, false, cond}
 use mathlib.Core.List.{List, [], _∷_}
 use native.Mathlib.Omega.{arith}
-use native.Mathlib.Numerals.{add-one, add-two}
-use lib.ListN.{getD, set, length, drop}
-use lib.Seq.{sets, set-out, length-sets}
+use lib.ListN.{getD, length, drop}
+use lib.Seq.{sets, length-sets}
 use Rattle.counts.specs.Counts.{less, last, lasts}
 use Rattle.counts.proofs.Steps.{first, none-left}
+use Rattle.word_put.proofs.Stores.{sets-past}
 use Rattle.closes.specs.Closes.{only, close, closes}
 
 -- words beyond those lent
-pub sets-out : (fx : List ℕ) (j : ℕ) (vs : List ℕ) → length fx ≤ j → fx ≡ sets fx j vs
-sets-out fx j [] h = refl
-sets-out fx j (v ∷ vs) h = rw (set-out fx j v h) (sets-out fx (suc j) vs (omega arith))
-
 pub close-out : (fx : List ℕ) (at k d : ℕ) → length fx ≤ at → fx ≡ sets fx (at + 3 * k) (close d)
-close-out fx at k d h = sets-out fx (at + 3 * k) (close d) (omega arith)
-
-pub close-in : (fx : List ℕ) (j d : ℕ) → set (set (set fx j 3) (j + 1) d) (j + 2) 0 ≡ sets fx j (close d)
-close-in fx j d = rw (add-one j, add-two j)
-
-pub close-by : (fx f g e : List ℕ) (j d : ℕ) → f ≡ set fx j 3 → g ≡ set f (j + 1) d → e ≡ set g (j + 2) 0 → e ≡ sets fx j (close d)
-close-by fx f g e j d p q r = r ∙ (ap (λ (s : List ℕ). set s (j + 2) 0) (q ∙ ap (λ (s : List ℕ). set s (j + 1) d) p) ∙ close-in fx j d)
+close-out fx at k d h = sets-past (close d) fx (at + 3 * k) (omega arith)
 
 -- dropping one after the other
 module _ (t : Bool) (a : List ℕ) (d : ℕ) where

@@ -5,7 +5,7 @@ use ids::Description;
 ghost use mathlib.Core.Path.{_≡_};
 ghost use mathlib.Core.List.{_∷_, []};
 ghost use Prim.Native.Nat.{_+_, _*_, _<_, _≤_};
-ghost use lib.ListN.{set, length};
+ghost use lib.ListN.{length};
 ghost use lib.Seq.{sets};
 ghost use Rattle.fd_list.specs.Lists.{numbers};
 ghost use Rattle.counts.specs.Counts.{less, lessAll, lasts};
@@ -33,15 +33,6 @@ pub fn is_closing(why: Reason) -> bool
     }
 }
 
-fn put(fx: &mut [u64], j: usize, x: u64)
-    ensures { λ r. ⌜ now (fx .exit) ≡ set (now (fx .entry)) j x ⌝ }
-{
-    if fx.len() <= j {
-        return;
-    }
-    fx[j] = x;
-}
-
 // The close effect number k from place `at`.
 fn close_at(fx: &mut [u64], at: usize, k: usize, d: Description)
     requires { ⌜ k < 16 ⌝ }
@@ -51,9 +42,7 @@ fn close_at(fx: &mut [u64], at: usize, k: usize, d: Description)
         return;
     }
     let j = at + 3 * k;
-    put(fx, j, 3);
-    put(fx, j + 1, d.0 as u64);
-    put(fx, j + 2, 0);
+    word_put::put3(fx, j, 3, d.0 as u64, 0);
 }
 
 // One hold dropped, with its close where it was the last and one follows: k closes before it, so many after it.

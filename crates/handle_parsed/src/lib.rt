@@ -11,9 +11,7 @@ use respond::Responded;
 use slot::Phase;
 use slot::Slot;
 ghost use mathlib.Core.Path.{_≡_};
-ghost use mathlib.Core.List.{[], _∷_};
 ghost use Prim.Native.Nat.{_≤_};
-ghost use lib.ListN.{set, length};
 ghost use lib.Seq.{sets};
 ghost use Rattle.handle_parsed.specs.Handled.{refusedOf, handled, descriptorOf, descriptorFx, obtainOf, obtainFx, handledOf, handledFx};
 
@@ -127,26 +125,6 @@ fn obtain(v: Slot, fd: Handle, h: Holds, n: Handles, fx: &mut [u64], at: usize) 
     }
 }
 
-fn put(fx: &mut [u64], j: usize, x: u64)
-    ensures { λ r. ⌜ now (fx .exit) ≡ set (now (fx .entry)) j x ⌝ }
-{
-    if fx.len() <= j {
-        return;
-    }
-    fx[j] = x;
-}
-
-fn event(fx: &mut [u64], at: usize, number: u64, flags: u64)
-    ensures { λ r. ⌜ now (fx .exit) ≡ sets (now (fx .entry)) at (4 ∷ number ∷ flags ∷ []) ⌝ }
-{
-    if fx.len() <= at {
-        return;
-    }
-    put(fx, at, 4);
-    put(fx, at + 1, number);
-    put(fx, at + 2, flags);
-}
-
 pub fn handle_parsed(
     p: ParsedCqe,
     v: Slot,
@@ -161,7 +139,7 @@ pub fn handle_parsed(
 {
     match p {
         ParsedCqe::TriggerFevent { number, flags } => {
-            event(fx, at, number, flags);
+            word_put::put3(fx, at, 4, number, flags);
             return Handled {
                 number: 0,
                 act: Act::Leave,

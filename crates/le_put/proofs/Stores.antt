@@ -1,4 +1,4 @@
--- Runs of stores, at places and past the end. Assumes nothing.
+-- The bytes of a number, stored one by one. Assumes nothing.
 use mathlib.Core.Path.{_≡_, refl, sym, ap, _∙_}
 use mathlib.Core.List.{List, [], _∷_, _++_}
 use Prim.Native.Nat.{ℕ, suc, _+_, _/_, _≤_}
@@ -6,12 +6,6 @@ use native.Mathlib.Omega.{arith}
 use lib.ListN.{length, set, length-set}
 use lib.Seq.{sets, set-out}
 use Rattle.le.specs.Le.{bytes4, bytes8}
-
--- nothing is stored past the end
-pub sets-past : (vs l : List ℕ) (k : ℕ) → length l ≤ k → l ≡ sets l k vs
-sets-past [] l k h = refl
-sets-past (v ∷ vs) l k h =
-    sym (set-out l k v h) ∙ sets-past vs (set l k v) (suc k) (omega (arith, length-set l k v))
 
 pub stores4 :
     (l n₀ n₁ n₂ n : List ℕ) (k a b c d : ℕ)
@@ -38,14 +32,3 @@ stores8 l m n k x p q =
   where
     four : k + 4 ≡ suc (suc (suc (suc k)))
     four = omega arith
-
--- what is stored, and then what follows it
-pub sets-then : (xs ys l : List ℕ) (i : ℕ) → sets (sets l i xs) (i + length xs) ys ≡ sets l i (xs ++ ys)
-sets-then [] ys l i = ap (λ (k : ℕ). sets l k ys) plain
-  where
-    plain : i + 0 ≡ i
-    plain = omega arith
-sets-then (x ∷ xs) ys l i = ap (λ (k : ℕ). sets (sets (set l i x) (suc i) xs) k ys) next ∙ sets-then xs ys (set l i x) (suc i)
-  where
-    next : i + suc (length xs) ≡ suc i + length xs
-    next = omega arith

@@ -1,8 +1,9 @@
 // Little-endian numbers stored into bytes. What lies past the end of the slice is not stored.
 ghost use mathlib.Core.Path.{_≡_};
+ghost use mathlib.Core.List.{[], _∷_};
 ghost use lib.ListN.{set};
 ghost use lib.Seq.{sets};
-ghost use Rattle.le.specs.Le.{bytes4, bytes8};
+ghost use Rattle.le.specs.Le.{bytes4, bytes8, bytesOf};
 
 pub fn put1(out: &mut [u8], at: usize, b: u8)
     ensures { λ r. ⌜ now (out .exit) ≡ set (now (out .entry)) at b ⌝ }
@@ -35,4 +36,15 @@ pub fn put8(out: &mut [u8], at: usize, x: u64)
     }
     put4(out, at, x);
     put4(out, at + 4, x / 0x1_0000_0000);
+}
+
+// Two numbers of eight bytes.
+pub fn put_two(out: &mut [u8], at: usize, a: u64, b: u64)
+    ensures { λ r. ⌜ now (out .exit) ≡ sets (now (out .entry)) at (bytesOf (a ∷ b ∷ [])) ⌝ }
+{
+    if out.len() <= at {
+        return;
+    }
+    put8(out, at, a);
+    put8(out, at + 8, b);
 }

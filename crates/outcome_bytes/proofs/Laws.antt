@@ -1,63 +1,26 @@
--- Words stored one after the other. Assumes nothing.
+-- The parts of what is told of an event, one behind the other. Assumes nothing.
 use Prim.Native.Nat.{ℕ, zero, suc, _+_, _*_, _≤_}
 use mathlib.Core.Path.{_≡_, refl, sym, ap, ap₂, _∙_, subst}
 use mathlib.Core.Bool.{Bool, cond}
 use mathlib.Core.List.{List, [], _∷_, _++_, append-assoc, append-nil}
 use native.Mathlib.Omega.{arith}
-use native.Mathlib.Numerals.{add-one}
-use lib.Count.{ones}
-use lib.ListN.{length, getD, take, length-append}
-use lib.Seq.{sets, take-suc, take-length}
+use lib.ListN.{length, length-append}
+use lib.Seq.{sets}
 use borrow.Author.Tests.{eq-eqb, ne-eqb}
 use Rattle.effect.specs.declared.Effect.{Effect}
 use Rattle.effect.specs.Effect.{effectWords}
 use Rattle.fd_list.specs.declared.List.{List as Fds}
 use Rattle.fd_list.specs.Lists.{numbers}
 use Rattle.slot.specs.declared.Reply.{Reply}
-use Rattle.status.specs.declared.Status.{Status}
-use Rattle.status.specs.Status.{bit, isIn, wordOf}
-use Rattle.table.specs.declared.Table.{Table}
+use Rattle.status.specs.Status.{bit}
 use Rattle.answer_words.specs.declared.AnswerWords.{AnswerWords}
 use Rattle.answer_words.specs.Words.{answerOf, repliedOf}
 use Rattle.events.specs.Outcome.{Answer, Response, many, reply}
 use Rattle.events.specs.Wake.{responseBy, responseFrom}
-use Rattle.outcome_bytes.specs.Output.{answerWords, told, statusPair}
+use Rattle.outcome_bytes.specs.Output.{answerWords, told}
 use Rattle.le.specs.Le.{bytes8, bytesOf}
-use Rattle.le_put.proofs.Stores.{sets-then}
-use Rattle.wait_queue.proofs.Unread.{bytes-append, length-bytes}
-use Rattle.record.specs.Record.{each}
-use Rattle.record.proofs.Laws.{each-length}
-
--- a run of stores, and another behind it
-pub two-runs : (l m n xs ys : List ℕ) (i k : ℕ) → m ≡ sets l i xs → k ≡ i + length xs → n ≡ sets m k ys → n ≡ sets l i (xs ++ ys)
-two-runs l m n xs ys i k em ek en = en ∙ ap₂ (λ (s : List ℕ) (j : ℕ). sets s j ys) em ek ∙ sets-then xs ys l i
-
--- the elements of a list are each of them
-pub each-take : (ws : List ℕ) (n : ℕ) → n ≤ length ws → each (λ i. getD ws i 0) n ≡ take n ws
-each-take ws zero h = refl
-each-take ws (suc n) h = ap (λ (l : List ℕ). l ++ (getD ws n 0 ∷ [])) (each-take ws n (omega (arith, h))) ∙ sym (take-suc ws n 0 h)
-
-pub each-all : (ws : List ℕ) → each (λ i. getD ws i 0) (length ws) ≡ ws
-each-all ws = each-take ws (length ws) (omega arith) ∙ take-length ws
-
--- one more word, one more byte
-pub word-more :
-    (l m n : List ℕ) (f : ℕ → ℕ) (i k at x : ℕ) → m ≡ sets l at (bytesOf (each f i)) → x ≡ f i → k ≡ at + 8 * i → n ≡ sets m k (bytes8 x)
-    → n ≡ sets l at (bytesOf (each f (i + 1)))
-word-more l m n f i k at x em ex ek en =
-    two-runs l m n (bytesOf (each f i)) (bytes8 x) at k em (omega (arith, ek, length-bytes (each f i), each-length f i)) en
-    ∙ ap (λ (y : ℕ). sets l at (bytesOf (each f i) ++ bytes8 y)) ex
-    ∙ ap (λ (b : List ℕ). sets l at (bytesOf (each f i) ++ b)) (sym (append-nil (bytes8 (f i))))
-    ∙ ap (sets l at) (sym (bytes-append (each f i) (f i ∷ [])))
-    ∙ ap (λ (j : ℕ). sets l at (bytesOf (each f j))) (sym (add-one i))
-
-pub byte-more :
-    (l m n : List ℕ) (f : ℕ → ℕ) (i k at x : ℕ) → m ≡ sets l at (each f i) → x ≡ f i → k ≡ at + i → n ≡ sets m k (x ∷ [])
-    → n ≡ sets l at (each f (i + 1))
-byte-more l m n f i k at x em ex ek en =
-    two-runs l m n (each f i) (x ∷ []) at k em (omega (arith, ek, each-length f i)) en
-    ∙ ap (λ (y : ℕ). sets l at (each f i ++ (y ∷ []))) ex
-    ∙ ap (λ (j : ℕ). sets l at (each f j)) (sym (add-one i))
+use Rattle.word_put.proofs.Stores.{two-runs}
+use Rattle.wait_queue.proofs.Unread.{length-bytes}
 
 -- effects behind their number
 abbrev pub Counted : List ℕ → List ℕ → ℕ → ℕ → List ℕ → Type 0
@@ -172,21 +135,3 @@ Told l n k a fx bs = (n ≡ sets l 0 (told a fx bs)) × (k ≡ length (told a fx
 
 pub told-as : (l n : List ℕ) (k : ℕ) (a b : Answer) (fx bs : List ℕ) → a ≡ b → Told l n k b fx bs → Told l n k a fx bs
 told-as l n k a b fx bs e p = subst (λ (x : Answer). Told l n k x fx bs) (sym e) p
-
--- a status word and its count
-pub pair-runs :
-    (l n : List ℕ) (at w k : ℕ) (t : Table) (which : Status) → w ≡ wordOf (isIn which) (t .slots) → k ≡ ones (wordOf (isIn which) (t .slots)) → n ≡ sets l at (bytesOf (w ∷ k ∷ []))
-    → n ≡ sets l at (bytesOf (statusPair t which))
-pair-runs l n at w k t which ew ek en = en ∙ ap₂ (λ (a b : ℕ). sets l at (bytesOf (a ∷ b ∷ []))) ew ek
-
--- runs of a known length, one behind the other
-pub next-run :
-    (l m n xs ys : List ℕ) (i j k : ℕ) → m ≡ sets l i xs → length xs ≡ k → j ≡ i + k → n ≡ sets m j ys → n ≡ sets l i (xs ++ ys)
-next-run l m n xs ys i j k em ek ej en = two-runs l m n xs ys i j em (omega (arith, ek, ej)) en
-
--- 64 words more are 512 bytes more
-pub sixty-four : (xs ws : List ℕ) (n : ℕ) → length xs ≡ n → length ws ≡ 64 → length (xs ++ bytesOf ws) ≡ n + 512
-sixty-four xs ws n ex ew = omega (arith, ex, ew, length-append xs (bytesOf ws), length-bytes ws)
-
-pub whole-size : (xs ns ss ws : List ℕ) → ns ≡ bytesOf ws → length ws ≡ 64 → length xs ≡ 1032 → length ss ≡ 64 → length (xs ++ ns ++ ss) ≡ 1608
-whole-size xs ns ss ws en ew ex es = omega (arith, ap length en, ew, ex, es, length-bytes ws, length-append xs ns, length-append (xs ++ ns) ss)

@@ -10,7 +10,7 @@ use lib.Dec.{eqb, leb}
 use lib.ListN.{length, set, getD, drop, length-append, length-drop}
 use lib.Seq.{sets}
 use borrow.Author.Tests.{eq-eqb, ne-eqb, eqb-false, leb-true}
-use Rattle.le_put.proofs.Stores.{sets-then}
+use Rattle.word_put.proofs.Stores.{sets-then}
 use Rattle.record.specs.declared.Record.{Record}
 use Rattle.record.specs.Record.{each, isEvent, nextOf, recordOf, sizeOf, firstTable, secondTable, flagTable, numberTable, userTable, walk}
 

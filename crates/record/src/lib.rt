@@ -2,7 +2,7 @@
 ghost use mathlib.Core.Path.{_≡_};
 ghost use Prim.Native.Nat.{_≤_};
 ghost use lib.Seq.{sets};
-ghost use Rattle.record.specs.Record.{nineOf, recordOf, tailOf, firstAt, secondAt, tailAt, sizeOf, isEvent, nextOf, wordsAt};
+ghost use Rattle.record.specs.Record.{nineOf, recordOf, tailOf, firstAt, secondAt, tailAt, sizeOf, wordsAt};
 
 pub struct Nine(
     pub u64,
@@ -27,102 +27,8 @@ pub struct Record {
     pub words: Nine,
 }
 
-// By kind: how many words, and the most that each field may hold.
+// How many words, by kind.
 const WORDS: [u8; 20] = [0, 1, 1, 1, 2, 0, 0, 9, 8, 3, 3, 4, 1, 2, 4, 1, 1, 0, 0, 4];
-
-const FIRST: [u8; 20] = [
-    0,
-    0,
-    0,
-    0,
-    0,
-    0,
-    0,
-    255,
-    255,
-    255,
-    255,
-    0,
-    0,
-    0,
-    0,
-    0,
-    0,
-    255,
-    255,
-    0,
-];
-
-const SECOND: [u8; 20] = [
-    0,
-    0,
-    0,
-    0,
-    0,
-    0,
-    0,
-    0,
-    0,
-    255,
-    255,
-    0,
-    0,
-    0,
-    0,
-    0,
-    0,
-    255,
-    0,
-    0,
-];
-
-const FLAGS: [u8; 20] = [0, 0, 0, 0, 0, 0, 0, 255, 0, 0, 0, 0, 0, 0, 0, 0, 0, 0, 0, 0];
-
-const NUMBER: [u32; 20] = [
-    0,
-    0,
-    0,
-    0,
-    0,
-    0xffff_ffff,
-    0xffff_ffff,
-    0xffff_ffff,
-    0xffff_ffff,
-    0xffff_ffff,
-    0xffff_ffff,
-    0xffff_ffff,
-    0,
-    0,
-    0xffff_ffff,
-    0xffff_ffff,
-    0xffff_ffff,
-    0,
-    0,
-    0,
-];
-
-const USERS: [u32; 20] = [
-    0,
-    0,
-    0,
-    0,
-    0,
-    0,
-    0,
-    0,
-    0xffff_ffff,
-    0,
-    0,
-    0xffff_ffff,
-    0,
-    0,
-    0,
-    0,
-    0,
-    0,
-    0,
-    0,
-];
 
 fn read_words(s: &[u8]) -> Nine
     ensures { λ r. ⌜ r ≡ nineOf (now (s .entry)) ⌝ }
@@ -196,52 +102,11 @@ pub fn tail(r: Record) -> usize
     0
 }
 
-fn size(r: Record) -> usize
+// All its bytes.
+pub fn size(r: Record) -> usize
     ensures { λ o. ⌜ o ≡ sizeOf r ⌝ }
 {
     tail_at(r) + tail(r)
-}
-
-fn is_event(r: Record, left: usize) -> bool
-    ensures { λ o. ⌜ o ≡ isEvent r left ⌝ }
-{
-    let k = r.kind as usize;
-    if k < 1 {
-        return false;
-    }
-    if 19 < k {
-        return false;
-    }
-    if FIRST[k] < r.first {
-        return false;
-    }
-    if SECOND[k] < r.second {
-        return false;
-    }
-    if FLAGS[k] < r.flags {
-        return false;
-    }
-    if NUMBER[k] < r.number {
-        return false;
-    }
-    if USERS[k] < r.uid {
-        return false;
-    }
-    if USERS[k] < r.gid {
-        return false;
-    }
-    size(r) <= left
-}
-
-// The size of the event at the start of a slice, 0 where there is none.
-pub fn next(s: &[u8]) -> usize
-    ensures { λ r. ⌜ r ≡ nextOf (now (s .entry)) ⌝ }
-{
-    let r = record_at(s);
-    if is_event(r, s.len()) {
-        return size(r);
-    }
-    0
 }
 
 // So many words from a place, into those lent from the first on.

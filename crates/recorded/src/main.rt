@@ -69,11 +69,11 @@ fn count_events(events: &[u8]) -> usize
 {
     let mut n = 0;
     let mut at = 0;
-    let mut size = record::next(events);
+    let mut size = record_next::next(events);
     while size != 0 {
         n += 1;
         at += size;
-        size = record::next(&events[at..]);
+        size = record_next::next(&events[at..]);
     }
     n
 }
@@ -344,7 +344,7 @@ fn print_limit(copies: u64, kind: u64, value: u64, told: &[u8]) {
 fn print_copies(c: Copies) {
     let s = c.state;
     let mut told = [0; 1608];
-    outcome_bytes::put_state(&mut told, s);
+    state_bytes::put_state(&mut told, s);
     print_limit(c.copies, c.kind, c.value, &told);
 }
 

@@ -6,7 +6,7 @@ use mathlib.Core.List.{List, [], _∷_, _++_}
 use native.Mathlib.Omega.{arith}
 use native.Mathlib.Decide.{decLt}
 use lib.Dec.{eqb, ltb}
-use lib.ListN.{length, set, length-append}
+use lib.ListN.{length, length-append}
 use lib.Seq.{sets}
 use borrow.Author.Tests.{eq-eqb, ne-eqb, lt-ltb, le-ltb}
 use Rattle.answer.specs.Answer.{numberOf}
@@ -14,7 +14,6 @@ use Rattle.closes.specs.declared.Reason.{Reason}
 use Rattle.closes.specs.declared.Reason.the-variants.{Replied, Ended}
 use Rattle.closes.specs.Closes.{closing, only, closes}
 use Rattle.closes.proofs.Laws.{closes-length, only-length}
-use Rattle.closes.proofs.Steps.{sets-out}
 use Rattle.counts.specs.Counts.{lasts}
 use Rattle.counts.proofs.Laws.{lasts-length}
 use Rattle.error.specs.declared.Error.{Error}
@@ -27,6 +26,7 @@ use Rattle.fd_list.proofs.Laws.{numbers-most}
 use Rattle.holds.specs.declared.Dropped.{Dropped}
 use Rattle.holds.specs.declared.Holds.{Holds}
 use Rattle.holds.specs.Holds.{droppedOf}
+use Rattle.word_put.proofs.Stores.{sets-past, behind}
 use Rattle.slot.specs.declared.PageSpan.{PageSpan}
 use Rattle.slot.specs.declared.Phase.{Phase}
 use Rattle.slot.specs.declared.Phase.the-variants.{Waiting}
@@ -77,36 +77,12 @@ pub parts-listed :
     → _≡_ {A = Parts} (record { reply = record { kind = 3; extra0 = 0; notice = false; word = 0 }; kept = v .fds; gone = n; own = v .fds }) (partsOf v (offered o))
 parts-listed v o n e en = rw (e, en) refl
 
--- stores
-pub effect-is : (fx f g e : List ℕ) (j k a b : ℕ) → f ≡ set fx j k → g ≡ set f (j + 1) a → e ≡ set g (j + 2) b → e ≡ sets fx j (k ∷ a ∷ b ∷ [])
-effect-is fx f g e j k a b ef eg ee =
-    ee ∙ ap (λ (l : List ℕ). set l (j + 2) b) (eg ∙ ap (λ (l : List ℕ). set l (j + 1) a) ef) ∙ ap₂ (λ (x y : ℕ). set (set (set fx j k) x a) y b) one two
-  where
-    one : j + 1 ≡ suc j
-    one = omega arith
-
-    two : j + 2 ≡ suc (suc j)
-    two = omega arith
-
-pub sets-then : (xs ys l : List ℕ) (i : ℕ) → sets (sets l i xs) (i + length xs) ys ≡ sets l i (xs ++ ys)
-sets-then [] ys l i = ap (λ (k : ℕ). sets l k ys) plain
-  where
-    plain : i + 0 ≡ i
-    plain = omega arith
-sets-then (x ∷ xs) ys l i = ap (λ (k : ℕ). sets (sets (set l i x) (suc i) xs) k ys) next ∙ sets-then xs ys (set l i x) (suc i)
-  where
-    next : i + suc (length xs) ≡ suc i + length xs
-    next = omega arith
-
-pub two-runs : (l f g xs ys : List ℕ) (i k : ℕ) → f ≡ sets l i xs → k ≡ length xs → g ≡ sets f (i + k) ys → g ≡ sets l i (xs ++ ys)
-two-runs l f g xs ys i k ef ek eg = eg ∙ ap₂ (λ (m : List ℕ) (j : ℕ). sets m (i + j) ys) ef ek ∙ sets-then xs ys l i
-
 -- a place past the end is as good as the end
 pub place-same : (l xs : List ℕ) (i : ℕ) → sets l (min i (length l)) xs ≡ sets l i xs
 place-same l xs i = go (decLt (length l) i)
   where
     go : Dec (length l < i) → sets l (min i (length l)) xs ≡ sets l i xs
-    go (yes h) = sym (sets-out l (min i (length l)) xs (omega (arith, h))) ∙ sets-out l i xs (omega (arith, h))
+    go (yes h) = sym (sets-past xs l (min i (length l)) (omega (arith, h))) ∙ sets-past xs l i (omega (arith, h))
     go (no h) = ap (λ (k : ℕ). sets l k xs) (let z : min i (length l) ≡ i = omega (arith, h) in z)
 
 pub unmap-none : (s : PageSpan) (fx : List ℕ) (at : ℕ) → s .count ≡ 0 → (0 ≡ length (unmapOf (eqb (s .count) 0) s)) × ((0 ≤ 3) × (fx ≡ sets fx at (unmapOf (eqb (s .count) 0) s)))
@@ -154,7 +130,7 @@ pub lost-fx :
     (v : Slot) (p : Parts) (h g : Holds) (fx f e : List ℕ) (at j : ℕ) → g ≡ dropped h (numbers (p .gone)) → f ≡ sets fx at (releasedFx v (numbers (p .gone)) h)
     → j ≡ length (releasedFx v (numbers (p .gone)) h) → e ≡ sets f (at + j) (closesOf Ended g (numbers (p .own))) → e ≡ sets fx at (lostFx v p h)
 lost-fx v p h g fx f e at j eg ef ej ee =
-    two-runs fx f e (releasedFx v (numbers (p .gone)) h) (closesOf Ended (dropped h (numbers (p .gone))) (numbers (p .own))) at j ef ej
+    behind fx f e (releasedFx v (numbers (p .gone)) h) (closesOf Ended (dropped h (numbers (p .gone))) (numbers (p .own))) at j ef ej
     (ee ∙ ap (λ (x : Holds). sets f (at + j) (closesOf Ended x (numbers (p .own)))) eg)
 
 -- respond by the slot's phase

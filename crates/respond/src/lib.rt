@@ -10,10 +10,9 @@ use slot::Phase;
 use slot::Reply;
 use slot::Slot;
 ghost use mathlib.Core.Path.{_≡_};
-ghost use mathlib.Core.List.{[], _∷_};
 ghost use Prim.Native.Nat.{min, _≤_};
 ghost use lib.Dec.{eqb};
-ghost use lib.ListN.{set, length};
+ghost use lib.ListN.{length};
 ghost use lib.Seq.{sets};
 ghost use Rattle.fd_list.specs.Lists.{numbers};
 ghost use Rattle.slot.specs.Slots.{phaseOf};
@@ -153,27 +152,6 @@ fn taken_apart(v: Slot, offer: Offer) -> Parts
     }
 }
 
-fn put(fx: &mut [u64], j: usize, x: u64)
-    ensures { λ r. ⌜ now (fx .exit) ≡ set (now (fx .entry)) j x ⌝ }
-{
-    if fx.len() <= j {
-        return;
-    }
-    fx[j] = x;
-}
-
-// One effect at place `at`.
-fn effect(fx: &mut [u64], at: usize, kind: u64, a: u64, b: u64)
-    ensures { λ r. ⌜ now (fx .exit) ≡ sets (now (fx .entry)) at (kind ∷ a ∷ b ∷ []) ⌝ }
-{
-    if fx.len() <= at {
-        return;
-    }
-    put(fx, at, kind);
-    put(fx, at + 1, a);
-    put(fx, at + 2, b);
-}
-
 // The span is unmapped where it has pages.
 fn unmap(span: PageSpan, fx: &mut [u64], at: usize) -> usize
     ensures { λ r. ⌜ r ≡ length (unmapOf (eqb (span .count) 0) span) ⌝ }
@@ -184,7 +162,7 @@ fn unmap(span: PageSpan, fx: &mut [u64], at: usize) -> usize
     if count == 0 {
         return 0;
     }
-    effect(fx, at, 2, span.base, count);
+    word_put::put3(fx, at, 2, span.base, count);
     3
 }
 
@@ -216,7 +194,7 @@ fn stored_in(v: Slot, tag: u64, p: Parts, h: Holds, fx: &mut [u64], at: usize) -
     let reply = p.reply;
     let kept = p.kept;
     let gone = p.gone;
-    effect(fx, at, 1, v.caller as u64, tag);
+    word_put::put3(fx, at, 1, v.caller as u64, tag);
     let r = release(v, gone, h, fx, at + 3);
     let left = r.holds;
     let w = slot::responded(v, reply, kept);

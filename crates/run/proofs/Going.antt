@@ -7,7 +7,7 @@ use native.Mathlib.Omega.{arith}
 use lib.Dec.{eqb}
 use lib.ListN.{length, set, take, drop, replicate, length-replicate, length-append, length-drop, take-append-drop, drop-of-length-le}
 use lib.Seq.{sets, length-sets, length-take-le, drop-drop}
-use Rattle.le_put.proofs.Stores.{sets-then}
+use Rattle.word_put.proofs.Stores.{sets-then}
 use Rattle.state.specs.declared.State.{State}
 use Rattle.state.specs.State.{freshState}
 use Rattle.events.specs.World.{World, world}
@@ -15,7 +15,8 @@ use Rattle.events.specs.Event.{Event, step}
 use Rattle.events.specs.Run.{Turn, Run, next, runFrom, run}
 use Rattle.events.specs.Whole.{Whole}
 use Rattle.events.proofs.Whole.{whole-run}
-use Rattle.outcome_bytes.specs.Output.{outcomeBytes, stateBytes}
+use Rattle.outcome_bytes.specs.Output.{outcomeBytes}
+use Rattle.state_bytes.specs.StateBytes.{stateBytes}
 use Rattle.record.specs.Record.{recordOf, nextOf, eventAt, Decoded, stops, before, decoded}
 use Rattle.record.proofs.Laws.{some, next-there, walk-ends, walk-goes-on}
 use Rattle.run.specs.Run.{runOf, storedBy, toldOf, lentAfter, outputOf, roomOf, needed, wholeEnd}

@@ -10,7 +10,8 @@ use Rattle.events.specs.Outcome.{Outcome}
 use Rattle.events.specs.Event.{Event, wake, read, write, step}
 use Rattle.events.specs.Exactly.{isWrite}
 use Rattle.events.specs.Run.{Turn, Run, run}
-use Rattle.outcome_bytes.specs.Output.{outcomeBytes, stateBytes}
+use Rattle.outcome_bytes.specs.Output.{outcomeBytes}
+use Rattle.state_bytes.specs.StateBytes.{stateBytes}
 use Rattle.record.specs.declared.Record.{Record}
 use Rattle.record.specs.Record.{recordOf, firstAt, secondAt, tailAt, tailOf, wordsAt, eventNamed, walk, decoded}
 use Rattle.run.specs.declared.RunEnd.{RunEnd}

@@ -262,7 +262,7 @@ fn has_room(events: &[u8], most: usize) -> bool
     }
     let mut left = most - 1608;
     let mut at = 0;
-    let mut size = record::next(events);
+    let mut size = record_next::next(events);
     while size != 0 {
         let r = record::record_at(&events[at..]);
         let k = room(r);
@@ -271,7 +271,7 @@ fn has_room(events: &[u8], most: usize) -> bool
         }
         left -= k;
         at += size;
-        size = record::next(&events[at..]);
+        size = record_next::next(&events[at..]);
     }
     true
 }
@@ -300,7 +300,7 @@ fn run_all(scheme: u64, events: &[u8], out: &mut [u8], fx: &mut [u64]) -> RunEnd
     let mut s = state::fresh(scheme);
     let mut at = 0;
     let mut j = 0;
-    let mut size = record::next(events);
+    let mut size = record_next::next(events);
     while size != 0 {
         let t = turn(
             s,
@@ -316,9 +316,9 @@ fn run_all(scheme: u64, events: &[u8], out: &mut [u8], fx: &mut [u64]) -> RunEnd
         s = after;
         j += t.used;
         at += size;
-        size = record::next(&events[at..]);
+        size = record_next::next(&events[at..]);
     }
-    outcome_bytes::put_state(&mut out[j..], s);
+    state_bytes::put_state(&mut out[j..], s);
     RunEnd {
         number: number_at(at, events.len()),
         place: at as u64,

@@ -18,6 +18,7 @@ use schemev2::Cqe;
 use schemev2::Sqe;
 use slot::Reply;
 use state::State;
+use status::Status;
 ghost use mathlib.Core.Path.{_≡_};
 ghost use mathlib.Core.List.{List as Words};
 ghost use Prim.Native.Nat.{ℕ, _≤_};
@@ -38,6 +39,7 @@ ghost use Rattle.events.specs.Complete.{writeOf};
 ghost use Rattle.events.specs.Descriptors.{moveOf, obtainCallOf};
 ghost use Rattle.events.specs.Supply.{supplyOf};
 ghost use Rattle.events.specs.Replies.{intoRegularOf, callGenericOf, noticeOf, kopenatOf, kdupOf};
+ghost use Rattle.state_bytes.specs.StateBytes.{statusWords};
 ghost use Rattle.parse_cqe.specs.Parsed.{parsedOf, parsedAnswer};
 ghost use Rattle.reading_step.specs.Opened.{openedOf};
 ghost use Rattle.run.specs.Run.{endOf, outAfter, fxAfter};
@@ -299,6 +301,33 @@ pub extern "C" fn tilgurap_fresh(scheme: u64) -> State
     ensures { λ r. ⌜ r ≡ freshState scheme ⌝ }
 {
     state::fresh(scheme)
+}
+
+// The four status words, each with its count of ones: Placeholder, Waiting, Responded, Fmap.
+#[no_mangle]
+pub extern "C" fn tilgurap_status(s: State, out: &mut [u64; 8])
+    ensures { λ r. ⌜ now (out .exit) ≡ statusWords (s .table) ⌝ }
+{
+    let t = s.table;
+    let placeholder = status::word(t, Status::Placeholder);
+    let placeholders = status::count(t, Status::Placeholder);
+    let waiting = status::word(t, Status::Waiting);
+    let waitings = status::count(t, Status::Waiting);
+    let responded = status::word(t, Status::Responded);
+    let respondeds = status::count(t, Status::Responded);
+    let fmap = status::word(t, Status::Fmap);
+    let fmaps = status::count(t, Status::Fmap);
+    let words: [u64; 8] = [
+        placeholder,
+        placeholders as u64,
+        waiting,
+        waitings as u64,
+        responded,
+        respondeds as u64,
+        fmap,
+        fmaps as u64,
+    ];
+    *out = words;
 }
 
 // An errno as a result word.

@@ -30,7 +30,7 @@ use Rattle.respond.specs.declared.Act.{Act}
 use Rattle.respond.specs.declared.Act.the-variants.{Leave, Store, Vacate}
 use Rattle.respond.specs.declared.Responded.{Responded as Decided}
 use Rattle.respond.specs.Respond.{namedOf, partsOf, servedOf, servedFx, respondOf, respondFx}
-use Rattle.respond.proofs.Laws.{sets-then}
+use Rattle.word_put.proofs.Stores.{sets-then}
 use Rattle.schemev2.specs.declared.Cqe.{Cqe}
 use Rattle.schemev2.specs.Entry.{cqeOf}
 use Rattle.slot.specs.declared.Phase.{Phase}
@@ -44,7 +44,8 @@ use Rattle.table.specs.Table.{noSlot, slotAt, putAt, stored, vacated, vacateAt}
 use Rattle.events.specs.World.{World, world, tableWith}
 use Rattle.events.specs.Outcome.{Answer, Outcome, outcome, ok, refuse}
 use Rattle.events.specs.Complete.{Entered, accepted, rejected, Offer, one, entryOf, cut, entriesOf, stopped, onEntered, writeOn, writeOf}
-use Rattle.write.specs.Write.{refusal, lookOf, slotAfter, nextAfter, headAfter}
+use Rattle.carry_out.specs.After.{lookOf, slotAfter, nextAfter, headAfter}
+use Rattle.write.specs.Write.{refusal}
 
 -- a decision's words are those of its effects, and its number is 0 or a refusal's
 abbrev Fit : Handled → List ℕ → Type 0

@@ -3,18 +3,15 @@
 use handle_parsed::Handled;
 use handles::Handles;
 use ids::Tag;
-use respond::Act;
-use slot::Slot;
 use state::State;
 ghost use mathlib.Core.Path.{_≡_};
 ghost use mathlib.Core.List.{List};
 ghost use Prim.Native.Nat.{ℕ, _≤_, _<_};
-ghost use lib.Dec.{ltb};
 ghost use lib.ListN.{length};
 ghost use lib.Seq.{sets};
 ghost use Rattle.events.specs.World.{world};
 ghost use Rattle.events.specs.Complete.{stopped, writeOf};
-ghost use Rattle.write.specs.Write.{writeAnswer, lookOf, slotAfter, nextAfter, headAfter, refusal};
+ghost use Rattle.write.specs.Write.{writeAnswer, refusal};
 
 pub enum WriteAnswer {
     Written(u64),
@@ -29,57 +26,6 @@ pub struct WriteStep {
     pub answer: WriteAnswer,
     pub words: usize,
     pub state: State,
-}
-
-// What stands at a tag: one over 63 counts as vacant.
-fn look(tag: u64, v: Slot) -> Slot
-    ensures { λ r. ⌜ r ≡ lookOf (ltb tag 64) v ⌝ }
-{
-    if tag < 64 {
-        return v;
-    }
-    slot::vacant()
-}
-
-// The slot at the tag's place afterwards.
-fn slot_after(tag: u64, act: Act, new: Slot, old: Slot) -> Slot
-    ensures { λ r. ⌜ r ≡ slotAfter (ltb tag 64) act new old ⌝ }
-{
-    if 64 <= tag {
-        return old;
-    }
-    match act {
-        Act::Leave => old,
-        Act::Store => new,
-        Act::Vacate => slot::vacant(),
-    }
-}
-
-// The chain afterwards: a vacated slot is its first.
-fn next_after(tag: u64, act: Act, next: u8, head: u8) -> u8
-    ensures { λ r. ⌜ r ≡ nextAfter (ltb tag 64) act next head ⌝ }
-{
-    if 64 <= tag {
-        return next;
-    }
-    match act {
-        Act::Leave => next,
-        Act::Store => next,
-        Act::Vacate => head,
-    }
-}
-
-fn head_after(tag: u64, act: Act, head: u8) -> u8
-    ensures { λ r. ⌜ r ≡ headAfter (ltb tag 64) act tag head ⌝ }
-{
-    if 64 <= tag {
-        return head;
-    }
-    match act {
-        Act::Leave => head,
-        Act::Store => head,
-        Act::Vacate => tag as u8,
-    }
 }
 
 // A refusal after a good entry returns the bytes so far, a first one its number.
@@ -123,7 +69,7 @@ pub fn write(s: State, fx: &mut [u64], bytes: &[u8]) -> WriteStep
         let tag = e.tag as u64;
         let at = (tag % 64) as usize;
         let old = t.slots[at];
-        let v = look(tag, old);
+        let v = carry_out::look(tag, old);
         let h = t.holds;
         let k = d.handles;
         let r = handle_parsed::handle_parsed(p, v, h, k, fx, j);
@@ -131,11 +77,11 @@ pub fn write(s: State, fx: &mut [u64], bytes: &[u8]) -> WriteStep
         let new = r.slot;
         let left = r.holds;
         let handles = r.handles;
-        let w = slot_after(tag, act, new, old);
+        let w = carry_out::slot_after(tag, act, new, old);
         let next = t.next[at];
         let head = t.head;
-        let after = next_after(tag, act, next, head);
-        let first = head_after(tag, act, head);
+        let after = carry_out::next_after(tag, act, next, head);
+        let first = carry_out::head_after(tag, act, head);
         t.slots[at] = w;
         t.next[at] = after;
         t.head = first;

@@ -5,6 +5,8 @@ use script::{Event, Payload, Script};
 
 const ENTRY: usize = 16;
 const EFFECT_WORDS: u64 = 54;
+/// Renumbering tries many scripts: it waits until they are short.
+const RENUMBERED_MOST: usize = 90;
 
 /// Events with less in them.
 fn plainer(event: &Event) -> Vec<Event> {
@@ -86,6 +88,15 @@ fn plainer(event: &Event) -> Vec<Event> {
                 };
                 plainer.push(Event::Write { words, bytes });
             }
+            for place in 0..entries {
+                // extra bytes, then those of the result
+                for part in [1..4, 8..16, 9..16] {
+                    let mut bytes = bytes.clone();
+                    bytes[ENTRY * place..][part].fill(0);
+                    let words = *words;
+                    plainer.push(Event::Write { words, bytes });
+                }
+            }
             let bytes = bytes[..ENTRY * entries].to_vec();
             if enough {
                 let words = EFFECT_WORDS * entries as u64;
@@ -101,7 +112,12 @@ fn plainer(event: &Event) -> Vec<Event> {
         }
         _ => {}
     }
-    plainer.retain(|other| other != event);
+    // each turn makes the text less, so that there is a last one
+    let less = |event: &Event| {
+        let text = event.to_string();
+        (text.len(), text)
+    };
+    plainer.retain(|other| less(other) < less(event));
     plainer
 }
 
@@ -119,6 +135,68 @@ fn shorter(list: &[u64]) -> Vec<Vec<u64>> {
             .chain((0..len).map(without))
             .collect(),
     }
+}
+
+/// The event with other tags.
+fn with_tags(event: &Event, of: &dyn Fn(u64) -> u64) -> Event {
+    let mut event = event.clone();
+    match &mut event {
+        Event::Submit { tag, .. } | Event::Wake { tag, .. } | Event::Supply { tag, .. } => {
+            *tag = of(*tag);
+        }
+        Event::Move { meta, .. } | Event::Obtain { meta } => {
+            meta.iter_mut()
+                .skip(1)
+                .take(1)
+                .for_each(|tag| *tag = of(*tag));
+        }
+        Event::Write { bytes, .. } => {
+            for entry in bytes.chunks_exact_mut(ENTRY) {
+                let field: &mut [u8; 4] = (&mut entry[4..8]).try_into().expect("four bytes");
+                *field = (of(u64::from(u32::from_le_bytes(*field))) as u32).to_le_bytes();
+            }
+        }
+        _ => {}
+    }
+    event
+}
+
+/// Leaves out an event that gave a tag out: those that were given out later become one less.
+fn renumbered(script: &mut Script, differs: &dyn Fn(&Script) -> bool) -> bool {
+    let mut changed = false;
+    for place in (0..script.events.len()).rev() {
+        let gives = matches!(
+            script.events[place],
+            Event::Reserve { .. }
+                | Event::Call { .. }
+                | Event::Generic(_)
+                | Event::Stdfs(_)
+                | Event::Fmap { .. }
+        );
+        if !gives || script.events.len() > RENUMBERED_MOST {
+            continue;
+        }
+        let less = (0..64).find_map(|given| {
+            let mut less = script.clone();
+            less.events.remove(place);
+            for event in &mut less.events[place..] {
+                let of = |tag| {
+                    if (given + 1..64).contains(&tag) {
+                        tag - 1
+                    } else {
+                        tag
+                    }
+                };
+                *event = with_tags(event, &of);
+            }
+            differs(&less).then_some(less)
+        });
+        if let Some(less) = less {
+            *script = less;
+            changed = true;
+        }
+    }
+    changed
 }
 
 /// Leaves out as many events as it can, the last ones first, many at a time and then one by one.
@@ -167,6 +245,16 @@ fn made_plain(script: &mut Script, differs: &dyn Fn(&Script) -> bool) -> bool {
 
 /// A short script that differs too.
 pub fn shrink(mut script: Script, differs: &dyn Fn(&Script) -> bool) -> Script {
-    while left_out(&mut script, differs) | made_plain(&mut script, differs) {}
+    let plain = Script {
+        scheme: 7,
+        ..script.clone()
+    };
+    if differs(&plain) {
+        script = plain;
+    }
+    while left_out(&mut script, differs)
+        | made_plain(&mut script, differs)
+        | renumbered(&mut script, differs)
+    {}
     script
 }

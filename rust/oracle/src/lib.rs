@@ -24,7 +24,7 @@ mod reading;
 
 /// The syscall crate's own types and functions.
 pub use ::syscall as abi;
-pub use oracle::{Oracle, run};
+pub use oracle::{Alone, Oracle, run};
 pub use reading::{Front, Reading, parse_cqe, read_reply};
 pub use threads::hand_overs;
 

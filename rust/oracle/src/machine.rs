@@ -98,6 +98,11 @@ impl Machine {
         done
     }
 
+    /// What the host's thread does when it gives way once more.
+    pub fn next_switch(&self, switch: OnSwitch) {
+        self.on_switch.replace(switch);
+    }
+
     /// Runs the kernel's code, by the clock.
     pub fn kernel<T>(&self, what: impl FnOnce() -> T) -> T {
         self.start();

@@ -9,14 +9,14 @@ use Rattle.handle_parsed.proofs.Laws.{asked, with-handles, with-words, 
 enum-known-p : tie.Need-enum-known-p
 enum-known-p c = search needs
 
-event-requires : tie.Need-event-requires
-event-requires c κs = search needs
+put3-requires : tie.Need-put3-requires
+put3-requires c κs = search needs
 
 same-length : tie.Need-same-length
 same-length c = search needs
 
 returns : tie.Need-returns
-returns c = let a = c .before .before .before .before .before .before .before .before .args in asked (a .p) _ (a .v) (a .h) (a .n) (a .fx .now) _ (a .at) _ (c .before .before .before .before .before .p .given .1) refl (c .before .before .event .ensures) (omega arith)
+returns c = let a = c .before .before .before .before .before .before .before .before .args in asked (a .p) _ (a .v) (a .h) (a .n) (a .fx .now) _ (a .at) _ (c .before .before .before .before .before .p .given .1) refl (c .before .before .put3 .ensures) (omega arith)
 
 enum-known-p-2 : tie.Need-enum-known-p-2
 enum-known-p-2 c = search needs
@@ -119,7 +119,7 @@ handle-parsed-spec =
     tie.close
     (tie.spec
     enum-known-p
-    event-requires
+    put3-requires
     same-length
     returns
     enum-known-p-2

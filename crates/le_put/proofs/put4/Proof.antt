@@ -1,6 +1,7 @@
 -- `le_put::put4` meets its contract. Assumes nothing.
 use Rattle.le.specs.Le.{bytes4}
-use Rattle.le_put.proofs.Stores.{sets-past, stores4}
+use Rattle.le_put.proofs.Stores.{stores4}
+use Rattle.word_put.proofs.Stores.{sets-past}
 use borrow.Author.Needs.{needs}
 use Rattle.le_put.proofs.put4.Statement.{statement}
 use Rattle.le_put.proofs.put4.Tie as tie

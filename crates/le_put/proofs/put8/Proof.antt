@@ -1,6 +1,7 @@
 -- `le_put::put8` meets its contract. Assumes nothing.
 use Rattle.le.specs.Le.{bytes8}
-use Rattle.le_put.proofs.Stores.{sets-past, stores8}
+use Rattle.le_put.proofs.Stores.{stores8}
+use Rattle.word_put.proofs.Stores.{sets-past}
 use borrow.Author.Needs.{needs}
 use Rattle.le_put.proofs.put8.Statement.{statement}
 use Rattle.le_put.proofs.put8.Tie as tie

@@ -8,7 +8,7 @@ use native.Mathlib.Omega.{arith}
 use lib.ListN.{getD, length}
 use lib.Seq.{sets, length-sets}
 use Rattle.record.specs.Record.{each}
-use Rattle.outcome_bytes.proofs.Laws.{byte-more, each-all}
+use Rattle.record.proofs.Each.{byte-more, each-all}
 
 abbrev Inv-loop : tie.InvT-loop
 Inv-loop out₀ at bs n i₀ out i = (i ≤ n) × (out ≡ sets out₀ at (each (λ (j : ℕ). getD bs j 0) i))

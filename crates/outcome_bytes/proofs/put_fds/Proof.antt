@@ -12,7 +12,7 @@ use Rattle.le.specs.Le.{bytesOf}
 use Rattle.fd_list.specs.Lists.{desc, num, named, numbers}
 use lib.ListN.{List·getD-map}
 use mathlib.Core.Path.{sym}
-use Rattle.outcome_bytes.proofs.Laws.{word-more, each-all}
+use Rattle.record.proofs.Each.{word-more, each-all}
 
 abbrev Inv-loop : tie.InvT-loop
 Inv-loop out₀ at l n i₀ out i = (i ≤ n) × (out ≡ sets out₀ at (bytesOf (each (λ (j : ℕ). getD (numbers l) j 0) i)))

@@ -9,7 +9,7 @@ use lib.ListN.{getD, length}
 use lib.Seq.{sets, length-sets}
 use Rattle.record.specs.Record.{each}
 use Rattle.le.specs.Le.{bytesOf}
-use Rattle.outcome_bytes.proofs.Laws.{word-more, each-all}
+use Rattle.record.proofs.Each.{word-more, each-all}
 
 abbrev Inv-loop : tie.InvT-loop
 Inv-loop out₀ at ws n i₀ out i = (i ≤ n) × (out ≡ sets out₀ at (bytesOf (each (λ (j : ℕ). getD ws j 0) i)))

@@ -7,13 +7,14 @@ use native.Mathlib.Omega.{arith}
 use Rattle.fd_list.specs.Lists.{numbers}
 use Rattle.events.specs.Outcome.{wakeEffect}
 use Rattle.respond.specs.Respond.{releasedFx}
-use Rattle.respond.proofs.Laws.{stored-is, two-runs}
+use Rattle.respond.proofs.Laws.{stored-is}
+use Rattle.word_put.proofs.Stores.{behind}
 
-cast-effect : tie.Need-cast-effect
-cast-effect c = search needs
+cast-put3 : tie.Need-cast-put3
+cast-put3 c = search needs
 
-effect-requires : tie.Need-effect-requires
-effect-requires c κs = search needs
+put3-requires : tie.Need-put3-requires
+put3-requires c κs = search needs
 
 add-release : tie.Need-add-release
 add-release c = search needs
@@ -31,14 +32,14 @@ same-length : tie.Need-same-length
 same-length c = search needs
 
 returns : tie.Need-returns
-returns c = let a = c .before .before .before .before .before .before .before .before .before .before .before .before .before .before .before .before .args in let r = c .before .before .before .before .before .release .ensures in (stored-is (a .v) _ (a .tag) (a .p) (a .h) _ _ (c .before .responded .ensures) (r .0) (r .1 .0), (two-runs (a .fx .now) _ _ (wakeEffect (a .v .caller) (a .tag)) (releasedFx (a .v) (numbers (a .p .gone)) (a .h)) (a .at) 3 (c .before .before .before .before .before .before .before .before .before .effect .ensures) refl (r .1 .1 .1), omega (arith, r .1 .1 .0)))
+returns c = let a = c .before .before .before .before .before .before .before .before .before .before .before .before .before .before .before .before .args in let r = c .before .before .before .before .before .release .ensures in (stored-is (a .v) _ (a .tag) (a .p) (a .h) _ _ (c .before .responded .ensures) (r .0) (r .1 .0), (behind (a .fx .now) _ _ (wakeEffect (a .v .caller) (a .tag)) (releasedFx (a .v) (numbers (a .p .gone)) (a .h)) (a .at) 3 (c .before .before .before .before .before .before .before .before .before .put3 .ensures) refl (r .1 .1 .1), omega (arith, r .1 .1 .0)))
 
 pub stored-in-spec : {M : Type 1} → statement M
 stored-in-spec =
     tie.close
     (tie.spec
-    cast-effect
-    effect-requires
+    cast-put3
+    put3-requires
     add-release
     release-requires
     responded-requires

@@ -7,14 +7,14 @@ use Rattle.respond.proofs.Laws.{unmap-none, unmap-some}
 returns : tie.Need-returns
 returns c = let a = c .before .before .args in unmap-none (a .span) (a .fx .now) (a .at) (c .if1 .taken)
 
-effect-requires : tie.Need-effect-requires
-effect-requires c κs = search needs
+put3-requires : tie.Need-put3-requires
+put3-requires c κs = search needs
 
 same-length : tie.Need-same-length
 same-length c = search needs
 
 returns-2 : tie.Need-returns-2
-returns-2 c = let a = c .before .before .before .before .before .before .args in unmap-some (a .span) (a .fx .now) _ (a .at) (c .before .before .before .before .if1 .left) (c .before .before .effect .ensures)
+returns-2 c = let a = c .before .before .before .before .before .before .args in unmap-some (a .span) (a .fx .now) _ (a .at) (c .before .before .before .before .if1 .left) (c .before .before .put3 .ensures)
 
 pub unmap-spec : {M : Type 1} → statement M
-unmap-spec = tie.close (tie.spec returns effect-requires same-length returns-2)
+unmap-spec = tie.close (tie.spec returns put3-requires same-length returns-2)

@@ -7,7 +7,8 @@ use native.Mathlib.Omega.{arith}
 use lib.ListN.{length, take, drop, length-replicate}
 use Rattle.events.specs.World.{world}
 use Rattle.events.specs.Event.{step}
-use Rattle.outcome_bytes.specs.Output.{outcomeBytes, stateBytes}
+use Rattle.outcome_bytes.specs.Output.{outcomeBytes}
+use Rattle.state_bytes.specs.StateBytes.{stateBytes}
 use lib.Seq.{length-sets}
 use Rattle.record.specs.Record.{nextOf, eventAt}
 use Rattle.record.proofs.Laws.{some}

@@ -18,11 +18,13 @@ use crate::scheme::{CallerCtx, SchemeId};
 use crate::sync::{CleanLockToken, RwLock};
 use crate::syscall::error::{Error, Result};
 
+mod alone;
 mod driver;
 mod host;
 mod submit;
 mod wake;
 
+pub use alone::Alone;
 use submit::Given;
 
 /// The limits that the kernel does not have.

@@ -1,0 +1,572 @@
+//! What events take on the layer and in the kernel's own code, in one process, in turns: each kind
+//! through the exported steps, and whole runs through the steps and through `tilgurap_run`.
+//! Both sides run on one thread, and on both the clock is read around each event; what reading it
+//! takes is taken off. No time of a thread's hand-over is in any ratio.
+
+use std::time::{Duration, Instant};
+
+use oracle::Oracle;
+use script::{Event, Payload};
+use tilgurap::Layer;
+
+const ROUNDS: usize = 101;
+const BATCHES: usize = 6;
+/// An event that takes longer, on either side, met something else that the machine did. It counts
+/// on neither side.
+const INTERRUPTED: Duration = Duration::from_micros(30);
+
+/// Nanoseconds of both sides, and how many events they were for.
+#[derive(Clone, Copy, Default)]
+struct Times {
+    rust: f64,
+    port: f64,
+    events: f64,
+}
+
+/// One kind of event: a batch of it on fresh sides, timed.
+struct Kind {
+    name: &'static str,
+    batch: fn(&mut Both),
+}
+
+/// Both sides, and their time so far.
+struct Both {
+    kernel: Oracle,
+    layer: Layer,
+    lent: Lent,
+    clock: f64,
+    times: Times,
+    interrupted: u64,
+}
+
+/// What reads and writes are lent.
+struct Lent {
+    out: Vec<u8>,
+    fx: Vec<u64>,
+}
+
+impl Lent {
+    fn new() -> Lent {
+        Lent {
+            out: vec![0; 8_192],
+            fx: vec![0; 54 * 16],
+        }
+    }
+}
+
+fn event(line: &str) -> Event {
+    Event::parse(line).expect("an event")
+}
+
+fn nanoseconds(time: Duration) -> f64 {
+    time.as_secs_f64() * 1e9
+}
+
+/// What reading the clock twice takes: the least of many.
+fn clock() -> f64 {
+    let reading = || nanoseconds(Instant::now().elapsed());
+    (0..100_000).map(|_| reading()).fold(f64::MAX, f64::min)
+}
+
+impl Both {
+    fn new(clock: f64) -> Both {
+        Both {
+            kernel: Oracle::new(7),
+            layer: Layer::new(7),
+            lent: Lent::new(),
+            clock,
+            times: Times::default(),
+            interrupted: 0,
+        }
+    }
+
+    /// Puts an event to both without the clock.
+    fn put(&mut self, event: &Event) {
+        let (rust, port) = (self.kernel.step(event), self.layer.step(event));
+        assert_eq!(rust, port, "{event}");
+    }
+
+    fn add(&mut self, rust: Duration, port: Duration) {
+        if rust.max(port) > INTERRUPTED {
+            self.interrupted += 1;
+            return;
+        }
+        self.times.rust += nanoseconds(rust) - self.clock;
+        self.times.port += nanoseconds(port) - self.clock;
+        self.times.events += 1.0;
+    }
+
+    /// An event that runs on the host's thread in the kernel's code, on both, by the clock.
+    fn time(&mut self, event: &Event) {
+        let (_, rust) = self.kernel.timed(event);
+        let port = timed(&mut self.layer, &mut self.lent, event);
+        self.add(rust, port);
+    }
+
+    /// A call with its two wakes and what its driver does. `which` of them count: its entry, the
+    /// wake for nothing, the wake for its reply.
+    fn call(&mut self, entry: &Event, which: [bool; 3]) {
+        let rust = self.kernel.alone(entry);
+        let parts = Parts::of(&mut self.layer, &mut self.lent, entry);
+        let rust = [rust.entered, rust.canceled, rust.handed];
+        for part in 0..3 {
+            if which[part] {
+                self.add(rust[part], parts.caller[part]);
+            }
+        }
+    }
+}
+
+/// The layer's own time for an event; what it is lent, and making a line of it, is left out.
+fn timed(layer: &mut Layer, lent: &mut Lent, event: &Event) -> Duration {
+    let start = Instant::now();
+    match event {
+        Event::Open { d } => drop(layer.open(*d)),
+        Event::Copy { d } => drop(layer.copy(*d)),
+        Event::Drop { d } => drop(layer.drop_one(*d)),
+        Event::Put { d, h } => drop(layer.put(*d, *h)),
+        Event::Ended { c } => drop(layer.ended(*c)),
+        Event::Reserve { c } => drop(layer.reserve(*c)),
+        Event::Submit {
+            tag,
+            c,
+            op,
+            fl,
+            args,
+            pid,
+            list,
+        } => drop(layer.submit(*tag, *c, *op, *fl, *args, *pid, list)),
+        Event::Call {
+            c,
+            op,
+            args,
+            uid,
+            gid,
+            pid,
+            list,
+        } => drop(layer.call(*c, *op, *args, *uid, *gid, *pid, list)),
+        Event::Generic(payload) => drop(layer.generic(payload)),
+        Event::Stdfs(payload) => drop(layer.stdfs(payload)),
+        Event::Fmap {
+            c,
+            id,
+            pages,
+            flags,
+            uid,
+            gid,
+            pid,
+        } => drop(layer.fmap(*c, *id, *pages, *flags, *uid, *gid, *pid)),
+        Event::Close { id } => drop(layer.close(*id)),
+        Event::Detach { id, pid } => drop(layer.detach(*id, *pid)),
+        Event::Wake {
+            tag,
+            c,
+            killed,
+            base,
+            count,
+        } => drop(layer.wake(*tag, *c, *killed, *base, *count)),
+        Event::Read { len, flags } => drop(layer.read(&mut lent.out[..*len as usize], *flags)),
+        Event::Write { bytes, .. } => drop(layer.write(&mut lent.fx, bytes)),
+        Event::Move { meta, list } => drop(layer.move_list(meta, list)),
+        Event::Obtain { meta } => drop(layer.obtain(meta)),
+        Event::Supply {
+            tag,
+            offset,
+            base,
+            count,
+        } => drop(layer.supply(*tag, *offset, *base, *count)),
+    }
+    start.elapsed()
+}
+
+/// The layer's time in the parts of a call.
+struct Parts {
+    caller: [Duration; 3],
+    driver: [Duration; 3],
+}
+
+/// The events of a call, as the oracle's `alone` has them: the driver reads the entry, the call is
+/// woken for nothing, the driver reads the Cancel and replies, the call is woken for its reply.
+fn events_of_call(entry: &Event, tag: u64, c: u32) -> [Event; 6] {
+    let wake = Event::Wake {
+        tag,
+        c,
+        killed: 0,
+        base: 0,
+        count: 0,
+    };
+    let read = Event::Read { len: 64, flags: 0 };
+    let mut bytes = vec![0; 16];
+    bytes[4] = tag as u8;
+    bytes[8] = 7;
+    let reply = Event::Write { words: 54, bytes };
+    [entry.clone(), read.clone(), wake.clone(), read, reply, wake]
+}
+
+fn caller(entry: &Event) -> u32 {
+    match entry {
+        Event::Submit { c, .. } | Event::Call { c, .. } => *c,
+        Event::Generic(payload) | Event::Stdfs(payload) => payload.c,
+        _ => panic!("{entry} enters no call"),
+    }
+}
+
+impl Parts {
+    fn of(layer: &mut Layer, lent: &mut Lent, entry: &Event) -> Parts {
+        let c = caller(entry);
+        // the slot that is vacant and comes next
+        let tag = match entry {
+            Event::Submit { tag, .. } => *tag,
+            _ => 0,
+        };
+        let events = events_of_call(entry, tag, c);
+        let [entered, read, canceled, again, replied, handed] =
+            events.map(|event| timed(layer, lent, &event));
+        Parts {
+            caller: [entered, canceled, handed],
+            driver: [read, again, replied],
+        }
+    }
+}
+
+const ENTERED: [bool; 3] = [true, false, false];
+
+fn call_line() -> Event {
+    event("call 100 6 1 2 3 4 5 6 7 8 9 0")
+}
+
+fn payload() -> Payload {
+    match event("generic 100 9 1 5 4096 64 3 1 2 3") {
+        Event::Generic(payload) => payload,
+        _ => unreachable!("it is one"),
+    }
+}
+
+fn reply(tags: std::ops::Range<u8>) -> Event {
+    let entry = |tag: u8| [0, 0, 0, 0, tag, 0, 0, 0, 7, 0, 0, 0, 0, 0, 0, 0];
+    Event::Write {
+        words: 54 * u64::from(tags.end - tags.start),
+        bytes: tags.flat_map(entry).collect(),
+    }
+}
+
+fn calls(both: &mut Both) {
+    for _ in 0..64 {
+        both.put(&call_line());
+    }
+    both.put(&event("read 4096 0"));
+}
+
+fn lists(both: &mut Both) {
+    calls(both);
+    both.put(&event("open 0"));
+    for _ in 1..64 {
+        both.put(&event("copy 0"));
+    }
+}
+
+const KINDS: [Kind; 17] = [
+    Kind {
+        name: "reserve",
+        batch: |both| (0..64).for_each(|_| both.time(&event("reserve 1"))),
+    },
+    Kind {
+        name: "submit",
+        batch: |both| {
+            for _ in 0..32 {
+                both.put(&event("reserve 100"));
+                both.call(&event("submit 0 100 6 0 1 2 3 4 5 6 9 0"), ENTERED);
+            }
+        },
+    },
+    Kind {
+        name: "call",
+        batch: |both| (0..32).for_each(|_| both.call(&call_line(), ENTERED)),
+    },
+    Kind {
+        name: "generic",
+        batch: |both| {
+            (0..32).for_each(|_| both.call(&Event::Generic(payload()), ENTERED));
+        },
+    },
+    Kind {
+        name: "stdfs",
+        batch: |both| {
+            (0..32).for_each(|_| both.call(&Event::Stdfs(payload()), ENTERED));
+        },
+    },
+    Kind {
+        name: "wake, still blocked",
+        batch: |both| {
+            (0..32).for_each(|_| both.call(&call_line(), [false, true, false]));
+        },
+    },
+    Kind {
+        name: "wake, reply",
+        batch: |both| {
+            (0..32).for_each(|_| both.call(&call_line(), [false, false, true]));
+        },
+    },
+    Kind {
+        name: "fmap",
+        batch: |both| (0..64).for_each(|_| both.time(&event("fmap 1 2 3 4 5 6 7"))),
+    },
+    Kind {
+        name: "supply",
+        batch: |both| {
+            (0..64).for_each(|_| both.put(&event("fmap 1 2 3 4 5 6 7")));
+            for tag in 0..64 {
+                both.time(&event(&format!("supply {tag} 0 4096 1")));
+            }
+        },
+    },
+    Kind {
+        name: "close",
+        batch: |both| (0..128).for_each(|_| both.time(&event("close 5"))),
+    },
+    Kind {
+        name: "detach",
+        batch: |both| (0..128).for_each(|_| both.time(&event("detach 5 9"))),
+    },
+    Kind {
+        name: "read, one entry",
+        batch: |both| {
+            (0..128).for_each(|_| both.put(&event("close 5")));
+            (0..128).for_each(|_| both.time(&event("read 64 0")));
+        },
+    },
+    Kind {
+        name: "read, 128 entries",
+        batch: |both| {
+            for _ in 0..4 {
+                (0..128).for_each(|_| both.put(&event("close 5")));
+                both.time(&event("read 8192 0"));
+            }
+        },
+    },
+    Kind {
+        name: "write, one reply",
+        batch: |both| {
+            calls(both);
+            (0..64).for_each(|tag| both.time(&reply(tag..tag + 1)));
+        },
+    },
+    Kind {
+        name: "write, 16 replies",
+        batch: |both| {
+            calls(both);
+            (0..4).for_each(|part| both.time(&reply(16 * part..16 * (part + 1))));
+        },
+    },
+    Kind {
+        name: "move, one description",
+        batch: |both| {
+            lists(both);
+            for tag in 0..64 {
+                both.time(&event(&format!("move 2 1 {tag} 1 0")));
+            }
+        },
+    },
+    Kind {
+        name: "obtain, one description",
+        batch: |both| {
+            lists(both);
+            for tag in 0..64 {
+                both.put(&event(&format!("move 2 1 {tag} 1 0")));
+            }
+            for tag in 0..64 {
+                both.time(&event(&format!("obtain 2 0 {tag}")));
+            }
+        },
+    },
+];
+
+/// The layer alone: what the Rust leaves to its host.
+const HOST: [(&str, &[&str]); 5] = [
+    ("open", &["open 0"]),
+    ("copy", &["open 0", "copy 0"]),
+    ("drop", &["open 0", "copy 0", "drop 0"]),
+    ("put", &["open 0", "put 0 0"]),
+    ("ended", &["ended 1"]),
+];
+
+/// A day of several kinds, again and again. A call's events stand together, as in `alone`.
+#[derive(Clone, Copy)]
+enum Piece {
+    Line(&'static str),
+    Call,
+}
+
+const RUNS: [(&str, &[Piece]); 4] = [
+    (
+        "closes, read one by one",
+        &[Piece::Line("close 5"), Piece::Line("read 64 0")],
+    ),
+    (
+        "map requests and supplies",
+        &[
+            Piece::Line("fmap 1 2 3 4 5 6 7"),
+            Piece::Line("read 64 0"),
+            Piece::Line("supply 0 0 4096 1"),
+        ],
+    ),
+    ("calls", &[Piece::Call]),
+    (
+        "a mixed day",
+        &[
+            Piece::Line("close 5"),
+            Piece::Line("detach 5 9"),
+            Piece::Line("read 128 0"),
+            Piece::Call,
+            Piece::Call,
+            Piece::Line("fmap 1 2 3 4 5 6 7"),
+            Piece::Line("read 64 0"),
+            Piece::Line("supply 0 0 4096 1"),
+            Piece::Line("write 54 02000000010000000900000000000000"),
+            Piece::Call,
+            Piece::Line("read 64 262144"),
+        ],
+    ),
+];
+/// A run has about so many events.
+const EVENTS: usize = 600;
+
+/// A run's time for an event on the three sides: the kernel's, the steps', the run's.
+struct Ran {
+    rust: f64,
+    steps: f64,
+    run: f64,
+    events: usize,
+    interrupted: u64,
+}
+
+fn run(pieces: &[Piece], clock: f64) -> Ran {
+    let mut both = Both::new(clock);
+    let mut events = Vec::new();
+    while events.len() < EVENTS {
+        for piece in pieces {
+            match piece {
+                Piece::Line(line) => {
+                    let event = event(line);
+                    both.time(&event);
+                    events.push(event);
+                }
+                Piece::Call => {
+                    let entry = call_line();
+                    let rust = both.kernel.alone(&entry);
+                    let port = Parts::of(&mut both.layer, &mut both.lent, &entry);
+                    let rust = [rust.entered, rust.canceled, rust.handed]
+                        .into_iter()
+                        .chain(rust.driver);
+                    let port = port.caller.into_iter().chain(port.driver);
+                    rust.zip(port).for_each(|(rust, port)| both.add(rust, port));
+                    events.extend(events_of_call(&entry, 0, caller(&entry)));
+                }
+            }
+        }
+    }
+    let bytes: Vec<u8> = (events.iter())
+        .flat_map(|event| event.encode().expect("a record"))
+        .collect();
+    let mut out = vec![0; 1_608 + events.len() * (192 + 27 * 16 + 128)];
+    let start = Instant::now();
+    let end = tilgurap::run(7, &bytes, &mut out, &mut [0; 54]);
+    let run = nanoseconds(start.elapsed());
+    assert_eq!((end.number, end.place), (0, bytes.len() as u64));
+    Ran {
+        rust: both.times.rust / both.times.events,
+        steps: both.times.port / both.times.events,
+        run: run / events.len() as f64,
+        events: events.len(),
+        interrupted: both.interrupted,
+    }
+}
+
+/// The median, and the tenth and the ninetieth of a hundred.
+fn spread(mut values: Vec<f64>) -> (f64, f64, f64) {
+    values.sort_by(f64::total_cmp);
+    let at = |of_100: usize| values[(values.len() - 1) * of_100 / 100];
+    (at(50), at(10), at(90))
+}
+
+fn ratio(values: Vec<f64>) -> String {
+    let (median, low, high) = spread(values);
+    format!("{median:6.2} ({low:.2} to {high:.2})")
+}
+
+fn main() {
+    let clock = clock();
+    println!("reading the clock twice: {clock:.0} ns, taken off each event on both sides");
+    let count = 20_000;
+    let over = nanoseconds(oracle::hand_overs(count)) / f64::from(count);
+    println!("a thread's hand-over, there and back: {over:.0} ns, in no figure below\n");
+
+    println!("| event, through its exported step | Rust ns | port ns | port / Rust |");
+    println!("|---|---|---|---|");
+    let mut interrupted = 0;
+    let mut kinds = vec![Vec::new(); KINDS.len()];
+    for _ in 0..ROUNDS {
+        for (kind, rounds) in KINDS.iter().zip(&mut kinds) {
+            let mut times = Times::default();
+            for _ in 0..BATCHES {
+                let mut both = Both::new(clock);
+                (kind.batch)(&mut both);
+                times.rust += both.times.rust;
+                times.port += both.times.port;
+                times.events += both.times.events;
+                interrupted += both.interrupted;
+            }
+            rounds.push(times);
+        }
+    }
+    for (kind, rounds) in KINDS.iter().zip(kinds) {
+        let of = |of: fn(&Times) -> f64| spread(rounds.iter().map(of).collect()).0;
+        println!(
+            "| {} | {:.0} | {:.0} | {} |",
+            kind.name,
+            of(|times| times.rust / times.events),
+            of(|times| times.port / times.events),
+            ratio(rounds.iter().map(|times| times.port / times.rust).collect())
+        );
+    }
+
+    println!("\n| host's event, the layer alone | port ns |");
+    println!("|---|---|");
+    for (name, lines) in HOST {
+        let (mut rounds, mut lent) = (Vec::new(), Lent::new());
+        for _ in 0..ROUNDS {
+            let mut spent = 0.0;
+            for _ in 0..64 {
+                let mut layer = Layer::new(7);
+                let (last, before) = lines.split_last().expect("an event");
+                before
+                    .iter()
+                    .for_each(|line| drop(layer.step(&event(line))));
+                spent += nanoseconds(timed(&mut layer, &mut lent, &event(last))) - clock;
+            }
+            rounds.push(spent / 64.0);
+        }
+        println!("| {name} | {:.0} |", spread(rounds).0);
+    }
+
+    println!("\n| run | events | Rust ns an event | steps / Rust | `tilgurap_run` / Rust |");
+    println!("|---|---|---|---|---|");
+    let mut runs: Vec<Vec<Ran>> = RUNS.iter().map(|_| Vec::new()).collect();
+    for _ in 0..ROUNDS {
+        for ((_, pieces), rounds) in RUNS.iter().zip(&mut runs) {
+            rounds.push(run(pieces, clock));
+        }
+    }
+    for ((name, _), rounds) in RUNS.iter().zip(runs) {
+        let events = rounds[0].events;
+        interrupted += rounds.iter().map(|ran| ran.interrupted).sum::<u64>();
+        let rust = rounds.iter().map(|ran| ran.rust);
+        println!(
+            "| {name} | {events} | {:.0} | {} | {} |",
+            spread(rust.collect()).0,
+            ratio(rounds.iter().map(|ran| ran.steps / ran.rust).collect()),
+            ratio(rounds.iter().map(|ran| ran.run / ran.rust).collect())
+        );
+    }
+    println!("\n{interrupted} events were interrupted and count on neither side");
+}

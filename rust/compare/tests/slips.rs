@@ -1,0 +1,301 @@
+//! Slips put into the layer by hand, one at a time: does the comparison find each, and make its
+//! script short? A slip changes what the layer is asked, what it answers or the state that it
+//! leaves, around the proved code; the proved code itself stays as it is.
+
+use compare::beside::difference;
+use compare::counts::Counts;
+use compare::port::Port;
+use compare::runs;
+use script::{Answer, Event, Line, Phase};
+use tilgurap::Layer;
+use tilgurap::parts::Slot;
+
+/// The event is answered by the slip and never reaches the layer, unless it says nothing.
+type Before = fn(&mut Layer, &Event) -> Option<Line>;
+/// What comes after: the layer before the event, and now.
+type After = fn(&Layer, &mut Layer, &Event, &mut Line);
+
+#[derive(Clone, Copy)]
+struct Slip {
+    name: &'static str,
+    before: Before,
+    after: After,
+    /// The script that shows it has at most so many events.
+    most: usize,
+}
+
+struct Slipped {
+    layer: Layer,
+    slip: Slip,
+}
+
+impl Port for Slipped {
+    fn step(&mut self, event: &Event) -> Result<Line, String> {
+        let before = self.layer.clone();
+        if let Some(line) = (self.slip.before)(&mut self.layer, event) {
+            return Ok(line);
+        }
+        let mut line = Port::step(&mut self.layer, event)?;
+        (self.slip.after)(&before, &mut self.layer, event, &mut line);
+        Ok(line)
+    }
+
+    fn layer(&self) -> &Layer {
+        &self.layer
+    }
+}
+
+fn slot(layer: &mut Layer, tag: u64) -> &mut Slot {
+    &mut layer.parts_mut().table.slots[tag as usize]
+}
+
+fn occupied(layer: &Layer) -> usize {
+    let slots = layer.state().slots;
+    slots.iter().filter(|p| **p != Phase::Vacant).count()
+}
+
+const NOT_BEFORE: Before = |_, _| None;
+const NOT_AFTER: After = |_, _, _, _| {};
+
+const SLIPS: [Slip; 16] = [
+    Slip {
+        name: "a killed wake vacates the slot",
+        before: NOT_BEFORE,
+        after: |_, layer, event, line| {
+            if let (Event::Wake { tag, .. }, Answer::No(4)) = (event, &line.answer) {
+                let table = &mut layer.parts_mut().table;
+                table.slots[*tag as usize].state = 0;
+                table.next[*tag as usize] = table.head;
+                table.head = *tag as u8;
+            }
+        },
+        most: 2,
+    },
+    Slip {
+        name: "a reply to a Responded slot is accepted",
+        before: |layer, event| {
+            if let Event::Write { .. } = event {
+                for slot in &mut layer.parts_mut().table.slots {
+                    slot.state = if slot.state == 3 { 2 } else { slot.state };
+                }
+            }
+            None
+        },
+        after: |before, layer, event, _| {
+            // those that had no reply now are Responded again
+            if let Event::Write { .. } = event {
+                for tag in 0..64 {
+                    let was = before.parts().table.slots[tag];
+                    let now = slot(layer, tag as u64);
+                    if was.state == 3 && now.state == 2 {
+                        *now = was;
+                    }
+                }
+            }
+        },
+        most: 3,
+    },
+    Slip {
+        name: "the slot vacated first is given out first",
+        before: NOT_BEFORE,
+        after: |before, layer, _, _| {
+            let (old, table) = (before.parts().table.head, &mut layer.parts_mut().table);
+            // a slot came to the front of one that had been vacated before
+            let (first, second) = (usize::from(table.head), usize::from(old));
+            if table.head != old && first < 64 && second < 64 && table.next[first] == old {
+                table.next[first] = table.next[second];
+                table.next[second] = first as u8;
+                table.head = old;
+            }
+        },
+        most: 5,
+    },
+    Slip {
+        name: "the last byte of a second entry read is another",
+        before: NOT_BEFORE,
+        after: |_, _, event, line| {
+            if let Event::Read { .. } = event
+                && line.bytes.len() >= 128
+            {
+                line.bytes[127] ^= 1;
+            }
+        },
+        most: 3,
+    },
+    Slip {
+        name: "no unmap where closes follow",
+        before: NOT_BEFORE,
+        after: |_, _, _, line| {
+            if line.effects.iter().any(|effect| effect.kind == 3) {
+                line.effects.retain(|effect| effect.kind != 2);
+            }
+        },
+        most: 5,
+    },
+    Slip {
+        name: "closes before the wake",
+        before: NOT_BEFORE,
+        after: |_, _, _, line| line.effects.sort_by_key(|effect| effect.kind != 3),
+        most: 3,
+    },
+    Slip {
+        name: "a move of 16 counts 15",
+        before: NOT_BEFORE,
+        after: |_, _, event, line| {
+            if let (Event::Move { .. }, Answer::Ok(16)) = (event, &line.answer) {
+                line.answer = Answer::Ok(15);
+            }
+        },
+        most: 18,
+    },
+    Slip {
+        name: "the third of a list is lost",
+        before: NOT_BEFORE,
+        after: |_, layer, event, line| {
+            if let (Event::Call { list, .. }, Answer::Ok(tag)) = (event, &line.answer)
+                && list.len() == 3
+            {
+                slot(layer, *tag).fds.len = 2;
+            }
+        },
+        most: 7,
+    },
+    Slip {
+        name: "EINTR of a call that nobody cancels stays EINTR",
+        before: NOT_BEFORE,
+        after: |before, layer, event, _| {
+            if let Event::Write { bytes, .. } = event {
+                for entry in bytes.chunks_exact(16) {
+                    let tag = u64::from(entry[4]);
+                    if tag < 64
+                        && matches!(entry[0] % 8, 0 | 5)
+                        && entry[8..12] == [0xfc, 0xff, 0xff, 0xff]
+                        && before.state().slots[tag as usize] == Phase::Waiting
+                        && slot(layer, tag).reply.word == 5
+                    {
+                        slot(layer, tag).reply.word = 4;
+                    }
+                }
+            }
+        },
+        most: 3,
+    },
+    Slip {
+        name: "202 one slot early",
+        before: |layer, event| match event {
+            Event::Reserve { .. } if occupied(layer) == 63 => Some(Line::answer(Answer::No(202))),
+            _ => None,
+        },
+        after: NOT_AFTER,
+        most: 64,
+    },
+    Slip {
+        name: "203 one entry early",
+        before: |layer, event| match event {
+            Event::Detach { .. } if layer.state().queue == 127 => {
+                Some(Line::answer(Answer::No(203)))
+            }
+            _ => None,
+        },
+        after: NOT_AFTER,
+        most: 135,
+    },
+    Slip {
+        name: "a Cancel for each wake",
+        before: NOT_BEFORE,
+        after: |_, layer, event, line| {
+            if let (Event::Wake { tag, .. }, Answer::Blocked) = (event, &line.answer) {
+                slot(layer, *tag).canceling = false;
+            }
+        },
+        most: 3,
+    },
+    Slip {
+        name: "an ended caller's later slots are not marked",
+        before: NOT_BEFORE,
+        after: |_, layer, event, _| {
+            if let Event::Ended { c } = event {
+                let slots = layer.parts_mut().table.slots.iter_mut();
+                let own = slots.filter(|slot| slot.state != 0 && slot.caller == *c);
+                own.skip(1).for_each(|slot| slot.ended = false);
+            }
+        },
+        most: 4,
+    },
+    Slip {
+        name: "the first page of a span is lost",
+        before: NOT_BEFORE,
+        after: |_, layer, event, line| {
+            if let (Event::Wake { tag, .. }, Answer::No(4)) = (event, &line.answer) {
+                slot(layer, *tag).span.base = 0;
+            }
+        },
+        most: 3,
+    },
+    Slip {
+        name: "a word too few is lent and taken",
+        before: |layer, event| match event {
+            Event::Write { words, bytes } if words + 1 == 54 * (bytes.len() as u64 / 16) => {
+                Some(layer.write_line(&mut vec![0; *words as usize + 1], bytes))
+            }
+            _ => None,
+        },
+        after: NOT_AFTER,
+        most: 1,
+    },
+    Slip {
+        name: "a refused submit takes its list",
+        before: NOT_BEFORE,
+        after: |_, layer, event, line| {
+            if let (Event::Submit { list, .. }, Answer::No(201)) = (event, &line.answer)
+                && let Some(d) = list.first()
+            {
+                layer.drop_one(*d);
+            }
+        },
+        most: 2,
+    },
+];
+
+#[test]
+fn each_slip_is_found_and_its_script_is_short() {
+    let mut long = Vec::new();
+    for slip in SLIPS {
+        let fresh = |scheme| Slipped {
+            layer: Layer::new(scheme),
+            slip,
+        };
+        let counts = &mut Counts::default();
+        let found = (0..400).find_map(|seed| runs::compare(seed, 400, &fresh, counts).err());
+        let Some(found) = found else {
+            panic!("{}: not found in {} events", slip.name, counts.compared);
+        };
+        println!(
+            "{}: seed {}, event {}\n{}{}\n",
+            slip.name, found.seed, found.place, found.script, found.what
+        );
+        assert!(difference(&found.script, &fresh).is_some(), "{}", slip.name);
+        assert_eq!(
+            difference(&found.script, &Layer::new),
+            None,
+            "{}",
+            slip.name
+        );
+        if found.script.events.len() > slip.most {
+            long.push((slip.name, found.script.to_string()));
+        }
+    }
+    assert!(long.is_empty(), "{long:?}");
+}
+
+/// The same runs with no slip.
+#[test]
+fn without_a_slip_there_is_no_difference() {
+    let counts = &mut Counts::default();
+    for seed in 0..40 {
+        let found = runs::compare(seed, 400, &Layer::new, counts).err();
+        assert!(found.is_none(), "seed {seed}");
+    }
+    assert!(100 * counts.compared > 70 * (counts.compared + counts.skipped));
+    assert!(counts.known > 0);
+}

@@ -1,0 +1,143 @@
+//! The program: where a script comes from, what it prints, and what a mistake in it gets.
+
+use std::io::Write;
+use std::process::{Command, Output, Stdio};
+
+fn run(args: &[&str], input: &[u8]) -> Output {
+    let mut child = Command::new(env!("CARGO_BIN_EXE_driver"))
+        .args(args)
+        .stdin(Stdio::piped())
+        .stdout(Stdio::piped())
+        .stderr(Stdio::piped())
+        .spawn()
+        .expect("the program starts");
+    let mut stdin = child.stdin.take().expect("its input");
+    // it may end without reading
+    let _ = stdin.write_all(input);
+    drop(stdin);
+    child.wait_with_output().expect("the program ends")
+}
+
+fn text(bytes: &[u8]) -> &str {
+    std::str::from_utf8(bytes).expect("text")
+}
+
+/// A killed call keeps its slot until its driver has replied, so the next call gets another one.
+const ACCIDENT: &str = "scheme 7
+call 100 6 1 2 3 4 5 0 0 0 100 0
+read 64 0
+wake 0 100 1 0 0
+call 200 6 9 0 0 0 0 0 0 0 200 0
+write 54 00000000000000000000000000000000
+wake 0 200 0 0 0
+wake 1 200 0 0 0
+";
+
+#[test]
+fn the_accident() {
+    let zeros = " 0".repeat(64);
+    let wanted = format!(
+        "ok 0 ; E 5 7 1
+ok 64 ; B 06000000000000000100000000000000020000000000000003000000000000000400000000000000050000000000000000000000000000006400000000000000
+no 4
+ok 1 ; E 5 7 1
+ok 16 ; E 1 100 0
+no 201
+blocked ; E 5 7 1
+state slots rw{} queue 2 holds{zeros} outside{zeros} handles{} status 0 0 2 1 1 1 0 0
+",
+        "v".repeat(62),
+        " -".repeat(64)
+    );
+    for args in [&["replay"][..], &["replay", "-"]] {
+        let output = run(args, ACCIDENT.as_bytes());
+        assert_eq!(text(&output.stdout), wanted);
+        assert_eq!(output.status.code(), Some(0));
+        assert!(output.stderr.is_empty());
+    }
+}
+
+#[test]
+fn a_script_from_a_file() {
+    let file = concat!(
+        env!("CARGO_MANIFEST_DIR"),
+        "/../oracle/tests/scripts/accident.script"
+    );
+    let (from_file, from_input) = (
+        run(&["replay", file], b""),
+        run(&["replay"], ACCIDENT.as_bytes()),
+    );
+    assert_eq!(from_file.status.code(), Some(0));
+    assert_eq!(text(&from_file.stdout), text(&from_input.stdout));
+}
+
+/// Each kind of line, with a field missing, and with one too many.
+#[test]
+fn a_mistake_on_each_kind_of_line() {
+    for good in [
+        "open 1",
+        "copy 1",
+        "drop 1",
+        "put 1 2",
+        "ended 1",
+        "reserve 1",
+        "submit 0 1 3 0 1 2 3 4 5 6 7 1 0",
+        "call 1 6 1 2 3 4 5 6 7 8 9 1 0",
+        "generic 1 2 1 3 4096 5 1 6",
+        "stdfs 1 2 1 3 4096 5 1 6",
+        "fmap 1 2 3 4 5 6 7",
+        "close 1",
+        "detach 1 2",
+        "wake 0 1 0 2 3",
+        "read 64 0",
+        "write 54 00",
+        "move 1 1 1 5",
+        "obtain 1 0",
+        "supply 0 0 4096 1",
+    ] {
+        let (kind, _) = good.split_once(' ').expect("a kind and its fields");
+        let (cut, _) = good.rsplit_once(' ').expect("a last field");
+        for (bad, what) in [
+            (cut.to_owned(), " is missing\n"),
+            (format!("{good} 1"), "spare field `1`\n"),
+            (good.replacen(' ', " x", 1), " is no decimal number\n"),
+            (good.replacen(kind, "shut", 1), "unknown event `shut`\n"),
+        ] {
+            let script = format!("scheme 7\n# a comment\n{good}\n{bad}\nopen 1\n");
+            let output = run(&["replay"], script.as_bytes());
+            let message = text(&output.stderr);
+            assert!(
+                message.starts_with("standard input: line 4: "),
+                "{bad}: {message}"
+            );
+            assert!(message.ends_with(what), "{bad}: {message}");
+            assert_eq!(output.status.code(), Some(2), "{bad}");
+            assert!(output.stdout.is_empty(), "{bad}");
+        }
+        let output = run(&["replay"], format!("scheme 7\n{good}\n").as_bytes());
+        assert_eq!(output.status.code(), Some(0), "{good}");
+    }
+}
+
+#[test]
+fn no_script() {
+    for (script, message) in [
+        (&b""[..], "standard input: line 1: `scheme N` is missing\n"),
+        (
+            b"scheme 7\nopen \xff\n",
+            "standard input: line 2: a byte that is no text\n",
+        ),
+    ] {
+        let output = run(&["replay"], script);
+        assert_eq!(text(&output.stderr), message);
+        assert_eq!(output.status.code(), Some(2));
+    }
+    let output = run(&["replay", "no/such.script"], b"");
+    assert!(text(&output.stderr).starts_with("no/such.script: "));
+    assert_eq!(output.status.code(), Some(2));
+    for args in [&[][..], &["play"], &["replay", "a", "b"]] {
+        let output = run(args, b"");
+        assert_eq!(text(&output.stderr), "usage: driver replay [FILE]\n");
+        assert_eq!(output.status.code(), Some(2));
+    }
+}
