@@ -1,5 +1,5 @@
 -- The loops' laws, and what it means that a run is as recorded. Assumes nothing.
-use Prim.Native.Nat.{ℕ, suc, _+_, _*_, _%_, _<_, _≤_}
+use Prim.Native.Nat.{ℕ, suc, _+_, _-_, _*_, _%_, _<_, _≤_}
 use mathlib.Core.Path.{_≡_, refl, sym, ap, ap₂, _∙_}
 use mathlib.Core.Bool.{Bool, true, false, cond, true≢false, _&&_}
 use mathlib.Core.List.{List, [], _∷_}
@@ -7,7 +7,7 @@ use native.Mathlib.Omega.{arith}
 use native.Mathlib.Numerals.{add-one}
 use lib.Dec.{eqb, leb}
 use lib.ListN.{length, getD, take, drop, length-drop, drop-of-length-le}
-use lib.Seq.{sets, sets-eq, take-at, drop-cons, drop-drop}
+use lib.Seq.{sets, sets-eq, take-all, take-at, length-take-le, drop-cons, drop-drop}
 use borrow.Author.Tests.{eq-eqb, ne-eqb, eqb-true}
 use Rattle.record.specs.Record.{nextOf, eventAt, Decoded, stops, before, decoded}
 use Rattle.record.proofs.Laws.{next-there, walk-ends, walk-goes-on}
@@ -15,6 +15,13 @@ use Rattle.run.specs.declared.RunEnd.{RunEnd}
 use Rattle.run.specs.Run.{runOf, needed, outputOf, wholeEnd, endOf, outAfter}
 use Rattle.recorded.specs.declared.Compared.{Compared}
 use Rattle.recorded.specs.Recorded.{checkOf, sameOf, writtenOf, comparedOf, asRecordedOf, Recorded}
+
+-- the part of a list from a place on, and a front that is there
+pub part-is : (bs : List ℕ) (k : ℕ) → take (length bs - k) (drop k bs) ≡ drop k bs
+part-is bs k = take-all (length bs - k) (drop k bs) (omega (arith, length-drop k bs))
+
+pub front-length : (l : List ℕ) (n : ℕ) → n ≤ length l → n ≡ length (take n l)
+front-length l n h = sym (length-take-le n l h)
 
 -- the check number, a byte more and at the end
 pub check-on : (bs : List ℕ) (i c : ℕ) → i < length bs → checkOf ((c * 256 + getD bs i 0) % 4_294_967_291) (drop (i + 1) bs) ≡ checkOf c (drop i bs)

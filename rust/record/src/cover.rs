@@ -1,5 +1,5 @@
 //! What the recorded runs cover: how often each event got each answer, each kind of completion
-//! entry its own, and each of them by the phase of its slot.
+//! entry its own, each of them by the phase of its slot, and each of 01's own refusals each event.
 
 use std::collections::BTreeMap;
 use std::fmt::{self, Display, Formatter};
@@ -109,6 +109,26 @@ const BY_PHASE: [(&str, [&[&str]; 5]); 10] = [
             &["ok", "no 3"],
         ],
     ),
+];
+
+/// The events that 01 refuses by its own numbers, 207 apart.
+const LIMITS: [(&str, &[&str]); 6] = [
+    ("no 201", &["submit", "wake"]),
+    ("no 202", &["reserve", "call", "generic", "stdfs", "fmap"]),
+    (
+        "no 203",
+        &[
+            "submit", "call", "generic", "stdfs", "fmap", "close", "detach", "wake",
+        ],
+    ),
+    ("no 204", &["write"]),
+    (
+        "no 205",
+        &[
+            "open", "copy", "drop", "put", "submit", "call", "move", "wake",
+        ],
+    ),
+    ("no 206", &["submit", "call", "move"]),
 ];
 
 /// The bits of an obtain entry's extra bytes that have a name (syscall/src/flag.rs).
@@ -255,6 +275,7 @@ pub struct Cover {
     events: Counts,
     entries: Counts,
     phases: Counts,
+    limits: Counts,
     /// By kind.
     effects: BTreeMap<u64, u64>,
 }
@@ -289,27 +310,35 @@ impl Cover {
         }
     }
 
-    fn tables(&self) -> [(&Counts, Table); 3] {
+    /// An event of 01's own list, and what it answers there.
+    pub fn add_limit(&mut self, event: &Event, line: &Line) {
+        if let Answer::No(201..=207) = line.answer {
+            self.limits.add(&answer(event, line), kind(event));
+        }
+    }
+
+    fn tables(&self) -> [(&Counts, Table); 4] {
         [
             (&self.events, plain(&ANSWERS)),
             (&self.entries, plain(&ENTRY_ANSWERS)),
             (&self.phases, by_phase()),
+            (&self.limits, plain(&LIMITS)),
         ]
     }
 
-    /// Was every answer that the kernel has recorded, and no other?
+    /// Was everything recorded that the tables have, and nothing else?
     pub fn complete(&self) -> Result<(), String> {
         for (counts, table) in self.tables() {
             for (row, answers) in &counts.0 {
                 let wanted = table.iter().find(|(name, _)| name == row);
                 let wanted = wanted.map_or(&[][..], |(_, answers)| *answers);
                 if let Some(other) = answers.keys().find(|a| !wanted.contains(&a.as_str())) {
-                    return Err(format!("{row}: answered {other}, which is in no table"));
+                    return Err(format!("{row}: `{other}` is recorded and in no table"));
                 }
             }
             for (row, answers) in &table {
                 if let Some(missing) = answers.iter().find(|a| counts.count(row, a) == 0) {
-                    return Err(format!("{row}: no answer {missing} is recorded"));
+                    return Err(format!("{row}: no `{missing}` is recorded"));
                 }
             }
         }
@@ -335,5 +364,55 @@ impl Display for Cover {
         let effects = self.effects.iter();
         let effects: Vec<String> = effects.map(|(kind, n)| format!("{kind}: {n}")).collect();
         writeln!(f, "| effects, by kind | {} |", effects.join("; "))
+    }
+}
+
+#[cfg(test)]
+mod tests {
+    use super::*;
+
+    fn added(cover: &mut Cover, event: &str, before: &State, line: &str) {
+        let event = Event::parse(event).unwrap();
+        cover.add(&event, before, &Line::parse(line).unwrap());
+    }
+
+    #[test]
+    fn a_missing_answer_and_one_too_many() {
+        let mut cover = Cover::default();
+        let what = cover.complete().unwrap_err();
+        assert_eq!(what, "open: no `ok` is recorded");
+        added(&mut cover, "open 1", &State::fresh(), "no 77");
+        let what = cover.complete().unwrap_err();
+        assert_eq!(what, "open: `no 77` is recorded and in no table");
+    }
+
+    #[test]
+    fn rows() {
+        let mut cover = Cover::default();
+        let mut before = State::fresh();
+        before.slots[1] = Phase::Waiting;
+        added(&mut cover, "wake 1 100 0 0 0", &before, "blocked ; E 5 7 1");
+        added(&mut cover, "wake 64 100 0 0 0", &before, "no 77");
+        let (reply, bad) = (
+            "00000000010000000000000000000000",
+            "06000000000000000000000000000000",
+        );
+        let write = format!("write 162 {reply}{bad}{reply}");
+        added(&mut cover, &write, &before, "ok 16 ; E 1 100 1");
+        assert_eq!(cover.recorded, 3);
+        assert_eq!(cover.events.count("wake", "blocked, Cancel queued"), 1);
+        assert_eq!(
+            cover
+                .phases
+                .count("wake, Waiting", "blocked, Cancel queued"),
+            1
+        );
+        assert_eq!(cover.phases.count("wake, Vacant", "no 77"), 1);
+        assert_eq!(cover.phases.count("entry of kind 0, Waiting", "ok"), 1);
+        assert_eq!(cover.entries.count("kind 0", "taken"), 1);
+        assert_eq!(cover.entries.count("kind 6, 7", "refused later"), 1);
+        // the third entry is not read
+        assert_eq!(cover.entries.0.values().flatten().count(), 2);
+        assert_eq!(cover.effects[&5] + cover.effects[&1], 2);
     }
 }

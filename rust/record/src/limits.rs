@@ -1,11 +1,13 @@
 //! 01's own refusals, which the kernel does not have: scripts with the lines that 01 asks for,
-//! written by hand behind `#= `. They are encoded as they stand; nothing here runs them.
+//! written by hand behind `#= `. They are encoded as they stand.
 
 use std::path::Path;
 
-use script::{Line, Phase, State};
+use oracle::Oracle;
+use script::{Answer, Event, Line, Phase, State};
 
 use crate::Outcome;
+use crate::cover::Cover;
 use crate::file::{File, Run};
 use crate::scripts::{parse, paths};
 
@@ -42,31 +44,59 @@ fn state(text: &str) -> Outcome<State> {
     Ok(state)
 }
 
-/// A script and its lines as a run: a line for each event, then the state.
-fn run(path: &Path) -> Outcome<Run> {
-    let (text, script) = parse(path)?;
-    let mut wanted = text.lines().filter_map(|line| line.strip_prefix("#= "));
-    let mut run = Run::new(script.scheme);
-    for event in &script.events {
-        let line = wanted.next().ok_or("a line is missing")?;
-        let line = Line::parse(line).map_err(|what| format!("{event}: {what}"))?;
-        if !Run::takes(event) || !run.has_room(event) {
-            return Err(format!("{event}: no room").into());
+/// Does the kernel skip what 01 alone refuses, and answer the same to all else?
+fn beside_the_kernel(scheme: u64, lines: &[(Event, Line)], state: &State) -> Outcome<()> {
+    let mut oracle = Oracle::new(scheme);
+    for (event, line) in lines {
+        let found = oracle.step(event);
+        let same = match line.answer {
+            Answer::No(201..=207) => found.answer == Answer::Skip,
+            _ => found == *line,
+        };
+        if !same {
+            return Err(format!("{event}: {line}, and the kernel: {found}").into());
         }
-        run.add(event, &line)?;
     }
-    let last = wanted.next().and_then(|line| line.strip_prefix("state "));
-    run.end(&state(last.ok_or("the state is missing")?)?)?;
-    match wanted.next() {
-        None => Ok(run),
-        Some(line) => Err(format!("`{line}` follows the state").into()),
+    match oracle.state() == *state {
+        true => Ok(()),
+        false => Err(format!("{state}, and the kernel: {}", oracle.state()).into()),
     }
 }
 
-pub fn encoded(folder: &Path) -> Outcome<File> {
+/// A script and its lines as a run: a line for each event, then the state. In those that are named
+/// by a refusal's number the kernel answers the rest; the others are about where it differs.
+fn run(path: &Path, cover: &mut Cover) -> Outcome<Run> {
+    let (text, script) = parse(path)?;
+    let mut wanted = text.lines().filter_map(|line| line.strip_prefix("#= "));
+    let mut run = Run::new(script.scheme);
+    let mut lines = Vec::new();
+    for event in script.events {
+        let line = wanted.next().ok_or("a line is missing")?;
+        let line = Line::parse(line).map_err(|what| format!("{event}: {what}"))?;
+        if !Run::takes(&event) || !run.has_room(&event) {
+            return Err(format!("{event}: no room").into());
+        }
+        run.add(&event, &line)?;
+        cover.add_limit(&event, &line);
+        lines.push((event, line));
+    }
+    let last = wanted.next().and_then(|line| line.strip_prefix("state "));
+    let last = state(last.ok_or("the state is missing")?)?;
+    run.end(&last)?;
+    if let Some(line) = wanted.next() {
+        return Err(format!("`{line}` follows the state").into());
+    }
+    let name = path.file_stem().and_then(|name| name.to_str());
+    if name.is_some_and(|name| name.starts_with("20")) {
+        beside_the_kernel(script.scheme, &lines, &last)?;
+    }
+    Ok(run)
+}
+
+pub fn encoded(folder: &Path, cover: &mut Cover) -> Outcome<File> {
     let mut file = File::default();
     for path in paths(folder)? {
-        file.add(run(&path).map_err(|what| format!("{}: {what}", path.display()))?);
+        file.add(run(&path, cover).map_err(|what| format!("{}: {what}", path.display()))?);
     }
     Ok(file)
 }

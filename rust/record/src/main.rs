@@ -1,5 +1,6 @@
-//! `record [FOLDER]`: makes data/ and stdout of the program `recorded` in FOLDER, crates/recorded
-//! where none is named, and prints what the runs cover. docs/RECORDED.md has the whole.
+//! `record [--check] [FOLDER]`: makes data/ and stdout of the program `recorded` in FOLDER,
+//! crates/recorded where none is named, and prints what the runs cover. With `--check` it writes
+//! nothing and says which files are not as it would make them. docs/RECORDED.md has the whole.
 
 use std::error::Error;
 use std::fs;
@@ -25,7 +26,8 @@ fn repository(folder: &str) -> PathBuf {
         .join(folder)
 }
 
-fn record(folder: &Path) -> Outcome<()> {
+/// The files' names and bytes; prints what the runs cover.
+fn record() -> Outcome<Vec<(String, Vec<u8>)>> {
     let mut cover = Cover::default();
     let mut scripts = File::default();
     for scripts_in in ["rust/oracle/tests/scripts", "tests/recorded/scripts"] {
@@ -33,38 +35,64 @@ fn record(folder: &Path) -> Outcome<()> {
     }
     let mut drawn = File::default();
     drawn::record(&mut drawn, &mut cover)?;
+    let limits_in = repository("tests/recorded/limits");
+    let limits = limits::encoded(&limits_in, &mut cover)?;
     print!("{cover}");
     cover.complete()?;
-    let limits_in = repository("tests/recorded/limits");
-    let limits = limits::encoded(&limits_in)?;
 
+    let mut files = Vec::new();
     let mut printed = String::new();
-    fs::create_dir_all(folder.join("data"))?;
     for (name, file) in [
         ("rust_scripts", scripts),
         ("rust_drawn", drawn),
         ("limits_of_01", limits),
     ] {
-        fs::write(folder.join("data").join(name), file.bytes())?;
+        files.push((format!("data/{name}"), file.bytes()));
         printed += &file.line(name);
     }
     print!("{printed}");
     printed += &fs::read_to_string(limits_in.join("207.printed"))?;
-    fs::write(folder.join("stdout"), printed)?;
+    files.push(("stdout".to_owned(), printed.into_bytes()));
+    Ok(files)
+}
+
+fn check(folder: &Path, files: &[(String, Vec<u8>)]) -> Outcome<()> {
+    let differs = |(name, bytes): &&(String, Vec<u8>)| {
+        fs::read(folder.join(name)).map_or(true, |found| found != *bytes)
+    };
+    match files.iter().find(differs) {
+        None => Ok(()),
+        Some((name, _)) => Err(format!("{}: not as made", folder.join(name).display()).into()),
+    }
+}
+
+fn write(folder: &Path, files: &[(String, Vec<u8>)]) -> Outcome<()> {
+    fs::create_dir_all(folder.join("data"))?;
+    for (name, bytes) in files {
+        fs::write(folder.join(name), bytes)?;
+    }
     Ok(())
 }
 
 fn main() -> ExitCode {
-    let args: Vec<String> = std::env::args().skip(1).collect();
+    let mut args: Vec<String> = std::env::args().skip(1).collect();
+    let only_check = args.first().is_some_and(|arg| arg == "--check");
+    if only_check {
+        args.remove(0);
+    }
     let folder = match &args[..] {
         [] => repository("crates/recorded"),
-        [folder] => PathBuf::from(folder),
+        [folder] if !folder.starts_with('-') => PathBuf::from(folder),
         _ => {
-            eprintln!("usage: record [FOLDER]");
+            eprintln!("usage: record [--check] [FOLDER]");
             return ExitCode::from(2);
         }
     };
-    match record(&folder) {
+    let done = record().and_then(|files| match only_check {
+        true => check(&folder, &files),
+        false => write(&folder, &files),
+    });
+    match done {
         Ok(()) => ExitCode::SUCCESS,
         Err(error) => {
             eprintln!("{error}");

@@ -1,7 +1,6 @@
 -- `recorded::compare` meets its contract. Assumes nothing.
 use lib.ListN.{length}
-use Rattle.run.proofs.Turns.{front-length}
-use Rattle.recorded.proofs.Laws.{compared-is}
+use Rattle.recorded.proofs.Laws.{front-length, compared-is}
 use borrow.Author.Needs.{needs}
 use Rattle.recorded.proofs.compare.Statement.{statement}
 use Rattle.recorded.proofs.compare.Tie as tie

@@ -6,8 +6,7 @@ use native.Mathlib.Omega.{arith}
 use lib.ListN.{length, drop}
 use Rattle.record.specs.Record.{nextOf, decoded}
 use Rattle.record.proofs.Laws.{some}
-use Rattle.run.proofs.Rooms.{part-is}
-use Rattle.recorded.proofs.Laws.{place-on, count-on, count-ends}
+use Rattle.recorded.proofs.Laws.{part-is, place-on, count-on, count-ends}
 use Rattle.recorded.proofs.count_events.Statement.{statement}
 use Rattle.recorded.proofs.count_events.Tie as tie
 

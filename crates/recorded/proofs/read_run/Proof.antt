@@ -1,6 +1,6 @@
 -- `recorded::read_run` meets its contract. Assumes nothing.
-use Rattle.run.proofs.Turns.{front-length}
 use borrow.Author.Needs.{needs}
+use Rattle.recorded.proofs.Laws.{front-length}
 use Rattle.recorded.proofs.read_run.Statement.{statement}
 use Rattle.recorded.proofs.read_run.Tie as tie
 use Rattle.io.proofs.read_full.Reads as read-full-reads
