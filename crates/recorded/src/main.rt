@@ -1,6 +1,6 @@
 // The recorded runs in data/, each run again and compared byte for byte with what was recorded: docs/RECORDED.md.
+use answer_words::Step;
 use libc::STDOUT_FILENO;
-use state::State;
 ghost use mathlib.Core.Path.{_≡_};
 ghost use mathlib.Core.Bool.{true, false};
 ghost use Prim.Native.Nat.{ℕ, _≤_, _%_};
@@ -275,65 +275,38 @@ fn replay_named(name: &[u8]) {
     libc::close(fd);
 }
 
-// A state after so many copies of description 5, and the last one's answer.
-struct Copies {
-    state: State,
-    copies: u64,
-    kind: u64,
-    value: u64,
+fn opened() -> Step {
+    let s = state::fresh(7);
+    host_step::open(s, 5)
 }
 
-fn opened(s: State) -> State {
-    let o = host_step::open(s, 5);
-    let after = o.state;
-    after
+fn copied(o: Step) -> Step {
+    let s = o.state;
+    host_step::copy(s, 5)
 }
 
-fn placed(s: State) -> State {
-    let o = host_step::put(s, 5, 0);
-    let after = o.state;
-    after
-}
-
-fn copied(c: Copies) -> Copies {
-    let s = c.state;
-    let o = host_step::copy(s, 5);
-    let answer = o.answer;
-    let after = o.state;
-    Copies {
-        state: after,
-        copies: std::num::wrapping_add_u64(c.copies, 1),
-        kind: answer.kind,
-        value: answer.value,
-    }
-}
-
-fn uncopied(s: State) -> Copies {
-    Copies {
-        state: s,
-        copies: 0,
-        kind: 0,
-        value: 0,
-    }
+fn placed(o: Step) -> Step {
+    let s = o.state;
+    host_step::put(s, 5, 0)
 }
 
 // Copies until one is refused, no more than 65,536.
-fn copy_all(s: State) -> Copies {
-    let mut c = uncopied(s);
+fn copied_on(o: Step) -> Step {
+    let mut p = o;
     let mut i: u64 = 0;
     while i < 65536 {
-        c = copied(c);
-        if c.kind != 0 {
-            return c;
+        p = copied(p);
+        let answer = p.answer;
+        if answer.kind != 0 {
+            return p;
         }
         i += 1;
     }
-    c
+    p
 }
 
-fn print_limit(copies: u64, kind: u64, value: u64, told: &[u8]) {
-    print_field(b"207: copy ", copies);
-    print_field(b" answered kind ", kind);
+fn print_limit(kind: u64, value: u64, told: &[u8]) {
+    print_field(b"207: kind ", kind);
     print_field(b" number ", value);
     print_field(b", holds ", le::word(told, 48));
     print_field(b", outside ", le::word(told, 560));
@@ -341,23 +314,18 @@ fn print_limit(copies: u64, kind: u64, value: u64, told: &[u8]) {
     io::write_all(STDOUT_FILENO, b"\n");
 }
 
-fn print_copies(c: Copies) {
-    let s = c.state;
+fn print_step(o: Step) {
+    let answer = o.answer;
+    let s = o.state;
     let mut told = [0; 1608];
     state_bytes::put_state(&mut told, s);
-    print_limit(c.copies, c.kind, c.value, &told);
+    print_limit(answer.kind, answer.value, &told);
 }
 
-// Opened, copied, and one of the two holds put into handle 0.
-fn held() -> State {
-    let c = copied(uncopied(opened(state::fresh(7))));
-    let s = c.state;
-    placed(s)
-}
-
-// 01's 207, which no file has, since a run to it has 65,536 events: description 5 is copied until that is refused.
+// 01's 207, which no file has, since a run to it has 65,536 events: description 5 is opened, copied, put into handle 0 and copied on
+// until that is refused.
 fn hold_limit() {
-    print_copies(copy_all(held()));
+    print_step(copied_on(placed(copied(opened()))));
 }
 
 fn main() {

@@ -1,17 +1,14 @@
--- `recorded::copy_all` meets its contract. Assumes nothing.
+-- `recorded::copied_on` meets its contract. Assumes nothing.
 use borrow.Author.Needs.{needs}
 use Prim.Native.Nat.{_-_, _≤_}
-use Rattle.recorded.proofs.copy_all.Statement.{statement}
-use Rattle.recorded.proofs.copy_all.Tie as tie
+use Rattle.recorded.proofs.copied_on.Statement.{statement}
+use Rattle.recorded.proofs.copied_on.Tie as tie
 
 abbrev Inv-loop : tie.InvT-loop
-Inv-loop c₀ i₀ c i = i ≤ 65536
+Inv-loop p₀ i₀ p i = i ≤ 65536
 
 abbrev μ-loop : tie.MeasureT-loop
-μ-loop c₀ i₀ c i = 65536 - i
-
-uncopied-requires : tie.Need-uncopied-requires Inv-loop μ-loop
-uncopied-requires c κs = search needs
+μ-loop p₀ i₀ p i = 65536 - i
 
 loop-holds : tie.Need-loop-holds Inv-loop μ-loop
 loop-holds c = search needs
@@ -34,13 +31,12 @@ loop-again c = search needs
 returns-2 : tie.Need-returns-2 Inv-loop μ-loop
 returns-2 c = search needs
 
-pub copy-all-spec : {M : Type 1} → statement M
-copy-all-spec =
+pub copied-on-spec : {M : Type 1} → statement M
+copied-on-spec =
     tie.close
     (tie.spec
     Inv-loop
     μ-loop
-    uncopied-requires
     loop-holds
     copied-requires
     returns
