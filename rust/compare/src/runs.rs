@@ -67,6 +67,7 @@ pub fn compare<P: Port>(
         return Ok(());
     };
     let place = stopped.events.len();
+    eprintln!("seed {seed}, event {place}: they differ; making the script short");
     let whole = Script {
         scheme,
         events: stopped.events,
