@@ -3,7 +3,7 @@
 
 changed.py COUNT [SEED] changes one instruction of the layer in a copy of the built compare program
 (x86-64): a conditional jump is inverted, or a small number that is compared or stored becomes one
-more. Then it runs `compare 60 400`. A change is found where that says "they differ", crashes or does
+more. Then it runs `compare 200 500`. A change is found where that says "they differ", crashes or does
 not end. Needs `./tilgurap compare` to have been built, nm and objdump.
 """
 import collections
@@ -18,7 +18,7 @@ HERE = os.path.dirname(os.path.abspath(__file__))
 PROGRAM = os.path.join(HERE, "target/release/compare")
 FOLDER = os.environ.get("TILGURAP_LIB") or os.path.join(HERE, "../../target/staticlib")
 LIBRARY = os.path.join(FOLDER, "libtilgurap.a")
-RUNS = ["60", "400"]
+RUNS = ["200", "500"]
 SECONDS = 120
 
 
