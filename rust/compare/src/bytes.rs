@@ -1,5 +1,7 @@
 //! The same events through `tilgurap_run`: its whole output held against what the kernel told.
+//! Damaged records, too: the run has to end there.
 
+use generate::Draw;
 use script::{Event, Line, State};
 
 use crate::beside::Taken;
@@ -11,14 +13,39 @@ const EACH: usize = 192;
 const READ_MOST: u64 = 8_192;
 const WRITTEN_BYTE: usize = 27;
 const UNTOUCHED: u8 = 0x5a;
+/// How many damaged inputs are tried after a run.
+const DAMAGED: u32 = 12;
 
 /// Records, the output that they are to have, and what they need.
 #[derive(Default)]
 struct Records {
     events: Vec<u8>,
     output: Vec<u8>,
+    /// Where each record begins, and what is told of it.
+    places: Vec<(usize, usize)>,
     room: usize,
     words: usize,
+}
+
+/// The bytes of a record's head that its kind has no use for, as docs/FORMAT.md has them.
+fn unused(kind: u8) -> Vec<usize> {
+    let mut unused = Vec::new();
+    if !matches!(kind, 7 | 8 | 9 | 10 | 17 | 18) {
+        unused.push(1);
+    }
+    if !matches!(kind, 9 | 10 | 17) {
+        unused.push(2);
+    }
+    if kind != 7 {
+        unused.push(3);
+    }
+    if !matches!(kind, 5..=11 | 14..=16) {
+        unused.extend(4..8);
+    }
+    if !matches!(kind, 8 | 11) {
+        unused.extend(8..16);
+    }
+    unused
 }
 
 impl Records {
@@ -26,6 +53,7 @@ impl Records {
         let (Ok(record), Ok(told)) = (event.encode(), line.encode()) else {
             unreachable!("lists are short and a line that was compared is no skip");
         };
+        self.places.push((self.events.len(), self.output.len()));
         self.events.extend(record);
         self.output.extend(told);
         self.room += EACH
@@ -70,6 +98,51 @@ impl Records {
         }
         Ok(())
     }
+
+    /// The events with one record that is none, and where it begins.
+    fn damaged(&self, draw: &mut Draw) -> (Vec<u8>, usize) {
+        let place = draw.below(self.places.len() as u64) as usize;
+        let start = self.places[place].0;
+        let end = self.places.get(place + 1);
+        let end = end.map_or(self.events.len(), |(next, _)| *next);
+        let mut events = self.events.clone();
+        match draw.below(3) {
+            // cut off, somewhere inside
+            0 => events.truncate(start + 1 + draw.below((end - start - 1) as u64) as usize),
+            1 => events[start] = draw.one_of(&[0, 20, 21, 128, 255]),
+            _ => {
+                let field = draw.one_of(&unused(events[start]));
+                events[start + field] = draw.one_of(&[1, 2, 128, 255]);
+            }
+        }
+        (events, place)
+    }
+
+    /// Ends at a damaged record, having told of those before it, and the state that they left.
+    fn check_damaged(&self, scheme: u64, draw: &mut Draw) -> Result<(), String> {
+        if self.places.is_empty() {
+            return Ok(());
+        }
+        let (events, place) = self.damaged(draw);
+        let (start, told) = self.places[place];
+        let mut fx = vec![0; self.words];
+        let mut wanted = vec![UNTOUCHED; LAST + self.room];
+        let whole = tilgurap::run(scheme, &events[..start], &mut wanted, &mut fx);
+        let mut out = vec![UNTOUCHED; LAST + self.room];
+        let end = tilgurap::run(scheme, &events, &mut out, &mut fx);
+        if (whole.number, whole.written) != (0, (told + LAST) as u64) {
+            return Err(format!("  run of the first {place} events: {whole:?}"));
+        }
+        if (end.number, end.place, end.written) != (205, start as u64, whole.written) {
+            return Err(format!(
+                "  run with event {place} damaged, at {start}: {end:?}"
+            ));
+        }
+        if wanted[..told] != self.output[..told] || out != wanted {
+            return Err(format!("  run with event {place} damaged: another output"));
+        }
+        Ok(())
+    }
 }
 
 /// A run's events as they were told: those that the kernel took, and those that the port took.
@@ -94,6 +167,8 @@ impl Told {
     /// Runs both lists. Events that the kernel skipped change nothing, so both leave this state.
     pub fn check(&self, scheme: u64, state: &State) -> Result<(), String> {
         self.kernel.check(scheme, state)?;
-        self.port.check(scheme, state)
+        self.port.check(scheme, state)?;
+        let draw = &mut Draw::new(self.port.events.len() as u64);
+        (0..DAMAGED).try_for_each(|_| self.port.check_damaged(scheme, draw))
     }
 }
