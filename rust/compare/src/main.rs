@@ -8,7 +8,7 @@ use std::time::{Duration, Instant};
 use compare::counts::Counts;
 use compare::{limits, runs, words};
 use script::OutputLine;
-use tilgurap::Layer;
+use tilgurap::numbers::Layer;
 
 const USAGE: &str = "usage: compare SEEDS EVENTS [FIRST]";
 const RANDOM_WORDS: u64 = 2_000_000;
@@ -35,7 +35,7 @@ fn show(difference: &runs::Difference) {
     print!("{}", difference.script);
     let sides = [
         ("rust", oracle::run(&difference.script)),
-        ("port", tilgurap::run_script(&difference.script)),
+        ("port", tilgurap::numbers::run_script(&difference.script)),
     ];
     for (side, lines) in sides {
         println!("\n{side}:");

@@ -25,7 +25,7 @@ fn replay(file: Option<&str>) -> Result<ExitCode, String> {
     let text = text(file).map_err(|error| format!("{name}: {error}"))?;
     let script = Script::parse_bytes(&text).map_err(|mistake| format!("{name}: {mistake}"))?;
     let mut out = BufWriter::new(io::stdout().lock());
-    let mut lines = tilgurap::run_script(&script).into_iter();
+    let mut lines = tilgurap::numbers::run_script(&script).into_iter();
     let printed = lines.try_for_each(|line| writeln!(out, "{line}"));
     Ok(match printed.and_then(|()| out.flush()) {
         Ok(()) => ExitCode::SUCCESS,
