@@ -1,7 +1,7 @@
 #!/usr/bin/env bash
 # Formatting, lints and tests of the Rust in rust/, where cargo is there. What calls the layer is linked with its static library
-# (`rt staticlib tilgurap`, some minutes): where none is built it is skipped, as in a clean checkout. The oracle is built from the
-# kernel's sources, in the folder that REDOX_SRC names, and slab: without them it is skipped. What is skipped says so.
+# (`rt staticlib tilgurap`, some minutes): where none is built, as in a clean checkout, its tests are skipped. The oracle is built
+# from the kernel's sources, in the folder that REDOX_SRC names, and slab: without them it is skipped. What is skipped says so.
 set -euo pipefail
 cd "$(dirname "$0")/../rust"
 
@@ -13,23 +13,27 @@ for package in script generate tilgurap driver oracle compare; do
     (cd "$package" && cargo fmt --check)
 done
 
-# lints and tests of a package that needs nothing but Rust
-check() {
-    (
-        cd "$1"
-        cargo clippy --quiet --offline --all-targets -- --deny warnings
-        cargo test --quiet --offline
-    )
+lint() {
+    (cd "$1" && cargo clippy --quiet --offline --all-targets "${@:2}" -- --deny warnings)
 }
-check script
-check generate
+run_tests() {
+    (cd "$1" && cargo test --quiet --offline "${@:2}")
+}
+for package in script generate; do
+    lint "$package"
+    run_tests "$package"
+done
+lint tilgurap
+lint tilgurap --all-features
+lint driver
 
 library=${TILGURAP_LIB:-../target/staticlib}/libtilgurap.a
 if [ -f "$library" ]; then
-    check tilgurap
-    check driver
+    run_tests tilgurap
+    run_tests tilgurap --all-features
+    run_tests driver
 else
-    echo "skipped: lints and tests of rust/tilgurap, rust/driver and rust/compare, since $library is not built"
+    echo "skipped: tests of rust/tilgurap, rust/driver and rust/compare, since $library is not built"
 fi
 
 if [ -z "${REDOX_SRC:-}" ]; then
@@ -38,8 +42,8 @@ if [ -z "${REDOX_SRC:-}" ]; then
 fi
 sh oracle/build.sh clippy --quiet --all-targets -- --deny warnings
 sh oracle/build.sh test --quiet --workspace
+sh oracle/build.sh clippy --quiet --all-targets --manifest-path ../compare/Cargo.toml -- --deny warnings
 if [ -f "$library" ]; then
-    sh oracle/build.sh clippy --quiet --all-targets --manifest-path ../compare/Cargo.toml -- --deny warnings
     # a test looks for slips in many runs
     sh oracle/build.sh test --quiet --release --manifest-path ../compare/Cargo.toml
 fi

@@ -75,13 +75,13 @@ impl Records {
         let mut fx = vec![0; self.words];
 
         let mut short = vec![UNTOUCHED; LAST + self.room - 1];
-        let end = tilgurap::run(scheme, &self.events, &mut short, &mut fx);
+        let end = tilgurap::numbers::run(scheme, &self.events, &mut short, &mut fx);
         if (end.number, end.written) != (204, 0) || short.iter().any(|b| *b != UNTOUCHED) {
             return Err(format!("  run with a byte too little room: {end:?}"));
         }
 
         let mut out = vec![UNTOUCHED; LAST + self.room];
-        let end = tilgurap::run(scheme, &self.events, &mut out, &mut fx);
+        let end = tilgurap::numbers::run(scheme, &self.events, &mut out, &mut fx);
         let whole = (0, self.events.len() as u64, wanted.len() as u64);
         if (end.number, end.place, end.written) != whole {
             return Err(format!("  run: {end:?}, wanted {whole:?}"));
@@ -127,9 +127,9 @@ impl Records {
         let (start, told) = self.places[place];
         let mut fx = vec![0; self.words];
         let mut wanted = vec![UNTOUCHED; LAST + self.room];
-        let whole = tilgurap::run(scheme, &events[..start], &mut wanted, &mut fx);
+        let whole = tilgurap::numbers::run(scheme, &events[..start], &mut wanted, &mut fx);
         let mut out = vec![UNTOUCHED; LAST + self.room];
-        let end = tilgurap::run(scheme, &events, &mut out, &mut fx);
+        let end = tilgurap::numbers::run(scheme, &events, &mut out, &mut fx);
         if (whole.number, whole.written) != (0, (told + LAST) as u64) {
             return Err(format!("  run of the first {place} events: {whole:?}"));
         }

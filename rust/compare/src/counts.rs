@@ -4,7 +4,7 @@ use std::collections::BTreeMap;
 use std::fmt::{self, Display, Formatter};
 
 use script::{Answer, Event, Line, Phase, Reply, State};
-use tilgurap::Layer;
+use tilgurap::numbers::Layer;
 
 use crate::beside::Taken;
 use crate::known::{EFFECT_WORDS, ENTRY};

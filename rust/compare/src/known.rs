@@ -5,7 +5,7 @@
 
 use oracle::Oracle;
 use script::{Answer, Event, Line, State};
-use tilgurap::Layer;
+use tilgurap::numbers::Layer;
 
 use crate::port::Port;
 

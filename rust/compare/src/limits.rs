@@ -2,7 +2,7 @@
 
 use oracle::Oracle;
 use script::{Answer, Event};
-use tilgurap::Layer;
+use tilgurap::numbers::Layer;
 
 const HOLDS: u64 = 65_535;
 

@@ -8,7 +8,7 @@ use std::time::{Duration, Instant};
 
 use compare::counts::Counts;
 use compare::{limits, runs, words};
-use tilgurap::Layer;
+use tilgurap::numbers::Layer;
 
 const USAGE: &str = "usage: compare SEEDS EVENTS [FIRST]";
 const RANDOM_WORDS: u64 = 2_000_000;
@@ -34,7 +34,7 @@ fn show(difference: &runs::Difference) {
     );
     print!("{}", difference.script);
     let rust = catch_unwind(|| oracle::run(&difference.script)).unwrap_or_default();
-    let port = tilgurap::run_script(&difference.script);
+    let port = tilgurap::numbers::run_script(&difference.script);
     for (side, lines) in [("rust", rust), ("port", port)] {
         println!("\n{side}:");
         lines.iter().for_each(|line| println!("{line}"));

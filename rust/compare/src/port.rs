@@ -1,7 +1,7 @@
 //! The layer as a side, with an eye on what it is lent.
 
 use script::{Event, Line, State};
-use tilgurap::Layer;
+use tilgurap::numbers::Layer;
 
 /// The layer, or one with a slip in it.
 pub trait Port {

@@ -6,7 +6,7 @@ use oracle::abi::error::Error;
 use oracle::abi::schemev2::{Cqe, Sqe, SqeFlags};
 use oracle::{Front, Reading, read_reply};
 use script::Reply;
-use tilgurap::Opened;
+use tilgurap::numbers::{self, Opened};
 
 /// How many of each were compared.
 #[derive(Default)]
@@ -46,11 +46,11 @@ fn error_words(draw: &mut Draw, count: u64) -> Result<u64, String> {
     let demux = |word: u64| {
         let rust = Error::demux(word as usize);
         let rust = rust.map(|word| word as u64).map_err(|e| e.errno as u64);
-        same(|| format!("demux {word:#x}"), rust, tilgurap::demux(word))
+        same(|| format!("demux {word:#x}"), rust, numbers::demux(word))
     };
     let mux = |errno: i32| {
         let rust = Error::mux(Err(Error { errno })) as u64;
-        same(|| format!("mux {errno}"), rust, tilgurap::mux_error(errno))
+        same(|| format!("mux {errno}"), rust, numbers::mux_error(errno))
     };
     let edges = edges();
     for word in &edges {
@@ -82,8 +82,8 @@ fn part_entries(draw: &mut Draw, bytes: &[u8; 64]) -> Result<(), String> {
     let mut padded = [0; 64];
     padded[..part].copy_from_slice(&bytes[..part]);
     let told = || format!("the first {part} of {bytes:?}");
-    same(told, tilgurap::sqe(&padded), tilgurap::sqe(&bytes[..part]))?;
-    same(told, tilgurap::cqe(&padded), tilgurap::cqe(&bytes[..part]))
+    same(told, numbers::sqe(&padded), numbers::sqe(&bytes[..part]))?;
+    same(told, numbers::cqe(&padded), numbers::cqe(&bytes[..part]))
 }
 
 fn entries(draw: &mut Draw, count: u64) -> Result<u64, String> {
@@ -93,7 +93,7 @@ fn entries(draw: &mut Draw, count: u64) -> Result<u64, String> {
         bytes[2..4].fill(0);
         let mut rust = Sqe::default();
         rust.copy_from_slice(&bytes);
-        let port = tilgurap::sqe(&bytes);
+        let port = numbers::sqe(&bytes);
         let twin = Sqe {
             opcode: port.opcode,
             sqe_flags: SqeFlags::from_bits_retain(port.sqe_flags),
@@ -106,14 +106,14 @@ fn entries(draw: &mut Draw, count: u64) -> Result<u64, String> {
         same(
             || format!("bytes of {port:?}"),
             &rust[..],
-            &tilgurap::sqe_bytes(port)[..],
+            &numbers::sqe_bytes(port)[..],
         )?;
 
         part_entries(draw, &bytes)?;
 
         let bytes = filled::<16>(draw);
         let rust = rust_cqe(&bytes);
-        let port = tilgurap::cqe(&bytes);
+        let port = numbers::cqe(&bytes);
         same(
             || format!("cqe of {bytes:?}"),
             (rust.flags, rust.extra_raw, rust.tag, rust.result),
@@ -122,7 +122,7 @@ fn entries(draw: &mut Draw, count: u64) -> Result<u64, String> {
         same(
             || format!("bytes of {port:?}"),
             &rust[..],
-            &tilgurap::cqe_bytes(port)[..],
+            &numbers::cqe_bytes(port)[..],
         )?;
     }
     Ok(4 * count)
@@ -131,7 +131,7 @@ fn entries(draw: &mut Draw, count: u64) -> Result<u64, String> {
 fn refusals(draw: &mut Draw, count: u64) -> Result<u64, String> {
     let refusal = |bytes: [u8; 16]| {
         let rust = oracle::parse_cqe(&rust_cqe(&bytes));
-        let port = tilgurap::parse_cqe(tilgurap::cqe(&bytes));
+        let port = numbers::parse_cqe(numbers::cqe(&bytes));
         same(|| format!("parse_cqe of {bytes:?}"), rust, port)
     };
     let mut compared = 0;
@@ -176,9 +176,9 @@ fn read_both(reply: &Reply) -> Result<(), String> {
     same(
         told(Front::Regular),
         result(rust),
-        tilgurap::into_regular(reply),
+        numbers::into_regular(reply),
     )?;
-    let port = tilgurap::read_call_generic(reply);
+    let port = numbers::read_call_generic(reply);
     let (rust, _) = read_reply(Front::Call, reply);
     same(told(Front::Call), result(rust), port.0)?;
     let (rust, notice) = read_reply(Front::StdFsCall, reply);
@@ -186,9 +186,9 @@ fn read_both(reply: &Reply) -> Result<(), String> {
     let rust = (result(rust), notice.unwrap_or(false));
     same(told(Front::StdFsCall), rust, port)?;
     let (rust, _) = read_reply(Front::Open, reply);
-    same(told(Front::Open), opened(rust), tilgurap::kopenat(reply))?;
+    same(told(Front::Open), opened(rust), numbers::kopenat(reply))?;
     let (rust, _) = read_reply(Front::Dup, reply);
-    same(told(Front::Dup), opened(rust), tilgurap::kdup(reply))
+    same(told(Front::Dup), opened(rust), numbers::kdup(reply))
 }
 
 fn readings(draw: &mut Draw) -> Result<u64, String> {

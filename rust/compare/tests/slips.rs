@@ -7,8 +7,8 @@ use compare::counts::Counts;
 use compare::port::Port;
 use compare::runs;
 use script::{Answer, Event, Line, Phase};
-use tilgurap::Layer;
-use tilgurap::parts::Slot;
+use tilgurap::numbers::Layer;
+use tilgurap::numbers::parts::Slot;
 
 /// The event is answered by the slip and never reaches the layer, unless it says nothing.
 type Before = fn(&mut Layer, &Event) -> Option<Line>;

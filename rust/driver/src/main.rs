@@ -1,13 +1,20 @@
-//! `driver replay [FILE]`: runs an event script on the layer and prints what it answers. The
-//! script comes from standard input where no file, or `-`, is named.
+//! Runs an event script on the layer: `driver replay [--explain] [FILE]` prints what each event
+//! answers, `driver status [FILE]` what the layer holds afterwards. The script comes from standard
+//! input where no file, or `-`, is named.
+
+mod explain;
+mod reasons;
+mod table;
 
 use std::fs;
 use std::io::{self, BufWriter, Read, Write};
 use std::process::ExitCode;
 
 use script::Script;
+use tilgurap::numbers::{self, Layer};
 
-const USAGE: &str = "usage: driver replay [FILE]";
+const USAGE: &str = "usage: driver replay [--explain] [FILE]
+       driver status [FILE]";
 
 fn text(file: Option<&str>) -> io::Result<Vec<u8>> {
     match file {
@@ -20,13 +27,57 @@ fn text(file: Option<&str>) -> io::Result<Vec<u8>> {
     }
 }
 
-fn replay(file: Option<&str>) -> Result<ExitCode, String> {
+/// The script, and its text.
+fn script(file: Option<&str>) -> Result<(Script, String), String> {
     let name = file.unwrap_or("standard input");
-    let text = text(file).map_err(|error| format!("{name}: {error}"))?;
-    let script = Script::parse_bytes(&text).map_err(|mistake| format!("{name}: {mistake}"))?;
-    let mut out = BufWriter::new(io::stdout().lock());
-    let mut lines = tilgurap::run_script(&script).into_iter();
-    let printed = lines.try_for_each(|line| writeln!(out, "{line}"));
+    let text = text(file).map_err(|error| {
+        format!("{name}: {error}; name a file with an event script, or pipe one in")
+    })?;
+    let script = Script::parse_bytes(&text)
+        .map_err(|mistake| format!("{name}: {mistake}; nothing was run"))?;
+    let text = String::from_utf8(text).expect("what was parsed is text");
+    Ok((script, text))
+}
+
+fn replay(out: &mut impl Write, script: &Script) -> io::Result<()> {
+    for line in numbers::run_script(script) {
+        writeln!(out, "{line}")?;
+    }
+    Ok(())
+}
+
+fn status(out: &mut impl Write, script: &Script) -> io::Result<()> {
+    let mut layer = Layer::new(script.scheme);
+    for event in &script.events {
+        layer.step(event);
+    }
+    write!(out, "{}", table::table(layer.typed()))
+}
+
+/// What to do with a script.
+#[derive(Clone, Copy)]
+enum Task {
+    Replay,
+    Explain,
+    Status,
+}
+
+fn run(task: Task, file: &[&str]) -> Result<ExitCode, String> {
+    let file = match file {
+        [] | ["-"] => None,
+        [option] if option.starts_with('-') => {
+            return Err(format!("unknown option {option}\n{USAGE}"));
+        }
+        [file] => Some(*file),
+        _ => return Err(USAGE.to_owned()),
+    };
+    let (script, text) = script(file)?;
+    let out = &mut BufWriter::new(io::stdout().lock());
+    let printed = match task {
+        Task::Replay => replay(out, &script),
+        Task::Explain => explain::explain(out, &script, &text),
+        Task::Status => status(out, &script),
+    };
     Ok(match printed.and_then(|()| out.flush()) {
         Ok(()) => ExitCode::SUCCESS,
         Err(_) => ExitCode::FAILURE,
@@ -36,9 +87,10 @@ fn replay(file: Option<&str>) -> Result<ExitCode, String> {
 fn main() -> ExitCode {
     let args: Vec<String> = std::env::args().skip(1).collect();
     let args: Vec<&str> = args.iter().map(String::as_str).collect();
-    let done = match args[..] {
-        ["replay"] | ["replay", "-"] => replay(None),
-        ["replay", file] => replay(Some(file)),
+    let done = match &args[..] {
+        ["replay", "--explain", file @ ..] => run(Task::Explain, file),
+        ["replay", file @ ..] => run(Task::Replay, file),
+        ["status", file @ ..] => run(Task::Status, file),
         _ => Err(USAGE.to_owned()),
     };
     done.unwrap_or_else(|message| {

@@ -27,7 +27,7 @@ fn check(path: &Path) {
         .lines()
         .filter_map(|line| line.strip_prefix("#= "))
         .collect();
-    let found = tilgurap::run_script(&script);
+    let found = tilgurap::numbers::run_script(&script);
     assert_eq!(found.len(), wanted.len(), "{path:?}: a line for each event");
     for ((event, found), wanted) in script.events.iter().zip(&found).zip(wanted) {
         let OutputLine::Event(line) = found else {

@@ -7,7 +7,7 @@ use std::ffi::c_void;
 use std::sync::atomic::{AtomicU64, Ordering};
 
 use script::Event;
-use tilgurap::Layer;
+use tilgurap::numbers::{self, Layer};
 
 const LARGE: usize = 4_096;
 
@@ -87,7 +87,7 @@ fn main() {
             let events = record.repeat(times as usize);
             let mut out = vec![0; 1_608 + times as usize * (192 + 64)];
             copies(|| {
-                let end = tilgurap::run(7, &events, &mut out, &mut [0; 54]);
+                let end = numbers::run(7, &events, &mut out, &mut [0; 54]);
                 assert_eq!(end.number, 0, "{line}");
             })
         };

@@ -1,6 +1,9 @@
 //! The exported functions as they are declared in `crates/tilgurap`, and twins of the structs that
 //! cross. A slice crosses as its pointer and its length.
 
+// they are those of the crates
+#![allow(missing_docs)]
+
 #[derive(Clone, Copy, Debug, PartialEq, Eq)]
 #[repr(C)]
 pub struct Tag(pub u64);
@@ -151,6 +154,7 @@ pub struct OpenedWords {
 }
 
 /// How a run ended: its number, the place in the input, the bytes written.
+#[cfg(feature = "script")]
 #[derive(Clone, Copy, Debug, PartialEq, Eq)]
 #[repr(C)]
 pub struct RunEnd {
@@ -191,7 +195,9 @@ const _: () = assert!(size_of::<State>() == 5_080);
 const _: () = assert!(size_of::<Step>() == 5_120 && size_of::<Woken>() == 5_160);
 const _: () = assert!(size_of::<Received>() == 5_096 && size_of::<Completed>() == 5_104);
 const _: () = assert!(size_of::<Regular>() == 24 && size_of::<OpenedWords>() == 24);
-const _: () = assert!(size_of::<RunEnd>() == 24 && size_of::<Args>() == 48);
+const _: () = assert!(size_of::<Args>() == 48);
+#[cfg(feature = "script")]
+const _: () = assert!(size_of::<RunEnd>() == 24);
 const _: () = assert!(size_of::<Sqe>() == 64 && size_of::<Cqe>() == 16);
 
 /// The queue's words.
@@ -304,6 +310,7 @@ unsafe extern "C" {
     pub fn tilgurap_kopenat(reply: Reply, fds: List) -> OpenedWords;
     pub fn tilgurap_kdup(reply: Reply, fds: List) -> OpenedWords;
     pub fn tilgurap_demux(word: u64) -> AnswerWords;
+    #[cfg(feature = "script")]
     pub fn tilgurap_run(
         scheme: u64,
         events: *const u8,

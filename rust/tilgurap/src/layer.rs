@@ -1,315 +1,494 @@
-//! One layer: its state and its queue's words, and a method for each event.
+//! One layer: its state and its queue, and a method for each event.
 
-use std::array;
-
-use script::{Answer, Effect, Payload, Phase, Reply, State};
-
+use crate::effect::Effect;
+use crate::entry::{Cqe, Sqe, SqeFlags};
 use crate::ffi;
+use crate::ids::{
+    Caller, Description, FileNumber, Handle, Identity, Payload, Pid, SchemeNumber, Span, Tag,
+};
+use crate::opcode::Opcode;
+use crate::refusal::{Refusal, refusal};
+use crate::reply::Reply;
+use crate::status::{Holds, Slot, SlotState, Status, StatusWord};
+use crate::steps::{GenericCall, Stepped, Steps};
 
-/// What an event answered, and the effect that it made, if any.
-#[derive(Clone, Debug, PartialEq, Eq)]
-pub struct Outcome {
-    pub answer: Answer,
-    pub effect: Option<Effect>,
+/// Words that a whole completion entry may make: 18 effects of three.
+const EFFECT_WORDS: usize = 54;
+const NONBLOCK: u32 = 0x0004_0000;
+
+/// An entry was queued under this tag, and the effect has to be carried out.
+#[derive(Clone, Copy, Debug, PartialEq, Eq)]
+#[must_use]
+pub struct Submitted {
+    /// What the call is known by from now on.
+    pub tag: Tag,
+    /// The driver's queue has something to read.
+    pub effect: Effect,
 }
 
-/// The state that each event is given and gives back.
+/// What a reserved slot is submitted with.
+#[derive(Clone, Copy, Debug, PartialEq, Eq)]
+pub struct Request {
+    /// What is asked for.
+    pub opcode: Opcode,
+    /// The entry's flags.
+    pub flags: SqeFlags,
+    /// Six arguments, as they are.
+    pub args: [u64; 6],
+    /// The caller's process.
+    pub pid: Pid,
+}
+
+/// What a woken caller finds.
+#[derive(Clone, Debug, PartialEq, Eq)]
+#[must_use]
+pub enum Wake {
+    /// No reply yet: the caller goes on waiting. The first such wake has queued a Cancel for the
+    /// driver, and its effect has to be carried out.
+    Blocked(Option<Effect>),
+    /// The reply. The slot is vacant again.
+    Replied(Reply),
+}
+
+/// What to do at an empty queue.
+#[derive(Clone, Copy, Debug, PartialEq, Eq)]
+pub enum WhenEmpty {
+    /// The driver would wait: [`Read::WouldWait`].
+    Wait,
+    /// The driver goes on: [`Refusal::Eagain`]; [`Refusal::Einval`] for less than a whole entry.
+    Refuse,
+}
+
+/// What a read gave.
+#[derive(Clone, Copy, Debug, PartialEq, Eq)]
+pub enum Read {
+    /// So many bytes were stored.
+    Stored(usize),
+    /// The queue is empty: the host lets the driver wait.
+    WouldWait,
+}
+
+/// What a write did. The effects have to be carried out, in order, also those of a refused write.
+#[derive(Clone, Debug, PartialEq, Eq)]
+#[must_use]
+pub struct Written {
+    /// The bytes of the entries that were accepted, or why the first was not. Where it is less
+    /// than was written, the next entry was refused and those behind it were not looked at.
+    pub answer: Result<usize, Refusal>,
+    /// What the host has to do.
+    pub effects: Vec<Effect>,
+}
+
+/// The layer between one driver and its callers.
+///
+/// It holds 64 slots, one for each call under way, and a queue of 128 entries for the driver. It
+/// does nothing by itself: each method is one event, and what the host has to do about it comes
+/// back as an [`Effect`].
+///
+/// ```
+/// use tilgurap::{
+///     Caller, Cqe, Effect, Identity, Layer, Opcode, Pid, Reply, SchemeNumber, Submitted, Wake,
+/// };
+///
+/// let mut layer = Layer::new(SchemeNumber(7));
+/// let dosing = Caller(100);
+/// let who = Identity { uid: 0, gid: 0, pid: Pid(100) };
+///
+/// // the scheduler calls
+/// let Submitted { tag, .. } = layer.call(dosing, Opcode::Write, [1, 2, 3, 4, 5], who, &[])?;
+///
+/// // the driver takes the call and replies
+/// let entry = layer.next_entry().expect("one is queued");
+/// assert_eq!((entry.opcode(), entry.tag), (Some(Opcode::Write), tag));
+/// let written = layer.complete(Cqe::ok(entry.tag, 3));
+/// assert_eq!(written.answer, Ok(16));
+/// assert_eq!(written.effects, [Effect::Wake { caller: dosing, tag }]);
+///
+/// // the scheduler wakes the caller, which fetches its reply
+/// let Wake::Replied(reply) = layer.wake(tag, dosing)? else { panic!("no reply") };
+/// assert_eq!(reply.into_regular(), Ok(3));
+/// # Ok::<(), tilgurap::Refusal>(())
+/// ```
 #[derive(Clone, PartialEq, Eq)]
 pub struct Layer {
-    state: Box<ffi::State>,
-    words: Box<ffi::Words>,
+    pub(crate) steps: Steps,
 }
 
-fn answer(words: ffi::AnswerWords) -> Answer {
-    match words.kind {
-        0 => Answer::Ok(words.value),
-        1 => Answer::No(words.value),
-        2 => Answer::Wait,
-        3 => Answer::Blocked,
-        kind => unreachable!("{kind} is no kind of answer"),
+fn done(stepped: &Stepped) -> Result<u64, Refusal> {
+    match stepped.answer.kind {
+        0 => Ok(stepped.answer.value),
+        1 => Err(refusal(stepped.answer.value)),
+        kind => unreachable!("{kind} is no such event's answer"),
     }
 }
 
 fn effect(effect: ffi::Effect) -> Option<Effect> {
-    (effect.kind != 0).then_some(Effect {
-        kind: effect.kind,
-        a: effect.a,
-        b: effect.b,
+    Effect::from_words([effect.kind, effect.a, effect.b])
+}
+
+/// An accepted event that queued an entry.
+fn queued(stepped: Stepped) -> Result<(u64, Effect), Refusal> {
+    let value = done(&stepped)?;
+    let effect = effect(stepped.effect).expect("an entry that is queued makes an effect");
+    Ok((value, effect))
+}
+
+fn submitted(stepped: Stepped) -> Result<Submitted, Refusal> {
+    queued(stepped).map(|(tag, effect)| Submitted {
+        tag: Tag(tag),
+        effect,
     })
 }
 
-fn reply(reply: ffi::Reply, fds: ffi::List) -> Reply {
-    let regular = |result| Reply::Regular {
-        result,
-        extra0: reply.extra0,
-        notice: reply.notice,
-    };
-    match reply.kind {
-        0 => regular(Ok(reply.word)),
-        1 => regular(Err(reply.word)),
-        2 => Reply::Fd(reply.word),
-        3 => {
-            let list = &fds.at[..usize::from(fds.len)];
-            Reply::Many(list.iter().map(|d| u64::from(*d)).collect())
-        }
-        kind => unreachable!("{kind} is no kind of reply"),
-    }
+fn numbers(list: &[Description]) -> Vec<u64> {
+    list.iter().map(|description| description.0).collect()
 }
 
-/// `generic` and `stdfs` take the same.
-type CallGeneric = unsafe extern "C" fn(
-    ffi::State,
-    *mut ffi::Words,
-    u32,
-    u64,
-    *const u64,
-    usize,
-    u64,
-    u64,
-    *const u64,
-    usize,
-) -> ffi::Step;
-
 impl Layer {
-    /// A fresh state, given the scheme's number.
-    pub fn new(scheme: u64) -> Layer {
+    /// A fresh layer: every slot vacant, the queue and the handles empty, no description open.
+    pub fn new(scheme: SchemeNumber) -> Layer {
         Layer {
-            // SAFETY: numbers alone.
-            state: Box::new(unsafe { ffi::tilgurap_fresh(scheme) }),
-            words: Box::new([0; 1024]),
+            steps: Steps::new(scheme.0),
         }
     }
 
-    fn stepped(&mut self, step: ffi::Step) -> Outcome {
-        *self.state = step.state;
-        Outcome {
-            answer: answer(step.answer),
-            effect: effect(step.effect),
-        }
+    /// The host opens a description that is not open, with one outside hold.
+    ///
+    /// Refused: [`OutOfRules`](Refusal::OutOfRules).
+    pub fn open(&mut self, description: Description) -> Result<(), Refusal> {
+        done(&self.steps.open(description.0)).map(drop)
     }
 
-    pub fn open(&mut self, d: u64) -> Outcome {
-        // SAFETY: numbers alone.
-        let step = unsafe { ffi::tilgurap_open(*self.state, d) };
-        self.stepped(step)
+    /// The host copies an outside hold of an open description.
+    ///
+    /// Refused: [`OutOfRules`](Refusal::OutOfRules), [`HoldsFull`](Refusal::HoldsFull).
+    pub fn copy(&mut self, description: Description) -> Result<(), Refusal> {
+        done(&self.steps.copy(description.0)).map(drop)
     }
 
-    pub fn copy(&mut self, d: u64) -> Outcome {
-        // SAFETY: numbers alone.
-        let step = unsafe { ffi::tilgurap_copy(*self.state, d) };
-        self.stepped(step)
+    /// The host drops one of its outside holds. With the last hold the description is no longer
+    /// open; the host, which dropped it, is not told to close it.
+    ///
+    /// Refused: [`OutOfRules`](Refusal::OutOfRules).
+    pub fn drop_hold(&mut self, description: Description) -> Result<(), Refusal> {
+        done(&self.steps.drop_one(description.0)).map(drop)
     }
 
-    pub fn drop_one(&mut self, d: u64) -> Outcome {
-        // SAFETY: numbers alone.
-        let step = unsafe { ffi::tilgurap_drop(*self.state, d) };
-        self.stepped(step)
+    /// The host puts one of its outside holds into an empty handle of the driver's.
+    ///
+    /// Refused: [`OutOfRules`](Refusal::OutOfRules).
+    pub fn put(&mut self, description: Description, handle: Handle) -> Result<(), Refusal> {
+        done(&self.steps.put(description.0, handle.0)).map(drop)
     }
 
-    pub fn put(&mut self, d: u64, h: u64) -> Outcome {
-        // SAFETY: numbers alone.
-        let step = unsafe { ffi::tilgurap_put(*self.state, d, h) };
-        self.stepped(step)
+    /// The host reports that a caller has ended. Its slots are marked: nobody is woken for them, and
+    /// the driver's reply vacates them.
+    pub fn ended(&mut self, caller: Caller) {
+        let answered = done(&self.steps.ended(caller.0));
+        debug_assert_eq!(answered, Ok(0));
     }
 
-    pub fn ended(&mut self, c: u32) -> Outcome {
-        // SAFETY: numbers alone.
-        let step = unsafe { ffi::tilgurap_ended(*self.state, c) };
-        self.stepped(step)
+    /// Gives a slot out to a caller, to be [submitted](Layer::submit) later.
+    ///
+    /// Refused: [`NoVacantSlot`](Refusal::NoVacantSlot).
+    pub fn reserve(&mut self, caller: Caller) -> Result<Tag, Refusal> {
+        done(&self.steps.reserve(caller.0)).map(Tag)
     }
 
-    pub fn reserve(&mut self, c: u32) -> Outcome {
-        // SAFETY: numbers alone.
-        let step = unsafe { ffi::tilgurap_next_id(*self.state, c) };
-        self.stepped(step)
-    }
-
-    #[allow(clippy::too_many_arguments)]
+    /// Submits a reserved slot's call: its entry is queued as it is, and the call waits. The
+    /// descriptions are taken from the host's outside holds.
+    ///
+    /// Refused: [`OutOfRules`](Refusal::OutOfRules), [`ManyDescriptions`](Refusal::ManyDescriptions),
+    /// [`NotThisCallers`](Refusal::NotThisCallers), [`QueueFull`](Refusal::QueueFull).
     pub fn submit(
         &mut self,
-        tag: u64,
-        c: u32,
-        op: u64,
-        fl: u8,
-        args: [u64; 6],
-        pid: u64,
-        list: &[u64],
-    ) -> Outcome {
-        let (words, tag, args) = (&raw mut *self.words, ffi::Tag(tag), ffi::Args(args));
-        let (fds, len) = (list.as_ptr(), list.len());
-        // SAFETY: the words are the layer's own; the list's pointer goes with its length.
-        let step = unsafe {
-            ffi::tilgurap_submit(*self.state, words, tag, c, op, fl, args, pid, fds, len)
-        };
-        self.stepped(step)
+        tag: Tag,
+        caller: Caller,
+        request: Request,
+        list: &[Description],
+    ) -> Result<Submitted, Refusal> {
+        submitted(self.steps.submit(
+            tag.0,
+            caller.0,
+            u64::from(request.opcode.number()),
+            request.flags.0,
+            request.args,
+            request.pid.0,
+            &numbers(list),
+        ))
     }
 
-    #[allow(clippy::too_many_arguments)]
+    /// Gives a slot out and submits it in one. The entry's sixth argument is the caller's uid and
+    /// gid. The descriptions are taken from the host's outside holds.
+    ///
+    /// Refused: [`OutOfRules`](Refusal::OutOfRules), [`ManyDescriptions`](Refusal::ManyDescriptions),
+    /// [`NoVacantSlot`](Refusal::NoVacantSlot), [`QueueFull`](Refusal::QueueFull).
     pub fn call(
         &mut self,
-        c: u32,
-        op: u64,
-        args: [u64; 6],
-        uid: u32,
-        gid: u32,
-        pid: u64,
-        list: &[u64],
-    ) -> Outcome {
-        let (words, args) = (&raw mut *self.words, ffi::Args(args));
-        let (fds, len) = (list.as_ptr(), list.len());
-        // SAFETY: the words are the layer's own; the list's pointer goes with its length.
-        let step =
-            unsafe { ffi::tilgurap_call(*self.state, words, c, op, args, uid, gid, pid, fds, len) };
-        self.stepped(step)
+        caller: Caller,
+        opcode: Opcode,
+        args: [u64; 5],
+        who: Identity,
+        list: &[Description],
+    ) -> Result<Submitted, Refusal> {
+        let [a, b, c, d, e] = args;
+        submitted(self.steps.call(
+            caller.0,
+            u64::from(opcode.number()),
+            [a, b, c, d, e, 0],
+            who.uid,
+            who.gid,
+            who.pid.0,
+            &numbers(list),
+        ))
     }
 
-    fn call_by(&mut self, function: CallGeneric, payload: &Payload) -> Outcome {
-        // SAFETY: the words are the layer's own; each list's pointer goes with its length.
-        let step = unsafe {
-            function(
-                *self.state,
-                &raw mut *self.words,
-                payload.c,
-                payload.pid,
-                payload.fds.as_ptr(),
-                payload.fds.len(),
-                payload.base,
-                payload.len,
-                payload.meta.as_ptr(),
-                payload.meta.len(),
-            )
-        };
-        self.stepped(step)
-    }
-
-    pub fn generic(&mut self, payload: &Payload) -> Outcome {
-        self.call_by(ffi::tilgurap_call_generic, payload)
-    }
-
-    pub fn stdfs(&mut self, payload: &Payload) -> Outcome {
-        self.call_by(ffi::tilgurap_translate_std_fs_call, payload)
-    }
-
-    #[allow(clippy::too_many_arguments)]
-    pub fn fmap(
+    /// A call of the driver's own kind (`Opcode::Call`) about one or two files. Of the metadata the
+    /// first three words go along with one file, the first two with two.
+    ///
+    /// Refused: [`Einval`](Refusal::Einval) for no file or more than two,
+    /// [`NoVacantSlot`](Refusal::NoVacantSlot), [`QueueFull`](Refusal::QueueFull).
+    pub fn call_generic(
         &mut self,
-        c: u32,
-        id: u64,
+        caller: Caller,
+        pid: Pid,
+        files: &[FileNumber],
+        payload: Payload,
+        metadata: &[u64],
+    ) -> Result<Submitted, Refusal> {
+        let files: Vec<u64> = files.iter().map(|file| file.0).collect();
+        submitted(self.steps.generic(&GenericCall {
+            caller: caller.0,
+            pid: pid.0,
+            fds: &files,
+            base: payload.base,
+            len: payload.len,
+            metadata,
+        }))
+    }
+
+    /// A standard file system call (`Opcode::StdFsCall`), as [`call_generic`](Layer::call_generic).
+    /// The metadata are its kind, 1 to 8 or 10 to 16, and two arguments.
+    ///
+    /// Refused: [`Einval`](Refusal::Einval) for fewer than three words,
+    /// [`Eopnotsupp`](Refusal::Eopnotsupp) for another kind, then as there.
+    pub fn translate_std_fs_call(
+        &mut self,
+        caller: Caller,
+        pid: Pid,
+        files: &[FileNumber],
+        payload: Payload,
+        metadata: &[u64],
+    ) -> Result<Submitted, Refusal> {
+        let files: Vec<u64> = files.iter().map(|file| file.0).collect();
+        submitted(self.steps.stdfs(&GenericCall {
+            caller: caller.0,
+            pid: pid.0,
+            fds: &files,
+            base: payload.base,
+            len: payload.len,
+            metadata,
+        }))
+    }
+
+    /// Asks the driver for a mapping of a file. It is no call: no reply serves it, and
+    /// [map supply](Layer::provide_mmap) alone vacates its slot.
+    ///
+    /// Refused: [`NoVacantSlot`](Refusal::NoVacantSlot), [`QueueFull`](Refusal::QueueFull).
+    pub fn request_fmap(
+        &mut self,
+        caller: Caller,
+        file: FileNumber,
         pages: u64,
         flags: u64,
-        uid: u32,
-        gid: u32,
-        pid: u64,
-    ) -> Outcome {
-        let words = &raw mut *self.words;
-        // SAFETY: the words are the layer's own.
-        let step = unsafe {
-            ffi::tilgurap_request_fmap(*self.state, words, c, id, pages, flags, uid, gid, pid)
+        who: Identity,
+    ) -> Result<Submitted, Refusal> {
+        submitted(
+            self.steps
+                .fmap(caller.0, file.0, pages, flags, who.uid, who.gid, who.pid.0),
+        )
+    }
+
+    /// Tells the driver that a file of its was closed. Nobody waits for a reply. The effect has to
+    /// be carried out.
+    ///
+    /// Refused: [`QueueFull`](Refusal::QueueFull).
+    pub fn close(&mut self, file: FileNumber) -> Result<Effect, Refusal> {
+        queued(self.steps.close(file.0)).map(|(_, effect)| effect)
+    }
+
+    /// Tells the driver that a descriptor of a file of its was detached. Nobody waits for a reply.
+    /// The effect has to be carried out.
+    ///
+    /// Refused: [`QueueFull`](Refusal::QueueFull).
+    pub fn detach(&mut self, file: FileNumber, pid: Pid) -> Result<Effect, Refusal> {
+        queued(self.steps.detach(file.0, pid.0)).map(|(_, effect)| effect)
+    }
+
+    /// A caller was woken: it fetches its call's reply, or goes on waiting. Woken without a
+    /// reply for the first time, it asks the driver to give the call up.
+    ///
+    /// Refused: [`Ebadfd`](Refusal::Ebadfd) where no call waits under this tag,
+    /// [`NotThisCallers`](Refusal::NotThisCallers), [`QueueFull`](Refusal::QueueFull) where there
+    /// is no room for the Cancel.
+    pub fn wake(&mut self, tag: Tag, caller: Caller) -> Result<Wake, Refusal> {
+        let woken = self.steps.wake(tag.0, caller.0, 0, 0, 0);
+        match woken.stepped.answer.kind {
+            3 => Ok(Wake::Blocked(effect(woken.stepped.effect))),
+            4 => Ok(Wake::Replied(Reply::from_stored(woken.reply, &woken.fds))),
+            _ => Err(refusal(woken.stepped.answer.value)),
+        }
+    }
+
+    /// A caller was killed. It still fetches a reply that is there. Else its call returns, with
+    /// [`Eintr`](Refusal::Eintr): its slot is not given out again until the driver has replied, and the
+    /// pages in the span are unmapped then.
+    ///
+    /// Refused: `Eintr`, and as [`wake`](Layer::wake) but for a full queue.
+    pub fn wake_killed(&mut self, tag: Tag, caller: Caller, span: Span) -> Result<Reply, Refusal> {
+        let woken = (self.steps).wake(tag.0, caller.0, 1, span.base, span.count);
+        match woken.stepped.answer.kind {
+            4 => Ok(Reply::from_stored(woken.reply, &woken.fds)),
+            _ => Err(refusal(woken.stepped.answer.value)),
+        }
+    }
+
+    /// The driver reads from its queue: min(length, unread bytes). Whole entries are removed; a
+    /// part of one comes again. Bytes beyond those stored stay as they are.
+    ///
+    /// Refused: as [`WhenEmpty::Refuse`] says.
+    pub fn read(&mut self, out: &mut [u8], when_empty: WhenEmpty) -> Result<Read, Refusal> {
+        let flags = match when_empty {
+            WhenEmpty::Wait => 0,
+            WhenEmpty::Refuse => NONBLOCK,
         };
-        self.stepped(step)
+        let answer = self.steps.read(out, flags);
+        match answer.kind {
+            0 => Ok(Read::Stored(answer.value as usize)),
+            2 => Ok(Read::WouldWait),
+            _ => Err(refusal(answer.value)),
+        }
     }
 
-    pub fn close(&mut self, id: u64) -> Outcome {
-        // SAFETY: the words are the layer's own.
-        let step = unsafe { ffi::tilgurap_close(*self.state, &raw mut *self.words, id) };
-        self.stepped(step)
+    /// The driver takes the next entry, if there is one.
+    pub fn next_entry(&mut self) -> Option<Sqe> {
+        let mut bytes = [0; Sqe::BYTES];
+        let read = self.read(&mut bytes, WhenEmpty::Refuse);
+        (read == Ok(Read::Stored(Sqe::BYTES))).then(|| Sqe::from_bytes(&bytes))
     }
 
-    pub fn detach(&mut self, id: u64, pid: u64) -> Outcome {
-        // SAFETY: the words are the layer's own.
-        let step = unsafe { ffi::tilgurap_detach(*self.state, &raw mut *self.words, id, pid) };
-        self.stepped(step)
-    }
-
-    pub fn wake(&mut self, tag: u64, c: u32, killed: u64, base: u64, count: u64) -> Outcome {
-        let (words, tag) = (&raw mut *self.words, ffi::Tag(tag));
-        // SAFETY: the words are the layer's own.
-        let woken = unsafe { ffi::tilgurap_wake(*self.state, words, tag, c, killed, base, count) };
-        *self.state = woken.state;
-        Outcome {
-            answer: match woken.answer.kind {
-                4 => Answer::Reply(reply(woken.reply, woken.fds)),
-                _ => answer(woken.answer),
+    /// The driver writes completion entries: whole ones of 16 bytes in order; fewer than 16 left
+    /// over are not read. The first that is refused ends it.
+    ///
+    /// Refused for its first entry's sake: [`Einval`](Refusal::Einval), [`Ebadfd`](Refusal::Ebadfd),
+    /// [`Enoent`](Refusal::Enoent).
+    pub fn write(&mut self, bytes: &[u8]) -> Written {
+        let mut words = vec![0; EFFECT_WORDS * (bytes.len() / Cqe::BYTES)];
+        let (answer, used) = self.steps.write(&mut words, bytes);
+        let effects = words[..used].chunks_exact(3);
+        Written {
+            answer: match answer.kind {
+                0 => Ok(answer.value as usize),
+                _ => Err(refusal(answer.value)),
             },
-            effect: effect(woken.effect),
+            effects: effects
+                .filter_map(|words| Effect::from_words([words[0], words[1], words[2]]))
+                .collect(),
         }
     }
 
-    /// Bytes of `out` beyond those stored stay as they are.
-    pub fn read(&mut self, out: &mut [u8], flags: u32) -> Answer {
-        let (words, at, len) = (&raw const *self.words, out.as_mut_ptr(), out.len());
-        // SAFETY: the words are the layer's own; the pointer goes with its length.
-        let received = unsafe { ffi::tilgurap_read(*self.state, words, at, len, flags) };
-        *self.state = received.state;
-        answer(received.answer)
+    /// The driver writes one completion entry.
+    pub fn complete(&mut self, entry: Cqe) -> Written {
+        self.write(&entry.to_bytes())
     }
 
-    /// The answer, and how many of the lent words hold effects, three to each.
-    pub fn write(&mut self, fx: &mut [u64], bytes: &[u8]) -> (Answer, usize) {
-        let (at, lent) = (fx.as_mut_ptr(), fx.len());
-        // SAFETY: each pointer comes from the slice whose length goes with it.
-        let completed =
-            unsafe { ffi::tilgurap_write(*self.state, at, lent, bytes.as_ptr(), bytes.len()) };
-        *self.state = completed.state;
-        (answer(completed.answer), completed.words)
+    /// The driver gives a waiting call these descriptions, out of outside holds, in the place of
+    /// those that it has. A refused move has dropped them, but for
+    /// [`OutOfRules`](Refusal::OutOfRules) and [`ManyDescriptions`](Refusal::ManyDescriptions).
+    /// Returns how many.
+    ///
+    /// Refused: those, [`Einval`](Refusal::Einval) for a vacant tag, [`Enoent`](Refusal::Enoent)
+    /// where the call does not wait.
+    pub fn move_list(&mut self, tag: Tag, list: &[Description]) -> Result<usize, Refusal> {
+        let stepped = self.steps.move_list(&[1, tag.0], &numbers(list));
+        done(&stepped).map(|count| count as usize)
     }
 
-    pub fn move_list(&mut self, meta: &[u64], list: &[u64]) -> Outcome {
-        let (metadata, fds) = (meta.as_ptr(), list.as_ptr());
-        // SAFETY: each pointer comes from the slice whose length goes with it.
-        let step = unsafe {
-            ffi::tilgurap_call_fdwrite(*self.state, metadata, meta.len(), fds, list.len())
+    /// The driver takes a waiting call's descriptions, which become outside holds. Returns how
+    /// many.
+    ///
+    /// Refused: [`Einval`](Refusal::Einval) for a vacant tag, [`Enoent`](Refusal::Enoent) where the
+    /// call does not wait.
+    pub fn obtain_list(&mut self, tag: Tag) -> Result<usize, Refusal> {
+        let stepped = self.steps.obtain(&[0, tag.0]);
+        done(&stepped).map(|count| count as usize)
+    }
+
+    /// The driver supplies the page of a map request, which vacates its slot.
+    ///
+    /// Refused: [`Einval`](Refusal::Einval) for an offset or base off a page, a count that is not 1, or
+    /// a slot that is no map request's; [`Ebadfd`](Refusal::Ebadfd) for a reserved one;
+    /// [`Esrch`](Refusal::Esrch) where the caller has ended, and the slot is vacated all the same.
+    pub fn provide_mmap(
+        &mut self,
+        tag: Tag,
+        offset: u64,
+        base: u64,
+        count: u64,
+    ) -> Result<(), Refusal> {
+        done(&self.steps.supply(tag.0, offset, base, count)).map(drop)
+    }
+
+    /// The four status words.
+    pub fn status(&self) -> Status {
+        let word = |(bits, count)| StatusWord { bits, count };
+        let [placeholder, waiting, responded, fmap] = self.steps.status().map(word);
+        Status {
+            placeholder,
+            waiting,
+            responded,
+            fmap,
+        }
+    }
+
+    /// What the slot with this tag holds.
+    pub fn slot(&self, tag: Tag) -> Slot {
+        let slots = &self.steps.state.table.slots;
+        let slot = usize::try_from(tag.0).ok().and_then(|tag| slots.get(tag));
+        slot.map_or(Slot::VACANT, Slot::of)
+    }
+
+    /// The slots that are not vacant, by their tags.
+    pub fn occupied(&self) -> Vec<(Tag, Slot)> {
+        let slots = (0..64).map(|tag| (Tag(tag), self.slot(Tag(tag))));
+        slots
+            .filter(|(_, slot)| slot.state != SlotState::Vacant)
+            .collect()
+    }
+
+    /// The entries that the driver has not read, in order.
+    pub fn unread(&self) -> Vec<Sqe> {
+        let mut reader = self.clone();
+        std::iter::from_fn(|| reader.next_entry()).collect()
+    }
+
+    /// The description in a handle of the driver's.
+    pub fn handle(&self, handle: Handle) -> Option<Description> {
+        let handles = &self.steps.state.driver.handles.at;
+        let held = handles.get(usize::try_from(handle.0).ok()?)?;
+        held.checked_sub(1).map(|d| Description(u64::from(d)))
+    }
+
+    /// How many hold a description: 0 where it is not open.
+    pub fn holds(&self, description: Description) -> Holds {
+        let counts = &self.steps.state.table.holds;
+        let at = |of: &[u16; 64]| {
+            let place = usize::try_from(description.0).ok();
+            place.and_then(|d| of.get(d)).copied().unwrap_or(0)
         };
-        self.stepped(step)
-    }
-
-    pub fn obtain(&mut self, meta: &[u64]) -> Outcome {
-        // SAFETY: the pointer goes with its length.
-        let step = unsafe { ffi::tilgurap_call_fdread(*self.state, meta.as_ptr(), meta.len()) };
-        self.stepped(step)
-    }
-
-    pub fn supply(&mut self, tag: u64, offset: u64, base: u64, count: u64) -> Outcome {
-        let tag = ffi::Tag(tag);
-        // SAFETY: numbers alone.
-        let step = unsafe { ffi::tilgurap_provide_mmap(*self.state, tag, offset, base, count) };
-        self.stepped(step)
-    }
-
-    /// Placeholder, Waiting, Responded and Fmap: one bit a slot, and the count of ones.
-    pub fn status(&self) -> [(u64, u64); 4] {
-        let mut words = [0; 8];
-        // SAFETY: the words are there to be written.
-        unsafe { ffi::tilgurap_status(*self.state, &raw mut words) };
-        array::from_fn(|of| (words[2 * of], words[2 * of + 1]))
-    }
-
-    /// The state as a run's last line has it.
-    pub fn state(&self) -> State {
-        let table = &self.state.table;
-        let slots = array::from_fn(|tag| match table.slots[tag].state {
-            1 => Phase::Placeholder,
-            2 => Phase::Waiting,
-            3 => Phase::Responded,
-            4 => Phase::Fmap,
-            _ => Phase::Vacant,
-        });
-        State {
-            slots,
-            queue: u64::from(self.state.driver.queue.len),
-            holds: table.holds.holds.map(u64::from),
-            outside: table.holds.outside.map(u64::from),
-            handles: (self.state.driver.handles.at).map(|held| held.checked_sub(1).map(u64::from)),
-            status: self.status(),
+        Holds {
+            all: at(&counts.holds),
+            outside: at(&counts.outside),
         }
-    }
-    #[cfg(feature = "parts")]
-    pub fn parts(&self) -> &ffi::State {
-        &self.state
-    }
-
-    #[cfg(feature = "parts")]
-    pub fn parts_mut(&mut self) -> &mut ffi::State {
-        &mut self.state
     }
 }

@@ -7,7 +7,7 @@ use std::time::{Duration, Instant};
 
 use oracle::Oracle;
 use script::{Event, Payload};
-use tilgurap::Layer;
+use tilgurap::numbers::Layer;
 
 const ROUNDS: usize = 101;
 const BATCHES: usize = 6;
@@ -513,7 +513,7 @@ fn run_time(events: &[Event]) -> f64 {
     let mut fx = vec![0; 54 * 16];
     let mut run = || {
         let start = Instant::now();
-        let end = tilgurap::run(7, &bytes, &mut out, &mut fx);
+        let end = tilgurap::numbers::run(7, &bytes, &mut out, &mut fx);
         let spent = nanoseconds(start.elapsed());
         assert_eq!((end.number, end.place), (0, bytes.len() as u64));
         spent

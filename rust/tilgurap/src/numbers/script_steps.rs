@@ -2,7 +2,7 @@
 
 use script::{Answer, Effect, Event, Line, OutputLine, Script};
 
-use crate::layer::{Layer, Outcome};
+use crate::numbers::{Layer, Outcome};
 
 /// The words that a whole completion entry may make.
 const EFFECT_WORDS: u64 = 54;

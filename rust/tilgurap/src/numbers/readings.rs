@@ -1,4 +1,4 @@
-//! How a reply, an error word and an entry are read.
+//! How a reply, an error word and an entry are read, in numbers.
 
 use script::Reply;
 
@@ -11,6 +11,7 @@ pub enum Opened {
     Local(u64, u8),
     /// A description.
     External(u64),
+    /// Refused with this errno.
     Refused(u64),
 }
 
@@ -79,12 +80,14 @@ pub fn read_call_generic(reply: &Reply) -> (Result<u64, u64>, bool) {
     (result(regular.answer), regular.notice)
 }
 
+/// How `kopenat` reads it.
 pub fn kopenat(reply: &Reply) -> Opened {
     let (reply, list) = stored(reply);
     // SAFETY: numbers alone.
     opened(unsafe { ffi::tilgurap_kopenat(reply, list) })
 }
 
+/// How `kdup` reads it.
 pub fn kdup(reply: &Reply) -> Opened {
     let (reply, list) = stored(reply);
     // SAFETY: numbers alone.
@@ -103,16 +106,19 @@ pub fn mux_error(errno: i32) -> u64 {
     unsafe { ffi::tilgurap_mux_error(errno) }
 }
 
+/// The submission entry in these bytes.
 pub fn sqe(bytes: &[u8]) -> Sqe {
     // SAFETY: the pointer goes with its length.
     unsafe { ffi::tilgurap_sqe(bytes.as_ptr(), bytes.len()) }
 }
 
+/// The completion entry in these bytes.
 pub fn cqe(bytes: &[u8]) -> Cqe {
     // SAFETY: the pointer goes with its length.
     unsafe { ffi::tilgurap_cqe(bytes.as_ptr(), bytes.len()) }
 }
 
+/// A submission entry's bytes.
 pub fn sqe_bytes(entry: Sqe) -> [u8; 64] {
     let mut bytes = [0; 64];
     // SAFETY: the bytes are there to be written.
@@ -120,6 +126,7 @@ pub fn sqe_bytes(entry: Sqe) -> [u8; 64] {
     bytes
 }
 
+/// A completion entry's bytes.
 pub fn cqe_bytes(entry: Cqe) -> [u8; 16] {
     let mut bytes = [0; 16];
     // SAFETY: the bytes are there to be written.

@@ -1,0 +1,108 @@
+//! What the layer asks its host to do.
+
+use std::fmt::{self, Display, Formatter};
+
+use crate::ids::{Caller, Description, SchemeNumber, Span, Tag};
+
+/// Event bits, as in `syscall/src/flag.rs`.
+#[derive(Clone, Copy, Debug, PartialEq, Eq, Hash)]
+pub struct EventFlags(pub u64);
+
+impl EventFlags {
+    /// There is something to read.
+    pub const READ: EventFlags = EventFlags(1);
+    /// There is room to write.
+    pub const WRITE: EventFlags = EventFlags(2);
+    /// The other end went away.
+    pub const HUP: EventFlags = EventFlags(4);
+    /// An error.
+    pub const ERR: EventFlags = EventFlags(8);
+    /// Not open.
+    pub const NVAL: EventFlags = EventFlags(16);
+}
+
+/// What the host has to do after an event. The layer does none of it.
+#[derive(Clone, Copy, Debug, PartialEq, Eq)]
+pub enum Effect {
+    /// Wake this caller: the call with this tag has a reply.
+    Wake {
+        /// Whom.
+        caller: Caller,
+        /// Whose call.
+        tag: Tag,
+    },
+    /// Unmap these pages, which were lent to a call that was killed.
+    Unmap {
+        /// Which.
+        span: Span,
+    },
+    /// Close this description: its last hold is gone.
+    Close {
+        /// Which.
+        description: Description,
+    },
+    /// Pass a file's event on, which the driver sent.
+    Event {
+        /// The file's number with the driver.
+        number: u64,
+        /// What happened.
+        flags: EventFlags,
+    },
+    /// Tell the driver about its queue: there is something to read.
+    Readable {
+        /// Whose queue.
+        scheme: SchemeNumber,
+        /// What happened.
+        flags: EventFlags,
+    },
+}
+
+impl Effect {
+    /// The effect that these three words say: kind 1 to 5, a, b.
+    pub fn from_words([kind, a, b]: [u64; 3]) -> Option<Effect> {
+        Some(match kind {
+            1 => Effect::Wake {
+                caller: Caller(u32::try_from(a).ok()?),
+                tag: Tag(b),
+            },
+            2 => Effect::Unmap {
+                span: Span { base: a, count: b },
+            },
+            3 => Effect::Close {
+                description: Description(a),
+            },
+            4 => Effect::Event {
+                number: a,
+                flags: EventFlags(b),
+            },
+            5 => Effect::Readable {
+                scheme: SchemeNumber(a),
+                flags: EventFlags(b),
+            },
+            _ => return None,
+        })
+    }
+}
+
+impl Display for Effect {
+    fn fmt(&self, f: &mut Formatter) -> fmt::Result {
+        match self {
+            Effect::Wake { caller, tag } => {
+                write!(
+                    f,
+                    "wake caller {caller}, the call with tag {tag} has its reply"
+                )
+            }
+            Effect::Unmap { span } => write!(f, "unmap pages from {} on, {} of them", span.base, span.count),
+            Effect::Close { description } => {
+                write!(f, "close description {description}, nobody holds it")
+            }
+            Effect::Event { number, flags } => {
+                write!(f, "pass on event {} of the driver's file {number}", flags.0)
+            }
+            Effect::Readable { scheme, .. } => {
+                write!(f, "the queue of scheme {scheme} has something to read")
+            }
+        }
+    }
+}

@@ -1,0 +1,414 @@
+//! Each event through the crate's types: what it answers, what it asks the host to do, what it leaves.
+
+use tilgurap::{
+    Caller, Cqe, Description, Effect, Errno, EventFlags, FileNumber, Handle, Holds, Identity,
+    Layer, ObtainFlags, Opcode, Opened, Payload, Pid, Read, Refusal, Reply, Request, SchemeNumber,
+    SlotState, Span, Sqe, SqeFlags, Submitted, Tag, Wake, WhenEmpty,
+};
+
+const CALLER: Caller = Caller(100);
+const WHO: Identity = Identity {
+    uid: 1,
+    gid: 2,
+    pid: Pid(9),
+};
+const READABLE: Effect = Effect::Readable {
+    scheme: SchemeNumber(7),
+    flags: EventFlags::READ,
+};
+
+fn layer() -> Layer {
+    Layer::new(SchemeNumber(7))
+}
+
+/// A call that its driver has read, with this list.
+fn waiting(list: &[u64]) -> (Layer, Tag) {
+    let mut layer = layer();
+    let list: Vec<Description> = list.iter().map(|d| Description(*d)).collect();
+    for description in &list {
+        layer.open(*description).unwrap();
+    }
+    let called = layer.call(CALLER, Opcode::Read, [0; 5], WHO, &list);
+    let tag = called.unwrap().tag;
+    layer.next_entry().unwrap();
+    (layer, tag)
+}
+
+fn reply(layer: &mut Layer, tag: Tag) -> Reply {
+    match layer.wake(tag, CALLER) {
+        Ok(Wake::Replied(reply)) => reply,
+        other => panic!("{other:?}"),
+    }
+}
+
+fn regular(result: Result<u64, Errno>) -> Reply {
+    Reply::Regular {
+        result,
+        extra0: 0,
+        notice: false,
+    }
+}
+
+#[test]
+fn holds_and_handles() {
+    let mut layer = layer();
+    let (d, h) = (Description(3), Handle(5));
+    assert_eq!(layer.copy(d), Err(Refusal::OutOfRules));
+    layer.open(d).unwrap();
+    assert_eq!(layer.open(d), Err(Refusal::OutOfRules));
+    layer.copy(d).unwrap();
+    layer.put(d, h).unwrap();
+    assert_eq!(layer.put(d, h), Err(Refusal::OutOfRules));
+    assert_eq!(layer.handle(h), Some(d));
+    assert_eq!((layer.holds(d).all, layer.holds(d).outside), (2, 1));
+    layer.drop_hold(d).unwrap();
+    assert_eq!(layer.drop_hold(d), Err(Refusal::OutOfRules));
+    for _ in 0..65_534 {
+        layer
+            .open(Description(4))
+            .or_else(|_| layer.copy(Description(4)))
+            .unwrap();
+    }
+    layer.copy(Description(4)).unwrap();
+    assert_eq!(layer.copy(Description(4)), Err(Refusal::HoldsFull));
+    assert_eq!(layer.holds(Description(64)), Holds { all: 0, outside: 0 });
+    assert_eq!(layer.handle(Handle(64)), None);
+}
+
+#[test]
+fn reserve_then_submit() {
+    let mut layer = layer();
+    let request = Request {
+        opcode: Opcode::Fsync,
+        flags: SqeFlags::ONEWAY,
+        args: [1, 2, 3, 4, 5, 6],
+        pid: Pid(9),
+    };
+    let tag = layer.reserve(CALLER).unwrap();
+    assert_eq!(layer.slot(tag).state, SlotState::Placeholder);
+    let other = layer.submit(tag, Caller(101), request, &[]);
+    assert_eq!(other, Err(Refusal::NotThisCallers));
+    let many = layer.submit(tag, CALLER, request, &[Description(0); 17]);
+    assert_eq!(many, Err(Refusal::OutOfRules));
+    let submitted = layer.submit(tag, CALLER, request, &[]);
+    assert_eq!(
+        submitted,
+        Ok(Submitted {
+            tag,
+            effect: READABLE
+        })
+    );
+    let entry = Sqe {
+        opcode: 17,
+        flags: SqeFlags::ONEWAY,
+        tag,
+        args: [1, 2, 3, 4, 5, 6],
+        pid: Pid(9),
+    };
+    assert_eq!(layer.unread(), [entry]);
+    assert_eq!(layer.next_entry(), Some(entry));
+    assert_eq!(layer.next_entry(), None);
+    assert_eq!(Sqe::from_bytes(&entry.to_bytes()), entry);
+}
+
+#[test]
+fn calls_in_each_form() {
+    let mut layer = layer();
+    let called = layer.call(CALLER, Opcode::Write, [1, 2, 3, 4, 5], WHO, &[]);
+    assert_eq!(called.unwrap().effect, READABLE);
+    let payload = Payload { base: 4096, len: 8 };
+    let files = [FileNumber(20), FileNumber(21), FileNumber(22)];
+    let generic = |layer: &mut Layer, many: usize| {
+        layer.call_generic(CALLER, Pid(9), &files[..many], payload, &[6, 7, 8])
+    };
+    assert_eq!(generic(&mut layer, 0), Err(Refusal::Einval));
+    assert_eq!(generic(&mut layer, 3), Err(Refusal::Einval));
+    assert!(generic(&mut layer, 1).is_ok() && generic(&mut layer, 2).is_ok());
+    let std = |layer: &mut Layer, kind: u64| {
+        layer.translate_std_fs_call(CALLER, Pid(9), &files[..1], payload, &[kind, 7, 8])
+    };
+    assert_eq!(std(&mut layer, 9), Err(Refusal::Eopnotsupp));
+    assert!(std(&mut layer, 0x101).is_ok());
+    let mapped = layer.request_fmap(CALLER, FileNumber(9), 2, 3, WHO);
+    assert_eq!(mapped.unwrap().tag, Tag(4));
+    assert_eq!(layer.slot(Tag(4)).state, SlotState::Fmap);
+    layer.close(FileNumber(30)).unwrap();
+    layer.detach(FileNumber(31), Pid(9)).unwrap();
+    let read = layer.unread();
+    let told: Vec<_> = (read.iter())
+        .map(|entry| (entry.opcode().unwrap(), entry.tag.0, entry.args))
+        .collect();
+    assert!((read.iter()).all(|entry| entry.pid.0 == if entry.args[0] == 30 { 0 } else { 9 }));
+    let owner = 1 + (2 << 32);
+    assert_eq!(
+        told,
+        [
+            (Opcode::Write, 0, [1, 2, 3, 4, 5, owner]),
+            (Opcode::Call, 1, [20, 4096, 8, 6, 7, 8]),
+            (Opcode::Call, 2, [20, 4096, 8, 6, 7, 21]),
+            (Opcode::StdFsCall, 3, [20, 4096, 8, 1, 7, 8]),
+            (Opcode::RequestMmap, 4, [9, 3, 2, 0, 0, owner]),
+            (Opcode::CloseMsg, 0, [30, 0, 0, 0, 0, 0]),
+            (Opcode::Detach, 0, [31, 0, 0, 0, 0, 0]),
+        ]
+    );
+}
+
+#[test]
+fn no_slot_and_no_room() {
+    let mut layer = layer();
+    for tag in 0..64 {
+        assert_eq!(layer.reserve(CALLER), Ok(Tag(tag)));
+    }
+    assert_eq!(layer.reserve(CALLER), Err(Refusal::NoVacantSlot));
+    for _ in 0..128 {
+        layer.close(FileNumber(1)).unwrap();
+    }
+    assert_eq!(layer.close(FileNumber(1)), Err(Refusal::QueueFull));
+    assert_eq!(layer.unread().len(), 128);
+    assert_eq!(layer.status().placeholder.count, 64);
+    assert_eq!(layer.occupied().len(), 64);
+}
+
+#[test]
+fn reads() {
+    let mut layer = layer();
+    let mut bytes = [0xa5; 100];
+    assert_eq!(layer.read(&mut bytes, WhenEmpty::Wait), Ok(Read::WouldWait));
+    assert_eq!(
+        layer.read(&mut bytes, WhenEmpty::Refuse),
+        Err(Refusal::Eagain)
+    );
+    assert_eq!(
+        layer.read(&mut bytes[..63], WhenEmpty::Refuse),
+        Err(Refusal::Einval)
+    );
+    assert_eq!(bytes, [0xa5; 100]);
+    layer.close(FileNumber(1)).unwrap();
+    layer.close(FileNumber(2)).unwrap();
+    assert_eq!(
+        layer.read(&mut bytes, WhenEmpty::Wait),
+        Ok(Read::Stored(100))
+    );
+    assert_eq!(layer.next_entry().unwrap().args[0], 2);
+}
+
+#[test]
+fn each_kind_of_completion() {
+    // 0 and 5: words and errors
+    for (entry, wanted) in [
+        (Cqe::ok(Tag(0), 7), regular(Ok(7))),
+        (Cqe::err(Tag(0), Errno::ENOSPC), regular(Err(Errno::ENOSPC))),
+        (Cqe::err(Tag(0), Errno::EINTR), regular(Err(Errno::EIO))),
+        (
+            Cqe::err_with_notice(Tag(0), Errno::ENOENT).with_extra([3, 0, 0]),
+            Reply::Regular {
+                result: Err(Errno::ENOENT),
+                extra0: 3,
+                notice: true,
+            },
+        ),
+        (
+            Cqe::ok_with_notice(Tag(0), 7),
+            Reply::Regular {
+                result: Ok(7),
+                extra0: 0,
+                notice: true,
+            },
+        ),
+    ] {
+        let (mut layer, tag) = waiting(&[]);
+        let written = layer.complete(entry);
+        assert_eq!(written.answer, Ok(16));
+        assert_eq!(
+            written.effects,
+            [Effect::Wake {
+                caller: CALLER,
+                tag
+            }]
+        );
+        assert_eq!(layer.slot(tag).reply.as_ref(), Some(&wanted));
+        assert_eq!(reply(&mut layer, tag), wanted);
+        assert_eq!(layer.slot(tag).state, SlotState::Vacant);
+        assert_eq!(layer.wake(tag, CALLER), Err(Refusal::Ebadfd));
+    }
+
+    // 1: the description in a handle
+    let (mut layer, tag) = waiting(&[1]);
+    layer.open(Description(2)).unwrap();
+    layer.put(Description(2), Handle(6)).unwrap();
+    let empty = layer.complete(Cqe::descriptor(tag, Handle(7)));
+    assert_eq!(empty.answer, Err(Refusal::Einval));
+    let written = layer.complete(Cqe::descriptor(tag, Handle(6)));
+    let closed = Effect::Close {
+        description: Description(1),
+    };
+    assert_eq!(
+        written.effects,
+        [
+            Effect::Wake {
+                caller: CALLER,
+                tag
+            },
+            closed
+        ]
+    );
+    let twice = layer.complete(Cqe::ok(tag, 0));
+    assert_eq!(twice.answer, Err(Refusal::Einval));
+    assert_eq!(reply(&mut layer, tag), Reply::Descriptor(Description(2)));
+
+    // 2: an event
+    let written = layer.complete(Cqe::event(33, EventFlags::WRITE));
+    let event = Effect::Event {
+        number: 33,
+        flags: EventFlags::WRITE,
+    };
+    assert_eq!((written.answer, written.effects), (Ok(16), vec![event]));
+    let unknown = layer.complete(Cqe::event(33, EventFlags(1 << 40)));
+    assert_eq!(unknown.answer, Err(Refusal::Einval));
+
+    // 3: the first description to a handle; 4: the others as the reply
+    let (mut layer, tag) = waiting(&[1, 2, 3]);
+    let obtain = Cqe::obtain(tag, Handle(0), ObtainFlags::CLOEXEC);
+    assert_eq!(
+        (obtain.kind(), obtain.tag(), obtain.parse()),
+        (3, tag, Ok(()))
+    );
+    assert_eq!(layer.complete(obtain).answer, Ok(16));
+    assert_eq!(layer.handle(Handle(0)), Some(Description(1)));
+    assert_eq!(layer.complete(Cqe::many(tag)).answer, Ok(16));
+    let many = Reply::Many(vec![Description(2), Description(3)]);
+    assert_eq!(reply(&mut layer, tag), many);
+    let unknown = Cqe::obtain(tag, Handle(0), ObtainFlags(16));
+    assert_eq!(unknown.parse(), Err(Refusal::Einval));
+
+    // a good entry, a bad one, one that is not looked at
+    let (mut layer, tag) = waiting(&[]);
+    let entries = [
+        Cqe::ok(tag, 1),
+        Cqe::ok(Tag(9), 1),
+        Cqe::event(1, EventFlags::READ),
+    ];
+    let written = layer.write(&entries.map(Cqe::to_bytes).concat());
+    assert_eq!(written.answer, Ok(16));
+    assert_eq!(
+        written.effects,
+        [Effect::Wake {
+            caller: CALLER,
+            tag
+        }]
+    );
+    assert_eq!(
+        layer.complete(Cqe::ok(Tag(1 << 40), 1)).answer,
+        Err(Refusal::Ebadfd)
+    );
+}
+
+#[test]
+fn woken_too_early_and_killed() {
+    let (mut layer, tag) = waiting(&[]);
+    assert_eq!(layer.wake(tag, Caller(101)), Err(Refusal::NotThisCallers));
+    assert_eq!(layer.wake(tag, CALLER), Ok(Wake::Blocked(Some(READABLE))));
+    assert_eq!(layer.wake(tag, CALLER), Ok(Wake::Blocked(None)));
+    assert!(layer.slot(tag).cancelling);
+    let cancel = layer.next_entry().unwrap();
+    assert_eq!((cancel.opcode(), cancel.tag), (Some(Opcode::Cancel), tag));
+    let span = Span { base: 5, count: 2 };
+    assert_eq!(layer.wake_killed(tag, CALLER, span), Err(Refusal::Eintr));
+    assert_eq!(
+        (layer.slot(tag).returned, layer.slot(tag).span),
+        (true, span)
+    );
+    let written = layer.complete(Cqe::err(tag, Errno::ECANCELED));
+    let wake = Effect::Wake {
+        caller: CALLER,
+        tag,
+    };
+    assert_eq!(written.effects, [wake, Effect::Unmap { span }]);
+    assert_eq!(layer.status().responded.tags().collect::<Vec<_>>(), [tag]);
+
+    let (mut layer, tag) = waiting(&[]);
+    let written = layer.complete(Cqe::ok(tag, 8));
+    assert_eq!(written.answer, Ok(16));
+    assert_eq!(layer.wake_killed(tag, CALLER, span), Ok(regular(Ok(8))));
+}
+
+#[test]
+fn an_ended_caller() {
+    let (mut layer, tag) = waiting(&[1]);
+    layer.ended(CALLER);
+    assert!(layer.slot(tag).ended);
+    let written = layer.complete(Cqe::ok(tag, 0));
+    let closed = Effect::Close {
+        description: Description(1),
+    };
+    assert_eq!(written.effects, [closed]);
+    assert_eq!(layer.slot(tag).state, SlotState::Vacant);
+}
+
+#[test]
+fn lists_moved_and_obtained() {
+    let (mut layer, tag) = waiting(&[1, 2]);
+    assert_eq!(
+        layer.slot(tag).descriptions,
+        [Description(1), Description(2)]
+    );
+    assert_eq!(layer.obtain_list(tag), Ok(2));
+    assert_eq!(layer.move_list(tag, &[Description(2)]), Ok(1));
+    assert_eq!(layer.slot(tag).descriptions, [Description(2)]);
+    assert_eq!(
+        layer.move_list(Tag(9), &[Description(1)]),
+        Err(Refusal::Einval)
+    );
+    // what a refused move brought is gone
+    assert_eq!(layer.holds(Description(1)).all, 0);
+    assert_eq!(layer.complete(Cqe::many(tag)).answer, Ok(16));
+    assert_eq!(layer.obtain_list(tag), Err(Refusal::Enoent));
+}
+
+#[test]
+fn a_map_request() {
+    let mut layer = layer();
+    let tag = layer
+        .request_fmap(CALLER, FileNumber(9), 1, 0, WHO)
+        .unwrap()
+        .tag;
+    assert_eq!(layer.complete(Cqe::ok(tag, 0)).answer, Err(Refusal::Einval));
+    assert_eq!(layer.provide_mmap(tag, 0, 4095, 1), Err(Refusal::Einval));
+    assert_eq!(layer.provide_mmap(tag, 0, 4096, 1), Ok(()));
+    let tag = layer
+        .request_fmap(CALLER, FileNumber(9), 1, 0, WHO)
+        .unwrap()
+        .tag;
+    layer.ended(CALLER);
+    assert_eq!(layer.provide_mmap(tag, 0, 4096, 1), Err(Refusal::Esrch));
+    assert_eq!(layer.slot(tag).state, SlotState::Vacant);
+}
+
+#[test]
+fn replies_read() {
+    let one = || Reply::Descriptor(Description(5));
+    let many = || Reply::Many(vec![Description(5); 16]);
+    assert_eq!(regular(Ok(7)).into_regular(), Ok(7));
+    assert_eq!(one().into_regular(), Err(Errno::EIO));
+    assert_eq!(many().into_call_generic(), (Err(Errno::EIO), false));
+    let noticed = Reply::Regular {
+        result: Err(Errno::ENOENT),
+        extra0: 1,
+        notice: true,
+    };
+    assert_eq!(noticed.into_call_generic(), (Err(Errno::ENOENT), true));
+    assert_eq!(one().into_kopenat(), Ok(Opened::External(Description(5))));
+    assert_eq!(many().into_kdup(), Err(Errno::EIO));
+    let opened = |extra0| Reply::Regular {
+        result: Ok(44),
+        extra0,
+        notice: false,
+    };
+    let local = Opened::Local {
+        number: 44,
+        flags: 1,
+    };
+    assert_eq!(opened(1).into_kopenat(), Ok(local));
+    assert_eq!(opened(2).into_kdup(), Err(Errno::EINVAL));
+}
