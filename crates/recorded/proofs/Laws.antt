@@ -12,7 +12,8 @@ use borrow.Author.Tests.{eq-eqb, ne-eqb, eqb-true}
 use Rattle.record.specs.Record.{nextOf, eventAt, Decoded, stops, before, decoded}
 use Rattle.record.proofs.Laws.{next-there, walk-ends, walk-goes-on}
 use Rattle.run.specs.declared.RunEnd.{RunEnd}
-use Rattle.run.specs.Run.{runOf, needed, outputOf, wholeEnd, endOf, outAfter}
+use Rattle.run.specs.Run.{runOf, outputOf, wholeEnd, endOf, outAfter}
+use Rattle.run_room.specs.Room.{needed}
 use Rattle.recorded.specs.declared.Compared.{Compared}
 use Rattle.recorded.specs.Recorded.{checkOf, sameOf, writtenOf, comparedOf, asRecordedOf, Recorded}
 

@@ -5,7 +5,8 @@ use mathlib.Core.Bool.{Bool, cond, _&&_}
 use mathlib.Core.List.{List, [], _∷_}
 use lib.Dec.{eqb, leb}
 use Rattle.record.specs.Record.{decoded}
-use Rattle.run.specs.Run.{runOf, needed, outputOf, endOf}
+use Rattle.run.specs.Run.{runOf, outputOf, endOf}
+use Rattle.run_room.specs.Room.{needed}
 use Rattle.recorded.specs.declared.Compared.{Compared}
 
 -- the bytes as digits to the base 256 behind a number, modulo a prime
