@@ -132,7 +132,7 @@ fn read_turn(s: State, words: &[u64; 1024], r: Record, buf: &mut [u8], out: &mut
     let o = driver_step::read(s, words, &mut buf[..n], r.number);
     let answer = o.answer;
     let after = o.state;
-    let used = outcome_bytes::put_received(out, answer, &buf[..k]);
+    let used = lent_bytes::put_received(out, answer, &buf[..k]);
     Turned {
         state: after,
         used: used,
@@ -163,7 +163,7 @@ fn write_turn(
     let m = o.words;
     let answer = o.answer;
     let after = o.state;
-    let used = outcome_bytes::put_completed(out, answer, &fx[..m]);
+    let used = lent_bytes::put_completed(out, answer, &fx[..m]);
     Turned {
         state: after,
         used: used,

@@ -1,3 +1,4 @@
+-- `outcome_bytes::put_fds` meets its contract. Assumes nothing.
 use Rattle.outcome_bytes.proofs.put_fds.Statement.{statement}
 use Rattle.outcome_bytes.proofs.put_fds.Tie as tie
 use borrow.Author.Needs.{needs}
@@ -20,51 +21,39 @@ Inv-loop out₀ at l n i₀ out i = (i ≤ n) × (out ≡ sets out₀ at (bytesO
 abbrev μ-loop : tie.MeasureT-loop
 μ-loop out₀ at l n i₀ out i = n - i
 
--- src/lib.rt:68:9
 size-requires : tie.Need-size-requires Inv-loop μ-loop
 size-requires c κs = search needs
 
--- src/lib.rt:70:5
 loop-holds : tie.Need-loop-holds Inv-loop μ-loop
 loop-holds c = (omega arith, refl)
 
--- src/lib.rt:71:13
 pick-requires : tie.Need-pick-requires Inv-loop μ-loop
 pick-requires c κs = search needs
 
--- src/lib.rt:72:32
 mul-put8 : tie.Need-mul-put8 Inv-loop μ-loop
 mul-put8 c = omega (arith, c .before .before .loop-test .taken, c .before .before .before .before .size .ensures .1)
 
--- src/lib.rt:72:27
 add-put8 : tie.Need-add-put8 Inv-loop μ-loop
 add-put8 c = let c2 = c .before .before in let c4 = c2 .before .before in let c6 = c4 .before .before in omega (arith, c2 .loop-test .taken, c4 .size .ensures .1, c6 .pre)
 
--- src/lib.rt:72:39
 cast-put8 : tie.Need-cast-put8 Inv-loop μ-loop
 cast-put8 c = search needs
 
--- src/lib.rt:72:9
 put8-requires : tie.Need-put8-requires Inv-loop μ-loop
 put8-requires c κs = search needs
 
--- src/lib.rt:73:9
 add-i : tie.Need-add-i Inv-loop μ-loop
 add-i c = omega (arith, c .before .before .before .before .before .before .loop-test .taken)
 
--- src/lib.rt:70:5
 loop-less : tie.Need-loop-less Inv-loop μ-loop
 loop-less c = omega (arith, c .before .before .before .before .before .before .loop-test .taken)
 
--- src/lib.rt:70:5
 loop-again : tie.Need-loop-again Inv-loop μ-loop
 loop-again c = let c2 = c .before .before in let c5 = c2 .before .before .before in let c6 = c5 .before in let c7 = c6 .before in let c10 = c7 .before .before .before in (omega (arith, c6 .loop-test .taken), word-more (c10 .args .out .now) (c7 .loop .out) _ (λ (j : ℕ). getD (numbers (c10 .args .l)) j 0) (c7 .loop .i) _ (c10 .args .at) _ (c7 .loop .inv .1) (ap num (c5 .pick .ensures) ∙ sym (List·getD-map num (named (c10 .args .l)) (c7 .loop .i) (desc 0))) refl (c2 .put8 .ensures))
 
--- src/lib.rt:64:1
 same-length : tie.Need-same-length Inv-loop μ-loop
 same-length c = let c1 = c .before in let c4 = c1 .before .before .before in ap length (c1 .loop .inv .1) ∙ length-sets (c4 .args .out .now) (c4 .args .at) (bytesOf (each (λ (j : ℕ). getD (numbers (c4 .args .l)) j 0) (c1 .loop .i)))
 
--- src/lib.rt:64:1
 returns : tie.Need-returns Inv-loop μ-loop
 returns c = let c1 = c .before in let c2 = c1 .before in let c4 = c2 .before .before in c1 .loop .inv .1 ∙ ap (λ (b : List ℕ). sets (c4 .args .out .now) (c4 .args .at) (bytesOf (b))) (ap (each (λ (j : ℕ). getD (numbers (c4 .args .l)) j 0)) (let z : c1 .loop .i ≡ length (numbers (c4 .args .l)) = omega (arith, c .loop-test .left, c1 .loop .inv .0, c2 .size .ensures .0) in z) ∙ each-all (numbers (c4 .args .l)))
 

@@ -1,5 +1,6 @@
-use Rattle.outcome_bytes.proofs.put_words.Statement.{statement}
-use Rattle.outcome_bytes.proofs.put_words.Tie as tie
+-- `lent_bytes::put_words` meets its contract. Assumes nothing.
+use Rattle.lent_bytes.proofs.put_words.Statement.{statement}
+use Rattle.lent_bytes.proofs.put_words.Tie as tie
 use borrow.Author.Needs.{needs}
 use Prim.Native.Nat.{ℕ, _-_, _≤_}
 use mathlib.Core.Path.{_≡_, refl, ap, _∙_}
@@ -17,47 +18,36 @@ Inv-loop out₀ at ws n i₀ out i = (i ≤ n) × (out ≡ sets out₀ at (bytes
 abbrev μ-loop : tie.MeasureT-loop
 μ-loop out₀ at ws n i₀ out i = n - i
 
--- src/lib.rt:40:5
 loop-holds : tie.Need-loop-holds Inv-loop μ-loop
 loop-holds c = (omega arith, refl)
 
--- src/lib.rt:41:32
 mul-put8 : tie.Need-mul-put8 Inv-loop μ-loop
 mul-put8 c = omega (arith, c .before .loop-test .taken, c .before .before .before .before .before .good .1 .1 .0 .0)
 
--- src/lib.rt:41:27
 add-put8 : tie.Need-add-put8 Inv-loop μ-loop
 add-put8 c = let c1 = c .before in let c5 = c1 .before .before .before .before in omega (arith, c1 .loop-test .taken, c5 .good .1 .1 .0 .0, c5 .pre)
 
--- src/lib.rt:41:39
 mul-put8-2 : tie.Need-mul-put8-2 Inv-loop μ-loop
 mul-put8-2 c = omega (arith, c .before .loop-test .taken, c .before .before .before .before .before .good .1 .1 .0 .0)
 
--- src/lib.rt:41:39
 shared-slice-read-put8 : tie.Need-shared-slice-read-put8 Inv-loop μ-loop
 shared-slice-read-put8 c = omega (arith, c .before .before .loop-test .taken)
 
--- src/lib.rt:41:9
 put8-requires : tie.Need-put8-requires Inv-loop μ-loop
 put8-requires c κs = search needs
 
--- src/lib.rt:42:9
 add-i : tie.Need-add-i Inv-loop μ-loop
 add-i c = omega (arith, c .before .before .before .before .before .loop-test .taken)
 
--- src/lib.rt:40:5
 loop-less : tie.Need-loop-less Inv-loop μ-loop
 loop-less c = omega (arith, c .before .before .before .before .before .loop-test .taken)
 
--- src/lib.rt:40:5
 loop-again : tie.Need-loop-again Inv-loop μ-loop
 loop-again c = let c2 = c .before .before in let c5 = c2 .before .before .before in let c6 = c5 .before in let c9 = c6 .before .before .before in (omega (arith, c5 .loop-test .taken), word-more (c9 .args .out .now) (c6 .loop .out) _ (λ (j : ℕ). getD (c9 .args .ws .now) j 0) (c6 .loop .i) _ (c9 .args .at) _ (c6 .loop .inv .1) refl refl (c2 .put8 .ensures))
 
--- src/lib.rt:34:1
 same-length : tie.Need-same-length Inv-loop μ-loop
 same-length c = let c1 = c .before in let c4 = c1 .before .before .before in ap length (c1 .loop .inv .1) ∙ length-sets (c4 .args .out .now) (c4 .args .at) (bytesOf (each (λ (j : ℕ). getD (c4 .args .ws .now) j 0) (c1 .loop .i)))
 
--- src/lib.rt:34:1
 returns : tie.Need-returns Inv-loop μ-loop
 returns c = let c1 = c .before in let c4 = c1 .before .before .before in c1 .loop .inv .1 ∙ ap (λ (b : List ℕ). sets (c4 .args .out .now) (c4 .args .at) (bytesOf (b))) (ap (each (λ (j : ℕ). getD (c4 .args .ws .now) j 0)) (let z : c1 .loop .i ≡ length (c4 .args .ws .now) = omega (arith, c .loop-test .left, c1 .loop .inv .0) in z) ∙ each-all (c4 .args .ws .now))
 
