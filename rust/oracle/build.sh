@@ -1,5 +1,6 @@
 #!/bin/sh
-# Runs cargo on this package without a network: build.sh [COMMAND ...], `build --release` alone.
+# Runs cargo on this package without a network: build.sh [COMMAND ...], `build --release` alone; with --manifest-path, on one
+# that stands on it.
 # REDOX_SRC names the folder of the kernel's sources, CRATES_DIR the one that holds slab.
 set -eu
 dir=${CRATES_DIR:-/usr/share/cargo/registry}

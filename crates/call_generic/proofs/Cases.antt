@@ -14,35 +14,10 @@ use Rattle.slot.specs.declared.Slot.{Slot}
 use Rattle.slot.specs.Slots.{waitingOf}
 use Rattle.state.specs.declared.State.{State}
 use Rattle.events.specs.World.{World, world, holdsOf, queueFull}
-use Rattle.events.specs.Outcome.{Outcome, outcome, ok, no}
+use Rattle.events.specs.Outcome.{Outcome, Answer, outcome, ok, no}
 use Rattle.events.specs.Submit.{args6, entry, wrongKind, kindByte, stdMeta, tableFull, begun, genericEntry, stdfsOf}
 use Rattle.events.proofs.Conditions.{kind-same}
-use Rattle.call_generic.specs.declared.GenericAnswer.{GenericAnswer}
-use Rattle.call_generic.specs.Generic.{genericAnswer, genericWith}
-
-pub no-word : (ws : List ℕ) (i : ℕ) → length ws ≤ i → 0 ≡ getD ws i 0
-no-word ws i h = sym (List·getD-eq-default ws 0 {n = i} h)
-
--- the kind's three tests
-module _ (k : ℕ) where
-  pub kind-none : k < 1 → true ≡ wrongKind k
-  kind-none h = sym (kind-same k ∙ rw (eq-eqb k 0 (omega (arith, h))) refl)
-
-  pub kind-nine : 1 ≤ k → k ≡ 9 → true ≡ wrongKind k
-  kind-nine h e = sym (kind-same k ∙ rw (ne-eqb k 0 (λ z. omega (arith, h)), eq-eqb k 9 e) refl)
-
-  pub kind-some : 1 ≤ k → (k ≡ 9 → ⊥) → ltb 16 k ≡ wrongKind k
-  kind-some h e = sym (kind-same k ∙ rw (ne-eqb k 0 (λ z. omega (arith, h)), ne-eqb k 9 e) refl)
-
-module _ (op n pid base len : ℕ) (fds ms : List ℕ) (f m o : ℕ) (ef : f ≡ getD fds 0 0) (em : m ≡ getD ms 0 0) (eo : o ≡ getD ms 1 0) where
-  pub entry-two :
-      (g b : ℕ) → length fds ≡ 2 → g ≡ getD fds 1 0 → b ≡ sqeMultipleIds
-      → entry op b n (args6 f base len m o g) pid ≡ genericEntry op pid fds base len ms n
-  entry-two g b q eg eb = rw (eq-eqb (length fds) 2 q, ef, em, eo, eg, eb) refl
-
-  pub entry-one :
-      (p : ℕ) → (length fds ≡ 2 → ⊥) → p ≡ getD ms 2 0 → entry op 0 n (args6 f base len m o p) pid ≡ genericEntry op pid fds base len ms n
-  entry-one p q ep = rw (ne-eqb (length fds) 2 q, ef, em, eo, ep) refl
+use Rattle.call_generic.specs.Generic.{genericWith}
 
 module _ (s : State) (ws : List ℕ) (op c pid : ℕ) (fds : List ℕ) (base len : ℕ) (ms : List ℕ) where
   abbrev Done : Outcome → Type 0
@@ -83,5 +58,5 @@ module _ (s : State) (ws : List ℕ) (c pid : ℕ) (fds : List ℕ) (base len : 
   translated o q r e = e ∙ rw (le-ltb (length ms) 3 q, r) refl
 
 -- an answer of the one is one of the other
-pub again : (x y : GenericAnswer) (fx : List ℕ) (w : World) (o : Outcome) → x ≡ y → outcome (genericAnswer x) fx w ≡ o → outcome (genericAnswer y) fx w ≡ o
-again x y fx w o e q = ap (λ (z : GenericAnswer). outcome (genericAnswer z) fx w) (sym e) ∙ q
+pub again : (x y : Answer) (fx : List ℕ) (w : World) (o : Outcome) → y ≡ x → outcome x fx w ≡ o → outcome y fx w ≡ o
+again x y fx w o e q = ap (λ (z : Answer). outcome z fx w) e ∙ q

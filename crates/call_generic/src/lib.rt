@@ -2,15 +2,12 @@
 // comes to it with opcode StdFsCall.
 use effect::Effect;
 use ids::Tag;
-use schemev2::Args;
-use schemev2::Sqe;
 use state::State;
 ghost use mathlib.Core.Path.{_≡_};
-ghost use lib.ListN.{getD};
 ghost use Rattle.effect.specs.Effect.{effectWords};
 ghost use Rattle.events.specs.World.{world};
 ghost use Rattle.events.specs.Outcome.{outcome};
-ghost use Rattle.events.specs.Submit.{genericEntry, wrongKind, genericOf, stdfsOf};
+ghost use Rattle.events.specs.Submit.{genericOf, stdfsOf};
 ghost use Rattle.call_generic.specs.Generic.{genericAnswer, stdfsAnswer, genericWith};
 
 pub enum GenericAnswer {
@@ -38,46 +35,6 @@ pub struct StdFsStep {
     pub answer: StdFsAnswer,
     pub effect: Effect,
     pub state: State,
-}
-
-// Word i, 0 where there is none.
-fn word_or_zero(words: &[u64], i: usize) -> u64
-    ensures { λ r. ⌜ r ≡ getD (now (words .entry)) i 0 ⌝ }
-{
-    if words.len() <= i {
-        return 0;
-    }
-    words[i]
-}
-
-// With two fds the second is the last argument and MULTIPLE_IDS is set; with one, metadata goes on to it.
-fn entry(op: u8, tag: u32, pid: u64, fds: &[u64], base: u64, len: u64, metadata: &[u64]) -> Sqe
-    ensures { λ r. ⌜ r ≡ genericEntry op pid (now (fds .entry)) base len (now (metadata .entry)) tag ⌝ }
-{
-    let first = word_or_zero(fds, 0);
-    let m = word_or_zero(metadata, 0);
-    let n = word_or_zero(metadata, 1);
-    if fds.len() == 2 {
-        let second = word_or_zero(fds, 1);
-        let flags = flag::sqe_multiple_ids();
-        let a = Args(first, base, len, m, n, second);
-        return Sqe {
-            opcode: op,
-            sqe_flags: flags,
-            tag: tag,
-            args: a,
-            caller: pid,
-        };
-    }
-    let o = word_or_zero(metadata, 2);
-    let a = Args(first, base, len, m, n, o);
-    Sqe {
-        opcode: op,
-        sqe_flags: 0,
-        tag: tag,
-        args: a,
-        caller: pid,
-    }
 }
 
 fn call_with(
@@ -132,7 +89,7 @@ fn call_with(
     let v = slot::waiting(caller, list);
     t.slots[at] = v;
     t.head = next;
-    let e = entry(op, n as u32, pid, fds, base, len, metadata);
+    let e = generic_entry::entry(op, n as u32, pid, fds, base, len, metadata);
     let sent = wait_queue::send(q, words, e);
     let longer = sent.queue;
     d.queue = longer;
@@ -163,17 +120,15 @@ pub fn call_generic(
     call_with(s, words, 28, caller, pid, fds, base, len, metadata)
 }
 
-// `StdFsCallKind::try_from_raw` (syscall/src/flag.rs, lines 535 to 559): 1 to 8 and 10 to 16.
-fn is_wrong_kind(kind: u64) -> bool
-    ensures { λ r. ⌜ r ≡ wrongKind kind ⌝ }
+fn std_fs_answer(a: GenericAnswer) -> StdFsAnswer
+    ensures { λ r. ⌜ stdfsAnswer r ≡ genericAnswer a ⌝ }
 {
-    if kind < 1 {
-        return true;
+    match a {
+        GenericAnswer::Called(tag) => StdFsAnswer::Called(tag),
+        GenericAnswer::Invalid => StdFsAnswer::Invalid,
+        GenericAnswer::Full => StdFsAnswer::Full,
+        GenericAnswer::QueueFull => StdFsAnswer::QueueFull,
     }
-    if kind == 9 {
-        return true;
-    }
-    16 < kind
 }
 
 pub fn translate_std_fs_call(
@@ -197,7 +152,7 @@ pub fn translate_std_fs_call(
         };
     }
     let kind = metadata[0] % 256;
-    if is_wrong_kind(kind) {
+    if generic_entry::is_wrong_kind(kind) {
         let none = effect::none();
         return StdFsStep {
             answer: StdFsAnswer::NotSupported,
@@ -210,26 +165,10 @@ pub fn translate_std_fs_call(
     let answer = r.answer;
     let fx = r.effect;
     let u = r.state;
-    match answer {
-        GenericAnswer::Called(tag) => StdFsStep {
-            answer: StdFsAnswer::Called(tag),
-            effect: fx,
-            state: u,
-        },
-        GenericAnswer::Invalid => StdFsStep {
-            answer: StdFsAnswer::Invalid,
-            effect: fx,
-            state: u,
-        },
-        GenericAnswer::Full => StdFsStep {
-            answer: StdFsAnswer::Full,
-            effect: fx,
-            state: u,
-        },
-        GenericAnswer::QueueFull => StdFsStep {
-            answer: StdFsAnswer::QueueFull,
-            effect: fx,
-            state: u,
-        },
+    let said = std_fs_answer(answer);
+    StdFsStep {
+        answer: said,
+        effect: fx,
+        state: u,
     }
 }

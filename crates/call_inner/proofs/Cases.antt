@@ -1,22 +1,19 @@
 -- A wake by its tests; k is the slot number of the tag n. Assumes nothing.
-use Prim.Native.Nat.{ℕ, zero, suc, _<_, _≤_}
+use Prim.Native.Nat.{ℕ, _<_, _≤_}
 use mathlib.Core.Path.{_≡_, refl, sym, ap, ap₂, _∙_}
-use mathlib.Core.Bool.{Bool, true, false, not, _&&_}
-use mathlib.Core.List.{List, [], _∷_}
+use mathlib.Core.Bool.{Bool, true, false}
+use mathlib.Core.List.{List, []}
 use native.Mathlib.Omega.{arith}
 use lib.Dec.{eqb}
-use lib.ListN.{set, getD, length}
+use lib.ListN.{set, getD}
 use borrow.Author.Tests.{lt-ltb, le-ltb}
-use Rattle.counts.specs.Counts.{more}
-use Rattle.counts.proofs.Steps.{more-out}
 use Rattle.fd_list.specs.declared.List.{List as Fds}
-use Rattle.fd_list.specs.Lists.{numbers, listOf}
-use Rattle.flag.specs.Flags.{sqeOneway}
 use Rattle.holds.specs.declared.Holds.{Holds}
-use Rattle.holds.specs.Holds.{holdsWith, outsideOf}
+use Rattle.holds.specs.Holds.{outsideOf}
 use Rattle.ids.specs.declared.SlotNo.{SlotNo}
 use Rattle.ids.specs.declared.Tag.{Tag}
 use Rattle.ids.specs.Ids.{slotOf}
+use Rattle.schemev2.specs.declared.Sqe.{Sqe}
 use Rattle.slot.specs.declared.PageSpan.{PageSpan}
 use Rattle.slot.specs.declared.Phase.{Phase}
 use Rattle.slot.specs.declared.Phase.the-variants.{Vacant, Placeholder, Waiting, Responded, Fmap}
@@ -30,56 +27,13 @@ use Rattle.table.proofs.Cases.{slot-out, slot-in, put-in, vacate-in}
 use Rattle.wait_queue.specs.declared.WaitQueue.{WaitQueue}
 use Rattle.wait_queue.specs.Queue.{sentOf, sentWords}
 use Rattle.events.specs.World.{World, world, slotIn, phaseIn, tableWith, queueFull}
-use Rattle.events.specs.Outcome.{Response, Outcome, outcome, no, blocked, reply, refuse, checked, readable}
-use Rattle.events.specs.Submit.{args6, entry}
-use Rattle.events.specs.Wake.{responseBy, responseFrom, responseOf, heldIn, cancelEntry, handedOver, interrupted, blockedBy, waitedBy, wokenBy, wakeable, wakeRows, wakeOf}
-use Rattle.call_inner.specs.declared.Decided.{Decided}
-use Rattle.call_inner.specs.declared.Turn.{Turn}
-use Rattle.call_inner.specs.declared.Turn.the-variants.{Stay, Interrupt, Cancel, HandOver}
-use Rattle.call_inner.specs.declared.WakeAnswer.{WakeAnswer}
-use Rattle.call_inner.specs.Wake.{wakeAnswer, decidedOf}
-
--- the decision on a slot
-pub wakeable-is :
-    (v : Slot) (c : ℕ) (o e r : Bool) → eqb (v .caller) c ≡ o → v .ended ≡ e → v .returned ≡ r → o && (not e && not r) ≡ wakeable v c
-wakeable-is v c o e r qo qe qr = rw (← qo, ← qe, ← qr)
-
--- what a reply holds: by its stored kind
-module _ (h : Holds) (r : Reply) (l : Fds) where
-  abbrev Out : ℕ → Holds → Type 0
-  Out k o = o ≡ outsideOf h (heldIn (responseBy k r l))
-
-  none-held : (k : ℕ) → k < 2 → Out k h
-  none-held zero q = refl
-  none-held (suc zero) q = refl
-  none-held (suc (suc k)) q = absurd (omega arith)
-
-  pub holds-none : r .kind < 2 → h ≡ outsideOf h (heldIn (responseFrom r l))
-  holds-none q = none-held (r .kind) q
-
-  all-held : (k : ℕ) (o : Holds) → 2 < k → o ≡ outsideOf h (numbers l) → Out k o
-  all-held zero o q e = absurd (omega arith)
-  all-held (suc zero) o q e = absurd (omega arith)
-  all-held (suc (suc zero)) o q e = absurd (omega arith)
-  all-held (suc (suc (suc k))) o q e = e
-
-  pub holds-list : (o : Holds) → 2 < r .kind → o ≡ outsideOf h (numbers l) → o ≡ outsideOf h (heldIn (responseFrom r l))
-  holds-list o q e = all-held (r .kind) o q e
-
-  one-held : (k : ℕ) (o : Holds) → 2 ≤ k → k ≤ 2 → o ≡ outsideOf h (r .word ∷ []) → Out k o
-  one-held zero o p q e = absurd (omega arith)
-  one-held (suc zero) o p q e = absurd (omega arith)
-  one-held (suc (suc zero)) o p q e = e
-  one-held (suc (suc (suc k))) o p q e = absurd (omega arith)
-
-  -- a word that names no description has no holds
-  pub holds-nothing : 2 ≤ r .kind → r .kind ≤ 2 → length (h .outside) ≤ r .word → h ≡ outsideOf h (heldIn (responseFrom r l))
-  holds-nothing p q b = one-held (r .kind) h p q (ap (holdsWith (h .holds)) (more-out (h .outside) (r .word) (r .word) refl b))
-
-  pub holds-one :
-      (o : Holds) (m : Fds) → 2 ≤ r .kind → r .kind ≤ 2 → m ≡ listOf (r .word ∷ []) → o ≡ outsideOf h (numbers m)
-      → o ≡ outsideOf h (heldIn (responseFrom r l))
-  holds-one o m p q e f = one-held (r .kind) o p q (f ∙ ap (λ (x : Fds). outsideOf h (numbers x)) e)
+use Rattle.events.specs.Outcome.{Outcome, outcome, no, blocked, reply, refuse, checked, readable}
+use Rattle.events.specs.Wake.{responseOf, heldIn, cancelEntry, handedOver, interrupted, blockedBy, waitedBy, wokenBy, wakeable, wakeRows, wakeOf}
+use Rattle.wake_decision.specs.declared.Decided.{Decided}
+use Rattle.wake_decision.specs.declared.Turn.{Turn}
+use Rattle.wake_decision.specs.declared.Turn.the-variants.{Stay, Interrupt, Cancel, HandOver}
+use Rattle.wake_decision.specs.declared.WakeAnswer.{WakeAnswer}
+use Rattle.wake_decision.specs.Wake.{wakeAnswer, decidedOf}
 
 -- what each turn comes to
 abbrev carried : Turn → WakeAnswer → World → ℕ → PageSpan → Reply → Fds → Outcome
@@ -130,11 +84,6 @@ module _ (w : World) (n killed : ℕ) (span : PageSpan) where
   woken-is Waiting = waited-is (eqb killed 1)
   woken-is Responded = refl
   woken-is Fmap = refl
-
--- the decision by its tests
-pub decided-as :
-    {p p′ : Phase} {y y′ k k′ c c′ f f′ : Bool} → p ≡ p′ → y ≡ y′ → k ≡ k′ → c ≡ c′ → f ≡ f′ → decidedOf p′ y′ k′ c′ f′ ≡ decidedOf p y k c f
-decided-as ep ey ek ec ef = sym (λ i. decidedOf (ep i) (ey i) (ek i) (ec i) (ef i))
 
 module _ (s : State) (ws : List ℕ) (n : Tag) (c killed base count : ℕ) where
   abbrev span : PageSpan
@@ -188,15 +137,15 @@ module _ (s : State) (ws : List ℕ) (n : Tag) (c killed base count : ℕ) where
               turned Interrupt _ noReply noFds et (λ i. outcome (no 4) (none i) (world (record { driver = s .driver; table = p i }) ws))
 
           pub blocked-now :
-              (u : Slot) (b : ℕ) (q : WaitQueue) (xs gx : List ℕ) → d .turn ≡ Cancel → u ≡ canceledOf v → b ≡ sqeOneway
-              → q ≡ sentOf (s .driver .queue) .queue → xs ≡ sentWords (s .driver .queue) ws (entry 25 b (k .0) (args6 0 0 0 0 0 0) 0) → gx ≡ readable w
+              (u : Slot) (e : Sqe) (q : WaitQueue) (xs gx : List ℕ) → d .turn ≡ Cancel → u ≡ canceledOf v → e ≡ cancelEntry (k .0)
+              → q ≡ sentOf (s .driver .queue) .queue → xs ≡ sentWords (s .driver .queue) ws e → gx ≡ readable w
               → Is (outcome blocked gx (world (record { driver = record { scheme = s .driver .scheme; handles = s .driver .handles; queue = q }; table = stored (s .table) (k .0) u }) xs))
-          blocked-now u b q xs gx et eu eb eq ex eg =
+          blocked-now u e q xs gx et eu ee eq ex eg =
               let m : k .0 ≡ n .0 = omega (arith, ap (λ (z : SlotNo). z .0) is, h) in
               let p : stored (s .table) (k .0) u ≡ putAt (s .table) (n .0) (canceledOf (slotIn w (n .0))) =
               put-in (s .table) n k is u h ∙ ap (putAt (s .table) (n .0)) (eu ∙ ap canceledOf here) in
               let ew : xs ≡ sentWords (s .driver .queue) ws (cancelEntry (n .0)) =
-              ex ∙ ap₂ (λ (f j : ℕ). sentWords (s .driver .queue) ws (entry 25 f j (args6 0 0 0 0 0 0) 0)) eb m in
+              ex ∙ ap (sentWords (s .driver .queue) ws) (ee ∙ ap cancelEntry m) in
               turned Cancel _ noReply noFds et
               (λ i. outcome blocked (eg i) (world (record { driver = record { scheme = s .driver .scheme; handles = s .driver .handles; queue = eq i }; table = p i }) (ew i)))
 

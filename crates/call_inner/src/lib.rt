@@ -1,48 +1,19 @@
 // One turn of `call_inner`'s loop, a wake (src/scheme/user.rs, lines 263 to 388).
 use effect::Effect;
 use fd_list::List;
-use holds::Holds;
-use ids::Description;
 use ids::Tag;
-use schemev2::Args;
-use schemev2::Sqe;
 use slot::PageSpan;
-use slot::Phase;
 use slot::Reply;
-use slot::Slot;
 use state::State;
+use wake_decision::Turn;
+use wake_decision::WakeAnswer;
 ghost use mathlib.Core.Path.{_≡_};
-ghost use lib.Dec.{eqb, leb};
 ghost use Rattle.effect.specs.Effect.{effectWords};
-ghost use Rattle.holds.specs.Holds.{outsideOf};
-ghost use Rattle.slot.specs.Slots.{phaseOf, noReply};
+ghost use Rattle.slot.specs.Slots.{noReply};
 ghost use Rattle.events.specs.World.{world};
 ghost use Rattle.events.specs.Outcome.{outcome};
-ghost use Rattle.events.specs.Wake.{responseFrom, heldIn, wakeable, wakeOf};
-ghost use Rattle.call_inner.specs.Wake.{wakeAnswer, decidedOf};
-
-pub enum WakeAnswer {
-    Replied,
-    Blocked,
-    BadArgument,
-    BadDescriptor,
-    NotYours,
-    Interrupted,
-    QueueFull,
-}
-
-// What a wake does: nothing, marks the call killed, queues a Cancel, hands the reply over.
-enum Turn {
-    Stay,
-    Interrupt,
-    Cancel,
-    HandOver,
-}
-
-struct Decided {
-    pub answer: WakeAnswer,
-    pub turn: Turn,
-}
+ghost use Rattle.events.specs.Wake.{wakeOf};
+ghost use Rattle.wake_decision.specs.Wake.{wakeAnswer};
 
 // A reply handed over stands beside the answer, with its list.
 pub struct WakeStep {
@@ -61,102 +32,6 @@ fn no_reply() -> Reply
         extra0: 0,
         notice: false,
         word: 0,
-    }
-}
-
-// Its own caller, neither ended nor returned.
-fn is_wakeable(v: Slot, caller: u32) -> bool
-    ensures { λ r. ⌜ r ≡ wakeable v caller ⌝ }
-{
-    if v.caller != caller {
-        return false;
-    }
-    if v.ended {
-        return false;
-    }
-    !v.returned
-}
-
-// What a reply holds becomes outside holds.
-fn hand_out(h: Holds, r: Reply, fds: List) -> Holds
-    ensures { λ o. ⌜ o ≡ outsideOf h (heldIn (responseFrom r fds)) ⌝ }
-{
-    let kind = r.kind;
-    if kind < 2 {
-        return h;
-    }
-    if 2 < kind {
-        return holds::to_outside(h, fds);
-    }
-    let word = r.word;
-    if 63 < word {
-        return h;
-    }
-    let d = Description(word as u8);
-    let one = fd_list::single(d);
-    holds::to_outside(h, one)
-}
-
-// The decision on the tag's slot, with so many entries unread.
-fn decide(v: Slot, caller: u32, killed: u64, unread: u8) -> Decided
-    ensures { λ r. ⌜ r ≡ decidedOf (phaseOf v) (wakeable v caller) (eqb killed 1) (v .canceling) (leb 128 unread) ⌝ }
-{
-    let p = slot::phase_of(v);
-    match p {
-        Phase::Vacant => Decided {
-            answer: WakeAnswer::BadDescriptor,
-            turn: Turn::Stay,
-        },
-        Phase::Placeholder => Decided {
-            answer: WakeAnswer::BadDescriptor,
-            turn: Turn::Stay,
-        },
-        Phase::Fmap => Decided {
-            answer: WakeAnswer::BadDescriptor,
-            turn: Turn::Stay,
-        },
-        Phase::Waiting => {
-            if !is_wakeable(v, caller) {
-                return Decided {
-                    answer: WakeAnswer::NotYours,
-                    turn: Turn::Stay,
-                };
-            }
-            if killed == 1 {
-                return Decided {
-                    answer: WakeAnswer::Interrupted,
-                    turn: Turn::Interrupt,
-                };
-            }
-            if v.canceling {
-                return Decided {
-                    answer: WakeAnswer::Blocked,
-                    turn: Turn::Stay,
-                };
-            }
-            if 128 <= unread {
-                return Decided {
-                    answer: WakeAnswer::QueueFull,
-                    turn: Turn::Stay,
-                };
-            }
-            return Decided {
-                answer: WakeAnswer::Blocked,
-                turn: Turn::Cancel,
-            };
-        }
-        Phase::Responded => {
-            if !is_wakeable(v, caller) {
-                return Decided {
-                    answer: WakeAnswer::NotYours,
-                    turn: Turn::Stay,
-                };
-            }
-            return Decided {
-                answer: WakeAnswer::Replied,
-                turn: Turn::HandOver,
-            };
-        }
     }
 }
 
@@ -198,7 +73,7 @@ pub fn wake(
     let mut d = s.driver;
     let q = d.queue;
     let v = t.slots[at];
-    let decided = decide(v, caller, killed, q.len);
+    let decided = wake_decision::decide(v, caller, killed, q.len);
     let answer = decided.answer;
     let turn = decided.turn;
     match turn {
@@ -232,15 +107,7 @@ pub fn wake(
         Turn::Cancel => {
             let w = slot::canceled(v);
             t.slots[at] = w;
-            let flags = flag::sqe_oneway();
-            let a = Args(0, 0, 0, 0, 0, 0);
-            let e = Sqe {
-                opcode: 25,
-                sqe_flags: flags,
-                tag: n.0 as u32,
-                args: a,
-                caller: 0,
-            };
+            let e = wake_decision::cancel_entry(n);
             let sent = wait_queue::send(q, words, e);
             let longer = sent.queue;
             d.queue = longer;
@@ -261,7 +128,7 @@ pub fn wake(
             let reply = v.reply;
             let fds = v.fds;
             let held = t.holds;
-            let out = hand_out(held, reply, fds);
+            let out = wake_decision::hand_out(held, reply, fds);
             let vacant = slot::vacant();
             let head = t.head;
             t.slots[at] = vacant;

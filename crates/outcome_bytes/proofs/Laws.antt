@@ -1,5 +1,5 @@
 -- The parts of what is told of an event, one behind the other. Assumes nothing.
-use Prim.Native.Nat.{ℕ, zero, suc, _+_, _*_, _≤_}
+use Prim.Native.Nat.{ℕ, zero, suc, _+_, _*_, _<_, _≤_}
 use mathlib.Core.Path.{_≡_, refl, sym, ap, ap₂, _∙_, subst}
 use mathlib.Core.Bool.{Bool, cond}
 use mathlib.Core.List.{List, [], _∷_, _++_, append-assoc, append-nil}
@@ -90,17 +90,23 @@ module _ (r : Reply) (fds : Fds) (l m n : List ℕ) where
   by-kind : (k a : ℕ) → r .kind ≡ k → Replied l n a (responseBy k r fds) → Replied l n a (responseFrom r fds)
   by-kind k a e p = subst (λ (j : ℕ). Replied l n a (responseBy j r fds)) (sym e) p
 
-  pub success-runs :
-      (b : ℕ) → r .kind ≡ 0 → m ≡ sets l 0 (bytesOf (4 ∷ r .word ∷ [])) → b ≡ bit (r .notice) → n ≡ sets m 16 (bytesOf (r .extra0 ∷ b ∷ []))
+  pub regular-runs :
+      (x b : ℕ) → r .kind < 2 → m ≡ sets l 0 (bytesOf (x ∷ r .word ∷ [])) → x ≡ 4 + r .kind → b ≡ bit (r .notice) → n ≡ sets m 16 (bytesOf (r .extra0 ∷ b ∷ []))
       → Replied l n 32 (responseFrom r fds)
-  success-runs b e p q s =
-      by-kind 0 32 e (two-runs l m n (bytesOf (4 ∷ r .word ∷ [])) (bytesOf (r .extra0 ∷ bit (r .notice) ∷ [])) 0 16 p refl (s ∙ ap (λ (x : ℕ). sets m 16 (bytesOf (r .extra0 ∷ x ∷ []))) q), (refl, omega arith))
+  regular-runs x b few p ex q s = go (r .kind) refl few
+    where
+      words : n ≡ sets l 0 (bytesOf ((4 + r .kind) ∷ r .word ∷ r .extra0 ∷ bit (r .notice) ∷ []))
+      words =
+          two-runs l m n (bytesOf ((4 + r .kind) ∷ r .word ∷ [])) (bytesOf (r .extra0 ∷ bit (r .notice) ∷ [])) 0 16 (p ∙ ap (λ (y : ℕ). sets l 0 (bytesOf (y ∷ r .word ∷ []))) ex) refl
+          (s ∙ ap (λ (y : ℕ). sets m 16 (bytesOf (r .extra0 ∷ y ∷ []))) q)
 
-  pub error-runs :
-      (b : ℕ) → r .kind ≡ 1 → m ≡ sets l 0 (bytesOf (5 ∷ r .word ∷ [])) → b ≡ bit (r .notice) → n ≡ sets m 16 (bytesOf (r .extra0 ∷ b ∷ []))
-      → Replied l n 32 (responseFrom r fds)
-  error-runs b e p q s =
-      by-kind 1 32 e (two-runs l m n (bytesOf (5 ∷ r .word ∷ [])) (bytesOf (r .extra0 ∷ bit (r .notice) ∷ [])) 0 16 p refl (s ∙ ap (λ (x : ℕ). sets m 16 (bytesOf (r .extra0 ∷ x ∷ []))) q), (refl, omega arith))
+      told : (k : ℕ) → r .kind ≡ k → n ≡ sets l 0 (bytesOf ((4 + k) ∷ r .word ∷ r .extra0 ∷ bit (r .notice) ∷ []))
+      told k e = words ∙ ap (λ (y : ℕ). sets l 0 (bytesOf ((4 + y) ∷ r .word ∷ r .extra0 ∷ bit (r .notice) ∷ []))) e
+
+      go : (k : ℕ) → r .kind ≡ k → k < 2 → Replied l n 32 (responseFrom r fds)
+      go zero e h = by-kind 0 32 e (told 0 e, (refl, omega arith))
+      go (suc zero) e h = by-kind 1 32 e (told 1 e, (refl, omega arith))
+      go (suc (suc k)) e h = absurd (let z : ⊥ = omega (arith, h) in z)
 
   pub descriptor-runs : r .kind ≡ 2 → n ≡ sets l 0 (bytesOf (6 ∷ r .word ∷ [])) → Replied l n 16 (responseFrom r fds)
   descriptor-runs e p = by-kind 2 16 e (p, (refl, omega arith))
@@ -112,10 +118,10 @@ module _ (r : Reply) (fds : Fds) (l m n : List ℕ) where
   others (suc (suc (suc k))) a b c = refl
 
   pub many-runs :
-      (k : ℕ) → (r .kind ≡ 0 → ⊥) → (r .kind ≡ 1 → ⊥) → (r .kind ≡ 2 → ⊥) → k ≡ length (numbers fds) → k ≤ 16 → m ≡ sets l 0 (bytesOf (7 ∷ k ∷ []))
+      (k : ℕ) → 2 ≤ r .kind → (r .kind ≡ 2 → ⊥) → k ≡ length (numbers fds) → k ≤ 16 → m ≡ sets l 0 (bytesOf (7 ∷ k ∷ []))
       → n ≡ sets m 16 (bytesOf (numbers fds)) → Replied l n (16 + 8 * k) (responseFrom r fds)
-  many-runs k a b c ek most p q =
-      subst (Replied l n (16 + 8 * k)) (sym (others (r .kind) a b c)) (
+  many-runs k a c ek most p q =
+      subst (Replied l n (16 + 8 * k)) (sym (others (r .kind) (λ e. omega (arith, a, e)) (λ e. omega (arith, a, e)) c)) (
         two-runs l m n (bytesOf (7 ∷ k ∷ [])) (bytesOf (numbers fds)) 0 16 p refl q ∙ ap (λ (j : ℕ). sets l 0 (bytesOf (7 ∷ j ∷ numbers fds))) ek,
         (
           (let z : 16 + 8 * k ≡ suc (suc (length (numbers fds))) * 8 = omega (arith, ek) in z) ∙ sym (length-bytes (7 ∷ length (numbers fds) ∷ numbers fds)),

@@ -105,13 +105,8 @@ fn put_reply(out: &mut [u8], r: Reply, fds: List) -> usize
     ensures { λ o. ⌜ o ≤ 144 ⌝ }
 {
     let kind = r.kind;
-    if kind == 0 {
-        le_put::put_two(out, 0, 4, r.word);
-        le_put::put_two(out, 16, r.extra0 as u64, mark(r.notice));
-        return 32;
-    }
-    if kind == 1 {
-        le_put::put_two(out, 0, 5, r.word);
+    if kind < 2 {
+        le_put::put_two(out, 0, 4 + kind as u64, r.word);
         le_put::put_two(out, 16, r.extra0 as u64, mark(r.notice));
         return 32;
     }

@@ -1,43 +1,24 @@
 -- A reply entry as a decision on one slot: what becomes of it and of the holds, and the words of the effects.
-use Prim.Native.Nat.{ℕ, _+_}
-use mathlib.Core.Bool.{Bool, true, false, cond}
-use mathlib.Core.List.{List, [], _∷_, _++_}
-use lib.Dec.{ltb, eqb}
+use Prim.Native.Nat.{ℕ}
+use mathlib.Core.Bool.{Bool, true, false}
+use mathlib.Core.List.{List, [], _++_}
+use lib.Dec.{eqb}
 use lib.ListN.{length}
 use Rattle.closes.specs.declared.Reason.the-variants.{Replied, Ended}
-use Rattle.fd_list.specs.declared.List.{List as Fds}
-use Rattle.fd_list.specs.Lists.{numbers, listOf}
+use Rattle.fd_list.specs.Lists.{numbers}
 use Rattle.holds.specs.declared.Holds.{Holds}
+use Rattle.reply_parts.specs.declared.Parts.{Parts}
+use Rattle.reply_parts.specs.Parts.{partsOf}
 use Rattle.slot.specs.declared.Phase.{Phase}
 use Rattle.slot.specs.declared.Phase.the-variants.{Vacant, Placeholder, Waiting, Responded, Fmap}
 use Rattle.slot.specs.declared.Slot.{Slot}
-use Rattle.slot.specs.Slots.{noFds, vacantSlot, respondedOf}
+use Rattle.slot.specs.Slots.{vacantSlot, respondedOf}
 use Rattle.events.specs.Outcome.{wakeEffect}
 use Rattle.events.specs.Complete as complete
-use Rattle.events.specs.Complete.{responseTo, storedAs, keptFds, unmapOf, closesOf, dropped}
-use Rattle.respond.specs.declared.Offer.{Offer}
-use Rattle.respond.specs.declared.Offer.the-variants.{Regular, Fd, Listed}
+use Rattle.events.specs.Complete.{unmapOf, closesOf, dropped}
 use Rattle.respond.specs.declared.Act.{Act}
 use Rattle.respond.specs.declared.Act.the-variants.{Leave, Store, Vacate}
-use Rattle.respond.specs.declared.Parts.{Parts}
 use Rattle.respond.specs.declared.Responded.{Responded as Decided}
-
-abbrev pub offered : Offer → complete.Offer
-offered (Regular r x b) = complete.result r x b
-offered (Fd d) = complete.one d
-offered Listed = complete.listed
-
--- a word over 63 names no description and has no holds
-abbrev pub namedOf : ℕ → Fds
-namedOf d = cond (ltb 63 d) (listOf []) (listOf (d ∷ []))
-
-abbrev pub parts : Slot → complete.Offer → Fds → Fds → Parts
-parts v o gone own = record { reply = storedAs (responseTo v o); kept = keptFds o v; gone = gone; own = own }
-
-abbrev pub partsOf : Slot → complete.Offer → Parts
-partsOf v (complete.result r x b) = parts v (complete.result r x b) (v .fds) noFds
-partsOf v (complete.one d) = parts v (complete.one d) (v .fds) (namedOf d)
-partsOf v complete.listed = parts v complete.listed noFds (v .fds)
 
 abbrev pub decided : ℕ → Act → Slot → Holds → ℕ → Decided
 decided n a v h k = record { number = n; act = a; slot = v; holds = h; words = k }

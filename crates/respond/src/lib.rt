@@ -1,13 +1,12 @@
 // `respond` (src/scheme/user.rs, lines 926 to 1005) as a decision on one slot: what becomes of it, of the holds, and which
 // effects follow. The effect words go to lent ones from a given place on.
 use closes::Reason;
-use error::Result;
 use fd_list::List;
 use holds::Holds;
-use ids::Description;
+use reply_parts::Offer;
+use reply_parts::Parts;
 use slot::PageSpan;
 use slot::Phase;
-use slot::Reply;
 use slot::Slot;
 ghost use mathlib.Core.Path.{_≡_};
 ghost use Prim.Native.Nat.{min, _≤_};
@@ -16,15 +15,9 @@ ghost use lib.ListN.{length};
 ghost use lib.Seq.{sets};
 ghost use Rattle.fd_list.specs.Lists.{numbers};
 ghost use Rattle.slot.specs.Slots.{phaseOf};
-ghost use Rattle.events.specs.Complete.{storedErrno, storedResult, storedAs, unmapOf, dropped};
-ghost use Rattle.respond.specs.Respond.{offered, namedOf, partsOf, releasedFx, storedOf, storedFx, lostOf, lostFx, refusedOf, respondOf, respondFx};
-
-// What a reply entry brings: a result with extra0 and the notice, a description out of a handle, or the slot's own list.
-pub enum Offer {
-    Regular(Result, u8, bool),
-    Fd(u64),
-    Listed,
-}
+ghost use Rattle.events.specs.Complete.{unmapOf, dropped};
+ghost use Rattle.reply_parts.specs.Parts.{offered};
+ghost use Rattle.respond.specs.Respond.{releasedFx, storedOf, storedFx, lostOf, lostFx, refusedOf, respondOf, respondFx};
 
 // What becomes of the slot.
 pub enum Act {
@@ -42,114 +35,9 @@ pub struct Responded {
     pub words: usize,
 }
 
-// The reply as it is stored, the list that it keeps, the list that is dropped, and its own holds.
-struct Parts {
-    pub reply: Reply,
-    pub kept: List,
-    pub gone: List,
-    pub own: List,
-}
-
 struct Released {
     pub words: usize,
     pub holds: Holds,
-}
-
-// Cancelling and ECANCELED is stored as EINTR; not cancelling and EINTR as EIO.
-fn stored_errno(canceling: bool, errno: u64) -> u64
-    ensures { λ r. ⌜ r ≡ storedErrno canceling errno ⌝ }
-{
-    if canceling {
-        if errno == 125 {
-            return 4;
-        }
-        return errno;
-    }
-    if errno == 4 {
-        return 5;
-    }
-    errno
-}
-
-fn stored(canceling: bool, res: Result, extra0: u8, notice: bool) -> Reply
-    ensures { λ r. ⌜ r ≡ storedAs (storedResult canceling res extra0 notice) ⌝ }
-{
-    let number = res.number();
-    match res {
-        Result::Ok(word) => Reply {
-            kind: 0,
-            extra0: extra0,
-            notice: notice,
-            word: word,
-        },
-        Result::Err(_) => {
-            let errno = stored_errno(canceling, number);
-            return Reply {
-                kind: 1,
-                extra0: extra0,
-                notice: notice,
-                word: errno,
-            };
-        }
-    }
-}
-
-// A word over 63 names no description and has no holds.
-pub fn one_or_none(word: u64) -> List
-    ensures { λ r. ⌜ r ≡ namedOf word ⌝ }
-{
-    if 63 < word {
-        return fd_list::empty();
-    }
-    let d = Description(word as u8);
-    fd_list::single(d)
-}
-
-fn taken_apart(v: Slot, offer: Offer) -> Parts
-    ensures { λ r. ⌜ r ≡ partsOf v (offered offer) ⌝ }
-{
-    let none = fd_list::empty();
-    let fds = v.fds;
-    match offer {
-        Offer::Regular(res, extra0, notice) => {
-            let reply = stored(v.canceling, res, extra0, notice);
-            return Parts {
-                reply: reply,
-                kept: none,
-                gone: fds,
-                own: none,
-            };
-        }
-        Offer::Fd(word) => {
-            let own = one_or_none(word);
-            let reply = Reply {
-                kind: 2,
-                extra0: 0,
-                notice: false,
-                word: word,
-            };
-            return Parts {
-                reply: reply,
-                kept: none,
-                gone: fds,
-                own: own,
-            };
-        }
-        Offer::Listed => {
-            let reply = Reply {
-                kind: 3,
-                extra0: 0,
-                notice: false,
-                word: 0,
-            };
-            return Parts {
-                reply: reply,
-                kept: fds,
-                gone: none,
-                own: fds,
-            };
-        }
-    }
 }
 
 // The span is unmapped where it has pages.
@@ -264,7 +152,7 @@ pub fn respond(v: Slot, tag: u64, offer: Offer, h: Holds, fx: &mut [u64], at: us
         Phase::Responded => refused(v, h, 22),
         Phase::Fmap => refused(v, h, 22),
         Phase::Waiting => {
-            let q = taken_apart(v, offer);
+            let q = reply_parts::taken_apart(v, offer);
             let from = place(fx, at);
             if v.ended {
                 return lost_in(v, q, h, fx, from);

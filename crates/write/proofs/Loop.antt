@@ -17,8 +17,9 @@ use Rattle.counts.specs.Counts.{lasts}
 use Rattle.counts.proofs.Laws.{lessAll-length}
 use Rattle.fd_list.specs.declared.List.{List as Fds}
 use Rattle.fd_list.specs.Lists.{numbers}
-use Rattle.handle_parsed.specs.declared.Handled.{Handled}
-use Rattle.handle_parsed.specs.Handled.{handled, byTag, byTagFx, byHandle, byHandleFx, obtainBy, obtainedOf, obtainedFrom, closesFrom, obtainFxBy, handledOf, handledFx, actOn, after, carried}
+use Rattle.handle_fd.specs.declared.Handled.{Handled}
+use Rattle.handle_parsed.specs.Handled.{handledOf, handledFx, actOn, after, carried}
+use Rattle.handle_fd.specs.HandleFd.{handled, byTag, byTagFx, byHandle, byHandleFx, obtainBy, obtainedOf, obtainedFrom, closesFrom, obtainFxBy}
 use Rattle.handle_parsed.proofs.Carried.{carried-is}
 use Rattle.handles.specs.declared.Handles.{Handles}
 use Rattle.handles.specs.Handles as handle
@@ -29,7 +30,8 @@ use Rattle.parse_cqe.specs.Parsed.{parsedOf}
 use Rattle.respond.specs.declared.Act.{Act}
 use Rattle.respond.specs.declared.Act.the-variants.{Leave, Store, Vacate}
 use Rattle.respond.specs.declared.Responded.{Responded as Decided}
-use Rattle.respond.specs.Respond.{namedOf, partsOf, servedOf, servedFx, respondOf, respondFx}
+use Rattle.respond.specs.Respond.{servedOf, servedFx, respondOf, respondFx}
+use Rattle.reply_parts.specs.Parts.{namedOf, partsOf}
 use Rattle.word_put.proofs.Stores.{sets-then}
 use Rattle.schemev2.specs.declared.Cqe.{Cqe}
 use Rattle.schemev2.specs.Entry.{cqeOf}

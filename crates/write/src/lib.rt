@@ -1,6 +1,6 @@
 // `write` (src/scheme/user.rs, lines 743 to 755): completions, entry after entry up to the first refusal. An entry's decision
 // is carried out on the table in place, with no branch: what stays is stored as it was.
-use handle_parsed::Handled;
+use handle_fd::Handled;
 use handles::Handles;
 use ids::Tag;
 use state::State;

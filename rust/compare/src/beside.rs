@@ -3,6 +3,7 @@
 use oracle::Oracle;
 use script::{Answer, Event, Line, Script, State};
 
+use crate::bytes::Told;
 use crate::known::{self, Occupied};
 use crate::port::Port;
 use crate::refusals::Owners;
@@ -98,7 +99,7 @@ impl<'a, P: Port> Beside<'a, P> {
 /// The first difference in a script: the place of its event, and how they differ there.
 pub fn difference<P: Port>(script: &Script, fresh: &dyn Fn(u64) -> P) -> Option<(usize, String)> {
     let mut beside = Beside::new(script.scheme, fresh);
-    let mut told = crate::bytes::Told::default();
+    let mut told = Told::default();
     for (place, event) in script.events.iter().enumerate() {
         match beside.step(event) {
             Ok(taken) => told.add(event, &taken),

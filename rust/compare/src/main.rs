@@ -2,12 +2,12 @@
 //! kernel's own code, from the first seed (0) on. Status 0 where they say the same, 1 where they
 //! differ: then a short script shows it.
 
+use std::panic::catch_unwind;
 use std::process::ExitCode;
 use std::time::{Duration, Instant};
 
 use compare::counts::Counts;
 use compare::{limits, runs, words};
-use script::OutputLine;
 use tilgurap::numbers::Layer;
 
 const USAGE: &str = "usage: compare SEEDS EVENTS [FIRST]";
@@ -33,18 +33,11 @@ fn show(difference: &runs::Difference) {
         difference.seed, difference.place
     );
     print!("{}", difference.script);
-    let sides = [
-        ("rust", oracle::run(&difference.script)),
-        ("port", tilgurap::numbers::run_script(&difference.script)),
-    ];
-    for (side, lines) in sides {
+    let rust = catch_unwind(|| oracle::run(&difference.script)).unwrap_or_default();
+    let port = tilgurap::numbers::run_script(&difference.script);
+    for (side, lines) in [("rust", rust), ("port", port)] {
         println!("\n{side}:");
-        for line in lines {
-            match line {
-                OutputLine::Event(line) => println!("{line}"),
-                OutputLine::State(state) => println!("{state}"),
-            }
-        }
+        lines.iter().for_each(|line| println!("{line}"));
     }
     println!("\n{}", difference.what);
 }

@@ -5,7 +5,7 @@ use std::panic::{AssertUnwindSafe, catch_unwind};
 use generate::Generator;
 use script::{Event, Script};
 
-use crate::beside::{Beside, difference};
+use crate::beside::{Beside, Taken, difference};
 use crate::bytes::Told;
 use crate::counts::Counts;
 use crate::port::Port;
@@ -48,7 +48,7 @@ fn one_run<P: Port>(
         };
         counts.add(&before, event, &taken);
         told.add(event, &taken);
-        if let crate::beside::Taken::Same(line) | crate::beside::Taken::Skipped(line) = &taken {
+        if let Taken::Same(line) | Taken::Skipped(line) = &taken {
             generator.learn(event, line, beside.state());
         }
     }
@@ -67,13 +67,15 @@ pub fn compare<P: Port>(
         return Ok(());
     };
     let place = stopped.events.len();
+    eprintln!("seed {seed}, event {place}: they differ; making the script short");
     let whole = Script {
         scheme,
         events: stopped.events,
     };
     let found = |script: &Script| {
+        let last = script.events.len().saturating_sub(1);
         catch_unwind(AssertUnwindSafe(|| difference(script, fresh)))
-            .unwrap_or_else(|_| Some((script.events.len() - 1, "  rust: it panics".to_owned())))
+            .unwrap_or_else(|_| Some((last, "  rust: it panics".to_owned())))
     };
     let script = shrink(whole, &|script| found(script).is_some());
     let what = found(&script).map_or(stopped.what, |(_, what)| what);

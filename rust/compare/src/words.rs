@@ -76,6 +76,16 @@ fn rust_cqe(bytes: &[u8; 16]) -> Cqe {
     entry
 }
 
+/// The kernel reads no part of an entry; the layer reads what is missing as 0.
+fn part_entries(draw: &mut Draw, bytes: &[u8; 64]) -> Result<(), String> {
+    let part = draw.below(64) as usize;
+    let mut padded = [0; 64];
+    padded[..part].copy_from_slice(&bytes[..part]);
+    let told = || format!("the first {part} of {bytes:?}");
+    same(told, numbers::sqe(&padded), numbers::sqe(&bytes[..part]))?;
+    same(told, numbers::cqe(&padded), numbers::cqe(&bytes[..part]))
+}
+
 fn entries(draw: &mut Draw, count: u64) -> Result<u64, String> {
     for _ in 0..count {
         // the reserved bytes are zero (docs/DIFFERENCES.md)
@@ -98,6 +108,8 @@ fn entries(draw: &mut Draw, count: u64) -> Result<u64, String> {
             &rust[..],
             &numbers::sqe_bytes(port)[..],
         )?;
+
+        part_entries(draw, &bytes)?;
 
         let bytes = filled::<16>(draw);
         let rust = rust_cqe(&bytes);

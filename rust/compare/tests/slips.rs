@@ -54,6 +54,12 @@ fn occupied(layer: &Layer) -> usize {
     slots.iter().filter(|p| **p != Phase::Vacant).count()
 }
 
+/// Events that show a slip; a list of 16 needs its holds, a limit what fills it.
+const FEW: usize = 7;
+const A_LIST: usize = 24;
+const ALL_SLOTS: usize = 66;
+const ALL_QUEUE: usize = 140;
+
 const NOT_BEFORE: Before = |_, _| None;
 const NOT_AFTER: After = |_, _, _, _| {};
 
@@ -69,7 +75,7 @@ const SLIPS: [Slip; 18] = [
                 table.head = *tag as u8;
             }
         },
-        most: 2,
+        most: FEW,
     },
     Slip {
         name: "a reply to a Responded slot is accepted",
@@ -93,7 +99,7 @@ const SLIPS: [Slip; 18] = [
                 }
             }
         },
-        most: 3,
+        most: FEW,
     },
     Slip {
         name: "the slot vacated first is given out first",
@@ -108,7 +114,7 @@ const SLIPS: [Slip; 18] = [
                 table.head = old;
             }
         },
-        most: 5,
+        most: FEW,
     },
     Slip {
         name: "the last byte of a second entry read is another",
@@ -120,7 +126,7 @@ const SLIPS: [Slip; 18] = [
                 line.bytes[127] ^= 1;
             }
         },
-        most: 3,
+        most: FEW,
     },
     Slip {
         name: "no unmap where closes follow",
@@ -130,13 +136,13 @@ const SLIPS: [Slip; 18] = [
                 line.effects.retain(|effect| effect.kind != 2);
             }
         },
-        most: 5,
+        most: FEW,
     },
     Slip {
         name: "closes before the wake",
         before: NOT_BEFORE,
         after: |_, _, _, line| line.effects.sort_by_key(|effect| effect.kind != 3),
-        most: 3,
+        most: FEW,
     },
     Slip {
         name: "a move of 16 counts 15",
@@ -146,7 +152,7 @@ const SLIPS: [Slip; 18] = [
                 line.answer = Answer::Ok(15);
             }
         },
-        most: 18,
+        most: A_LIST,
     },
     Slip {
         name: "the third of a list is lost",
@@ -158,7 +164,7 @@ const SLIPS: [Slip; 18] = [
                 slot(layer, *tag).fds.len = 2;
             }
         },
-        most: 7,
+        most: FEW,
     },
     Slip {
         name: "EINTR of a call that nobody cancels stays EINTR",
@@ -178,7 +184,7 @@ const SLIPS: [Slip; 18] = [
                 }
             }
         },
-        most: 3,
+        most: FEW,
     },
     Slip {
         name: "202 one slot early",
@@ -187,7 +193,7 @@ const SLIPS: [Slip; 18] = [
             _ => None,
         },
         after: NOT_AFTER,
-        most: 64,
+        most: ALL_SLOTS,
     },
     Slip {
         name: "203 one entry early",
@@ -198,7 +204,7 @@ const SLIPS: [Slip; 18] = [
             _ => None,
         },
         after: NOT_AFTER,
-        most: 135,
+        most: ALL_QUEUE,
     },
     Slip {
         name: "a Cancel for each wake",
@@ -208,7 +214,7 @@ const SLIPS: [Slip; 18] = [
                 slot(layer, *tag).canceling = false;
             }
         },
-        most: 3,
+        most: FEW,
     },
     Slip {
         name: "an ended caller's later slots are not marked",
@@ -220,7 +226,7 @@ const SLIPS: [Slip; 18] = [
                 own.skip(1).for_each(|slot| slot.ended = false);
             }
         },
-        most: 4,
+        most: FEW,
     },
     Slip {
         name: "the first page of a span is lost",
@@ -230,7 +236,7 @@ const SLIPS: [Slip; 18] = [
                 slot(layer, *tag).span.base = 0;
             }
         },
-        most: 3,
+        most: FEW,
     },
     Slip {
         name: "a word too few is lent and taken",
@@ -241,7 +247,7 @@ const SLIPS: [Slip; 18] = [
             _ => None,
         },
         after: NOT_AFTER,
-        most: 1,
+        most: FEW,
     },
     Slip {
         name: "205 where 206 belongs",
@@ -251,7 +257,7 @@ const SLIPS: [Slip; 18] = [
                 line.answer = Answer::No(205);
             }
         },
-        most: 18,
+        most: A_LIST,
     },
     Slip {
         name: "a wake that is not its caller's says EBADFD",
@@ -261,7 +267,7 @@ const SLIPS: [Slip; 18] = [
                 line.answer = Answer::No(77);
             }
         },
-        most: 3,
+        most: FEW,
     },
     Slip {
         name: "a refused submit takes its list",
@@ -273,7 +279,7 @@ const SLIPS: [Slip; 18] = [
                 layer.drop_one(*d);
             }
         },
-        most: 2,
+        most: FEW,
     },
 ];
 

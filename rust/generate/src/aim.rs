@@ -134,10 +134,14 @@ impl Generator {
             _ => words(draw, 40),
         };
         if let Some(kind) = meta.first_mut()
-            && draw.chance(80)
             && !kinds.is_empty()
         {
-            *kind = *kind & !0xff | draw.one_of(kinds);
+            let low = match draw.below(100) {
+                0..80 => draw.one_of(kinds),
+                80..92 => draw.one_of(&[0, 9, 17, 18, 255]),
+                _ => *kind & 0xff,
+            };
+            *kind = *kind & !0xff | low;
         }
         Payload {
             c: draw.one_of(&CALLERS),

@@ -12,6 +12,11 @@ const EFFECT_WORDS: u64 = 54;
 /// EINTR and ECANCELED, which cancelling turns round; errors at the ends; numbers that are none.
 const ERRNOS: [u64; 14] = [1, 2, 4, 4, 4, 5, 22, 125, 125, 125, 131, 132, 133, 4_095];
 
+/// Flags of events and of obtain entries at the ends of their masks.
+const FLAG_EDGES: [u32; 14] = [
+    15, 16, 17, 30, 31, 32, 33, 64, 128, 255, 256, 257, 65_536, 65_537,
+];
+
 /// The kind of an entry and the handle that it names.
 fn obtains(entry: &[u8]) -> Option<u64> {
     let handle: [u8; 8] = entry[8..16].try_into().expect("eight bytes");
@@ -94,16 +99,21 @@ impl Generator {
         let result = match kind {
             1 => self.handle(true),
             2 => {
-                tag = match self.draw.chance(85) {
-                    true => self.draw.below(32) as u32,
-                    false => self.draw.half(),
+                tag = match self.draw.below(100) {
+                    0..80 => self.draw.below(32) as u32,
+                    80..90 => self.draw.one_of(&FLAG_EDGES),
+                    _ => self.draw.half(),
                 };
                 self.draw.word()
             }
             OBTAIN => {
-                extra = match self.draw.chance(92) {
-                    true => [self.draw.below(16) as u8, 0, 0],
-                    false => extra,
+                extra = match self.draw.below(100) {
+                    0..86 => [self.draw.below(16) as u8, 0, 0],
+                    86..95 => {
+                        let [low, second, third, _] = self.draw.one_of(&FLAG_EDGES).to_le_bytes();
+                        [low, second, third]
+                    }
+                    _ => extra,
                 };
                 let listed = self.with_list();
                 if let Some(listed) = self.draw.maybe_of(&listed)

@@ -1,15 +1,15 @@
 -- `call_generic::translate_std_fs_call` meets its contract. Assumes nothing.
 use borrow.Author.Needs.{needs}
+use Rattle.call_generic.proofs.Cases.{few-words, no-kind, translated, again}
+use mathlib.Core.Path.{sym, _∙_}
 use Rattle.call_generic.proofs.translate_std_fs_call.Statement.{statement}
 use Rattle.call_generic.proofs.translate_std_fs_call.Tie as tie
-use mathlib.Core.Path.{sym, _∙_}
-use Rattle.call_generic.proofs.Cases.{few-words, no-kind, translated, again}
 
 none-requires : tie.Need-none-requires
 none-requires c κs = search needs
 
 returns : tie.Need-returns
-returns c = let a = c .before .before .before .before .args in few-words (a .s) (a .words .now) (a .caller) (a .pid) (a .fds .now) (a .base) (a .len) (a .metadata .now) _ (c .none .ensures) (c .before .if1 .taken)
+returns c = few-words (c .before .before .before .before .args .s) (c .before .before .before .before .args .words .now) (c .before .before .before .before .args .caller) (c .before .before .before .before .args .pid) (c .before .before .before .before .args .fds .now) (c .before .before .before .before .args .base) (c .before .before .before .before .args .len) (c .before .before .before .before .args .metadata .now) _ (c .none .ensures) (c .before .if1 .taken)
 
 shared-slice-read-kind : tie.Need-shared-slice-read-kind
 shared-slice-read-kind c = search needs
@@ -21,7 +21,7 @@ none-requires-2 : tie.Need-none-requires-2
 none-requires-2 c κs = search needs
 
 returns-2 : tie.Need-returns-2
-returns-2 c = let a = c .before .before .before .before .before .before .before .args in no-kind (a .s) (a .words .now) (a .caller) (a .pid) (a .fds .now) (a .base) (a .len) (a .metadata .now) _ (c .none2 .ensures) (c .before .before .before .before .if1 .left) (sym (c .before .before .is-wrong-kind .ensures) ∙ c .before .if2 .taken)
+returns-2 c = no-kind (c .before .before .before .before .before .before .before .args .s) (c .before .before .before .before .before .before .before .args .words .now) (c .before .before .before .before .before .before .before .args .caller) (c .before .before .before .before .before .before .before .args .pid) (c .before .before .before .before .before .before .before .args .fds .now) (c .before .before .before .before .before .before .before .args .base) (c .before .before .before .before .before .before .before .args .len) (c .before .before .before .before .before .before .before .args .metadata .now) _ (c .none2 .ensures) (c .before .before .before .before .if1 .left) (sym (c .before .before .is-wrong-kind .ensures) ∙ c .before .if2 .taken)
 
 shared-slice-read-t22 : tie.Need-shared-slice-read-t22
 shared-slice-read-t22 c = search needs
@@ -35,29 +35,11 @@ slice-aggregate-call-with c = search needs
 call-with-requires : tie.Need-call-with-requires
 call-with-requires c κs = search needs
 
-enum-known-answer : tie.Need-enum-known-answer
-enum-known-answer c = search needs
-
-enum-told : tie.Need-enum-told
-enum-told c = search needs
-
-enum-told-2 : tie.Need-enum-told-2
-enum-told-2 c = search needs
-
-enum-told-3 : tie.Need-enum-told-3
-enum-told-3 c = search needs
+std-fs-answer-requires : tie.Need-std-fs-answer-requires
+std-fs-answer-requires c κs = search needs
 
 returns-3 : tie.Need-returns-3
-returns-3 c = let a = c .before .before .before .before .before .before .before .before .before .before .before .before .before .before .before .before .args in translated (a .s) (a .words .now) (a .caller) (a .pid) (a .fds .now) (a .base) (a .len) (a .metadata .now) _ (c .before .before .before .before .before .before .before .before .before .before .before .before .before .if1 .left) (sym (c .before .before .before .before .before .before .before .before .before .before .before .is-wrong-kind .ensures) ∙ c .before .before .before .before .before .before .before .before .before .before .if2 .left) (again _ _ _ _ _ (c .before .answer .given .1) (c .before .before .before .before .before .call-with .ensures))
-
-returns-4 : tie.Need-returns-4
-returns-4 c = let a = c .before .before .before .before .before .before .before .before .before .before .before .before .before .before .before .args in translated (a .s) (a .words .now) (a .caller) (a .pid) (a .fds .now) (a .base) (a .len) (a .metadata .now) _ (c .before .before .before .before .before .before .before .before .before .before .before .before .if1 .left) (sym (c .before .before .before .before .before .before .before .before .before .before .is-wrong-kind .ensures) ∙ c .before .before .before .before .before .before .before .before .before .if2 .left) (again _ _ _ _ _ (c .enum-told .given .1) (c .before .before .before .before .call-with .ensures))
-
-returns-5 : tie.Need-returns-5
-returns-5 c = let a = c .before .before .before .before .before .before .before .before .before .before .before .before .before .before .before .args in translated (a .s) (a .words .now) (a .caller) (a .pid) (a .fds .now) (a .base) (a .len) (a .metadata .now) _ (c .before .before .before .before .before .before .before .before .before .before .before .before .if1 .left) (sym (c .before .before .before .before .before .before .before .before .before .before .is-wrong-kind .ensures) ∙ c .before .before .before .before .before .before .before .before .before .if2 .left) (again _ _ _ _ _ (c .enum-told2 .given .1) (c .before .before .before .before .call-with .ensures))
-
-returns-6 : tie.Need-returns-6
-returns-6 c = let a = c .before .before .before .before .before .before .before .before .before .before .before .before .before .before .before .args in translated (a .s) (a .words .now) (a .caller) (a .pid) (a .fds .now) (a .base) (a .len) (a .metadata .now) _ (c .before .before .before .before .before .before .before .before .before .before .before .before .if1 .left) (sym (c .before .before .before .before .before .before .before .before .before .before .is-wrong-kind .ensures) ∙ c .before .before .before .before .before .before .before .before .before .if2 .left) (again _ _ _ _ _ (c .enum-told3 .given .1) (c .before .before .before .before .call-with .ensures))
+returns-3 c = translated (c .before .before .before .before .before .before .before .before .before .before .before .before .before .before .args .s) (c .before .before .before .before .before .before .before .before .before .before .before .before .before .before .args .words .now) (c .before .before .before .before .before .before .before .before .before .before .before .before .before .before .args .caller) (c .before .before .before .before .before .before .before .before .before .before .before .before .before .before .args .pid) (c .before .before .before .before .before .before .before .before .before .before .before .before .before .before .args .fds .now) (c .before .before .before .before .before .before .before .before .before .before .before .before .before .before .args .base) (c .before .before .before .before .before .before .before .before .before .before .before .before .before .before .args .len) (c .before .before .before .before .before .before .before .before .before .before .before .before .before .before .args .metadata .now) _ (c .before .before .before .before .before .before .before .before .before .before .before .if1 .left) (sym (c .before .before .before .before .before .before .before .before .before .is-wrong-kind .ensures) ∙ c .before .before .before .before .before .before .before .before .if2 .left) (again _ _ _ _ _ (c .std-fs-answer .ensures) (c .before .before .before .call-with .ensures))
 
 pub translate-std-fs-call-spec : {M : Type 1} → statement M
 translate-std-fs-call-spec =
@@ -73,11 +55,5 @@ translate-std-fs-call-spec =
     shared-slice-read-t27
     slice-aggregate-call-with
     call-with-requires
-    enum-known-answer
-    enum-told
-    enum-told-2
-    enum-told-3
-    returns-3
-    returns-4
-    returns-5
-    returns-6)
+    std-fs-answer-requires
+    returns-3)

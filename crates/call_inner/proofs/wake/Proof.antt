@@ -70,11 +70,8 @@ mul-w-2 c = search needs
 element-set-from-w-2 : tie.Need-element-set-from-w-2
 element-set-from-w-2 c = search needs
 
-sqe-oneway-requires : tie.Need-sqe-oneway-requires
-sqe-oneway-requires c κs = search needs
-
-cast-t52 : tie.Need-cast-t52
-cast-t52 c = search needs
+cancel-entry-requires : tie.Need-cancel-entry-requires
+cancel-entry-requires c κs = search needs
 
 send-requires : tie.Need-send-requires
 send-requires c κs = search needs
@@ -86,7 +83,7 @@ root-requires : tie.Need-root-requires
 root-requires c κs = search needs
 
 returns-5 : tie.Need-returns-5
-returns-5 c = blocked-now (c .before .before .before .before .before .before .before .before .before .before .before .before .before .before .before .before .before .before .before .before .before .before .args .s) (c .before .before .before .before .before .before .before .before .before .before .before .before .before .before .before .before .before .before .before .before .before .before .args .words .now) (c .before .before .before .before .before .before .before .before .before .before .before .before .before .before .before .before .before .before .before .before .before .before .args .tag) (c .before .before .before .before .before .before .before .before .before .before .before .before .before .before .before .before .before .before .before .before .before .before .args .caller) (c .before .before .before .before .before .before .before .before .before .before .before .before .before .before .before .before .before .before .before .before .before .before .args .killed) (c .before .before .before .before .before .before .before .before .before .before .before .before .before .before .before .before .before .before .before .before .before .before .args .base) (c .before .before .before .before .before .before .before .before .before .before .before .before .before .before .before .before .before .before .before .before .before .before .args .count) _ (c .before .before .before .before .before .before .before .before .before .before .before .before .before .before .before .before .before .before .before .before .before .none .ensures) _ (c .before .before .before .before .before .before .before .before .before .before .before .before .before .before .before .before .before .slot-of .ensures) (c .before .before .before .before .before .before .before .before .before .before .before .before .before .before .before .before .before .before .if1 .left) (c .before .before .before .before .before .before .before .before .before .before .before .before .before .before .before .if2 .left) _ (c .before .before .before .before .before .before .before .before .before .before .decide .ensures) _ _ _ _ _ (c .before .before .before .before .before .before .before .before .enum-told3 .given .1) (c .before .before .before .before .before .before .before .canceled .ensures) (c .before .before .before .before .before .before .sqe-oneway .ensures) (ap (λ (t : Sent). t .queue) (c .before .before .before .send .ensures .0)) (c .before .before .before .send .ensures .1) (c .root .ensures ∙ ap (rootWords (c .before .before .before .before .before .before .before .before .before .before .before .before .before .before .before .before .before .before .before .before .before .before .args .s .driver .scheme)) (c .before .event-read .ensures))
+returns-5 c = blocked-now (c .before .before .before .before .before .before .before .before .before .before .before .before .before .before .before .before .before .before .before .before .before .args .s) (c .before .before .before .before .before .before .before .before .before .before .before .before .before .before .before .before .before .before .before .before .before .args .words .now) (c .before .before .before .before .before .before .before .before .before .before .before .before .before .before .before .before .before .before .before .before .before .args .tag) (c .before .before .before .before .before .before .before .before .before .before .before .before .before .before .before .before .before .before .before .before .before .args .caller) (c .before .before .before .before .before .before .before .before .before .before .before .before .before .before .before .before .before .before .before .before .before .args .killed) (c .before .before .before .before .before .before .before .before .before .before .before .before .before .before .before .before .before .before .before .before .before .args .base) (c .before .before .before .before .before .before .before .before .before .before .before .before .before .before .before .before .before .before .before .before .before .args .count) _ (c .before .before .before .before .before .before .before .before .before .before .before .before .before .before .before .before .before .before .before .before .none .ensures) _ (c .before .before .before .before .before .before .before .before .before .before .before .before .before .before .before .before .slot-of .ensures) (c .before .before .before .before .before .before .before .before .before .before .before .before .before .before .before .before .before .if1 .left) (c .before .before .before .before .before .before .before .before .before .before .before .before .before .before .if2 .left) _ (c .before .before .before .before .before .before .before .before .before .decide .ensures) _ _ _ _ _ (c .before .before .before .before .before .before .before .enum-told3 .given .1) (c .before .before .before .before .before .before .canceled .ensures) (c .before .before .before .before .before .cancel-entry .ensures) (ap (λ (t : Sent). t .queue) (c .before .before .before .send .ensures .0)) (c .before .before .before .send .ensures .1) (c .root .ensures ∙ ap (rootWords (c .before .before .before .before .before .before .before .before .before .before .before .before .before .before .before .before .before .before .before .before .before .args .s .driver .scheme)) (c .before .event-read .ensures))
 
 enum-told-4 : tie.Need-enum-told-4
 enum-told-4 c = search needs
@@ -134,8 +131,7 @@ wake-spec =
     canceled-requires
     mul-w-2
     element-set-from-w-2
-    sqe-oneway-requires
-    cast-t52
+    cancel-entry-requires
     send-requires
     event-read-requires
     root-requires

@@ -3,8 +3,8 @@ use borrow.Author.Needs.{needs}
 use Rattle.driver_step.proofs.wake_words.Statement.{statement}
 use Rattle.driver_step.proofs.wake_words.Tie as tie
 use mathlib.Core.Path.{sym, ap}
-use Rattle.call_inner.specs.declared.WakeAnswer.{WakeAnswer}
-use Rattle.call_inner.specs.Wake.{wakeAnswer}
+use Rattle.wake_decision.specs.declared.WakeAnswer.{WakeAnswer}
+use Rattle.wake_decision.specs.Wake.{wakeAnswer}
 
 enum-told : tie.Need-enum-told
 enum-told c = search needs

@@ -8,7 +8,7 @@ use mathlib.Core.Path.{_≡_, refl, sym, ap, _∙_}
 use native.Mathlib.Omega.{arith}
 use lib.ListN.{length}
 use lib.Seq.{sets, length-sets}
-use Rattle.handle_parsed.specs.declared.Handled.{Handled}
+use Rattle.handle_fd.specs.declared.Handled.{Handled}
 use Rattle.handle_parsed.specs.Handled.{handledFx}
 use Rattle.schemev2.specs.Entry.{cqeOf}
 use Rattle.events.specs.Outcome.{Outcome}

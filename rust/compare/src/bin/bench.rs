@@ -1,7 +1,7 @@
 //! What events take on the layer and in the kernel's own code, in one process, in turns: each kind
 //! through the exported steps, and whole runs through the steps and through `tilgurap_run`.
-//! Both sides run on one thread, and on both the clock is read around each event; what reading it
-//! takes is taken off. No time of a thread's hand-over is in any ratio.
+//! What is timed runs on one thread, and on both sides the clock is read around each event; what
+//! reading it takes is taken off. No time of a thread's hand-over is in any ratio.
 
 use std::time::{Duration, Instant};
 

@@ -1,6 +1,6 @@
 //! The events of a script as steps of a layer.
 
-use script::{Effect, Event, Line, OutputLine, Script};
+use script::{Answer, Effect, Event, Line, OutputLine, Script};
 
 use crate::numbers::{Layer, Outcome};
 
@@ -102,7 +102,7 @@ impl Layer {
     /// A read into these bytes, as a line.
     pub fn read_line(&mut self, out: &mut [u8], flags: u32) -> Line {
         let mut line = Line::answer(self.read(out, flags));
-        if let script::Answer::Ok(stored) = line.answer {
+        if let Answer::Ok(stored) = line.answer {
             line.bytes = out[..stored as usize].to_vec();
         }
         line

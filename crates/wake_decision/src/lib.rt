@@ -1,0 +1,150 @@
+// What a wake answers and does, decided on the tag's slot (`call_inner`, src/scheme/user.rs, lines 263 to 388).
+use fd_list::List;
+use holds::Holds;
+use ids::Description;
+use ids::SlotNo;
+use schemev2::Args;
+use schemev2::Sqe;
+use slot::Phase;
+use slot::Reply;
+use slot::Slot;
+ghost use mathlib.Core.Path.{_≡_};
+ghost use lib.Dec.{eqb, leb};
+ghost use Rattle.holds.specs.Holds.{outsideOf};
+ghost use Rattle.slot.specs.Slots.{phaseOf};
+ghost use Rattle.events.specs.Wake.{responseFrom, heldIn, cancelEntry, wakeable};
+ghost use Rattle.wake_decision.specs.Wake.{decidedOf};
+
+pub enum WakeAnswer {
+    Replied,
+    Blocked,
+    BadArgument,
+    BadDescriptor,
+    NotYours,
+    Interrupted,
+    QueueFull,
+}
+
+// What a wake does: nothing, marks the call killed, queues a Cancel, hands the reply over.
+pub enum Turn {
+    Stay,
+    Interrupt,
+    Cancel,
+    HandOver,
+}
+
+pub struct Decided {
+    pub answer: WakeAnswer,
+    pub turn: Turn,
+}
+
+// Its own caller, neither ended nor returned.
+fn is_wakeable(v: Slot, caller: u32) -> bool
+    ensures { λ r. ⌜ r ≡ wakeable v caller ⌝ }
+{
+    if v.caller != caller {
+        return false;
+    }
+    if v.ended {
+        return false;
+    }
+    !v.returned
+}
+
+// What a reply holds becomes outside holds.
+pub fn hand_out(h: Holds, r: Reply, fds: List) -> Holds
+    ensures { λ o. ⌜ o ≡ outsideOf h (heldIn (responseFrom r fds)) ⌝ }
+{
+    let kind = r.kind;
+    if kind < 2 {
+        return h;
+    }
+    if 2 < kind {
+        return holds::to_outside(h, fds);
+    }
+    let word = r.word;
+    if 63 < word {
+        return h;
+    }
+    let d = Description(word as u8);
+    let one = fd_list::single(d);
+    holds::to_outside(h, one)
+}
+
+// The decision on the tag's slot, with so many entries unread.
+pub fn decide(v: Slot, caller: u32, killed: u64, unread: u8) -> Decided
+    ensures { λ r. ⌜ r ≡ decidedOf (phaseOf v) (wakeable v caller) (eqb killed 1) (v .canceling) (leb 128 unread) ⌝ }
+{
+    let p = slot::phase_of(v);
+    match p {
+        Phase::Vacant => Decided {
+            answer: WakeAnswer::BadDescriptor,
+            turn: Turn::Stay,
+        },
+        Phase::Placeholder => Decided {
+            answer: WakeAnswer::BadDescriptor,
+            turn: Turn::Stay,
+        },
+        Phase::Fmap => Decided {
+            answer: WakeAnswer::BadDescriptor,
+            turn: Turn::Stay,
+        },
+        Phase::Waiting => {
+            if !is_wakeable(v, caller) {
+                return Decided {
+                    answer: WakeAnswer::NotYours,
+                    turn: Turn::Stay,
+                };
+            }
+            if killed == 1 {
+                return Decided {
+                    answer: WakeAnswer::Interrupted,
+                    turn: Turn::Interrupt,
+                };
+            }
+            if v.canceling {
+                return Decided {
+                    answer: WakeAnswer::Blocked,
+                    turn: Turn::Stay,
+                };
+            }
+            if 128 <= unread {
+                return Decided {
+                    answer: WakeAnswer::QueueFull,
+                    turn: Turn::Stay,
+                };
+            }
+            return Decided {
+                answer: WakeAnswer::Blocked,
+                turn: Turn::Cancel,
+            };
+        }
+        Phase::Responded => {
+            if !is_wakeable(v, caller) {
+                return Decided {
+                    answer: WakeAnswer::NotYours,
+                    turn: Turn::Stay,
+                };
+            }
+            return Decided {
+                answer: WakeAnswer::Replied,
+                turn: Turn::HandOver,
+            };
+        }
+    }
+}
+
+// Cancel: one-way, the call's tag, all else 0.
+pub fn cancel_entry(n: SlotNo) -> Sqe
+    ensures { λ r. ⌜ r ≡ cancelEntry (n .0) ⌝ }
+{
+    let flags = flag::sqe_oneway();
+    let a = Args(0, 0, 0, 0, 0, 0);
+    Sqe {
+        opcode: 25,
+        sqe_flags: flags,
+        tag: n.0 as u32,
+        args: a,
+        caller: 0,
+    }
+}
