@@ -42,6 +42,15 @@ if [ -z "${REDOX_SRC:-}" ]; then
 fi
 sh oracle/build.sh clippy --quiet --all-targets -- --deny warnings
 sh oracle/build.sh test --quiet --workspace
+# the kernel's code says what the examples expect, where it is asked (201 to 207 are the layer's own)
+for script in "$PWD"/../examples/*.script; do
+    sh oracle/build.sh run --quiet --bin oracle -- "$script" | awk -v script="$script" '
+        NR == FNR { wanted[NR] = $0; lines = NR; next }
+        $0 == "skip" && wanted[FNR] ~ /^no 20[1-7]$/ { next }
+        $0 != wanted[FNR] { print script ": line " FNR " is " $0 ", expected " wanted[FNR]; differs = 1 }
+        END { exit differs || FNR != lines }
+    ' "${script%.script}.expected" -
+done
 sh oracle/build.sh clippy --quiet --all-targets --manifest-path ../compare/Cargo.toml -- --deny warnings
 if [ -f "$library" ]; then
     # a test looks for slips in many runs
