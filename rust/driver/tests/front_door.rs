@@ -116,10 +116,14 @@ fn a_missing_toolchain_is_named() {
         assert_eq!(output.status.code(), Some(2), "{args:?}");
         String::from_utf8(output.stderr).expect("text")
     };
-    assert_eq!(
-        said(&["replay"]),
-        "tilgurap: cargo is not there: install Rust\n"
-    );
+    for args in [
+        &["replay"][..],
+        &["replay", "-"],
+        &["replay", "-", "--explain"],
+        &["status", "-"],
+    ] {
+        assert_eq!(said(args), "tilgurap: cargo is not there: install Rust\n");
+    }
     fs::remove_file(folder.0.join("target/bin/listing")).expect("it was there");
     assert_eq!(
         said(&["list", "../crates.txt"]),
@@ -140,6 +144,7 @@ fn a_file_is_listed() {
     let output = folder.run(&["list", "some entries"]);
     assert_eq!(output.stdout, b"listed\nbytes");
     assert!(output.stderr.is_empty());
+    assert_eq!(folder.run(&["list", "-"]).stdout, b"listed\n");
     fs::write(&file, [b'x'; 65_537]).expect("a file");
     let output = folder.run(&["list", "some entries"]);
     assert_eq!(

@@ -80,15 +80,21 @@ fn a_mistake_on_each_kind_of_line() {
         let (kind, _) = good.split_once(' ').expect("a kind and its fields");
         let (cut, _) = good.rsplit_once(' ').expect("a last field");
         for (bad, what) in [
-            (cut.to_owned(), " is missing; nothing was run\n"),
-            (format!("{good} 1"), "spare field `1`; nothing was run\n"),
+            (
+                cut.to_owned(),
+                " is missing; nothing was run; `./tilgurap help script` shows each event's line\n",
+            ),
+            (
+                format!("{good} 1"),
+                "spare field `1`; nothing was run; `./tilgurap help script` shows each event's line\n",
+            ),
             (
                 good.replacen(' ', " x", 1),
-                " is no decimal number; nothing was run\n",
+                " is no decimal number; nothing was run; `./tilgurap help script` shows each event's line\n",
             ),
             (
                 good.replacen(kind, "shut", 1),
-                "unknown event `shut`; nothing was run\n",
+                "unknown event `shut`; nothing was run; `./tilgurap help script` shows each event's line\n",
             ),
         ] {
             let script = format!("scheme 7\n# a comment\n{good}\n{bad}\nopen 1\n");
@@ -112,11 +118,15 @@ fn no_script() {
     for (script, message) in [
         (
             &b""[..],
-            "standard input: line 1: `scheme N` is missing; nothing was run\n",
+            "standard input: line 1: `scheme N` is missing; nothing was run; `./tilgurap help script` shows each event's line\n",
         ),
         (
             b"scheme 7\nopen \xff\n",
-            "standard input: line 2: a byte that is no text; nothing was run\n",
+            "standard input: line 2: a byte that is no text; nothing was run; `./tilgurap help script` shows each event's line\n",
+        ),
+        (
+            b"scheme 7\nopen 1\r\n",
+            "standard input: line 2: field D: `1\\r` is no decimal number; nothing was run; remove the carriage returns at its lines' ends\n",
         ),
     ] {
         let output = run(&["replay"], script);
@@ -142,4 +152,23 @@ fn no_script() {
     let output = run(&["replay", "--explian"], b"");
     assert!(text(&output.stderr).starts_with("unknown option --explian\n"));
     assert_eq!(output.status.code(), Some(2));
+}
+
+#[test]
+fn an_output_that_cannot_be_written() {
+    let full = std::fs::File::options().write(true).open("/dev/full");
+    let output = std::process::Command::new(env!("CARGO_BIN_EXE_driver"))
+        .args([
+            "replay",
+            concat!(
+                env!("CARGO_MANIFEST_DIR"),
+                "/../../examples/accident.script"
+            ),
+        ])
+        .stdout(full.expect("a device"))
+        .stderr(std::process::Stdio::piped())
+        .output()
+        .expect("it runs");
+    assert!(text(&output.stderr).starts_with("standard output: "));
+    assert_eq!(output.status.code(), Some(1));
 }
