@@ -162,6 +162,10 @@ fn refusals_say_why() {
             "206: more than 16 descriptions are sent along.",
         ),
         (
+            "submit 5 2 6 0 0 0 0 0 0 0 0 0",
+            "201: no call or map request has tag 5.",
+        ),
+        (
             "reserve 1\nsubmit 0 2 6 0 0 0 0 0 0 0 0 0",
             "201: tag 0 is caller 1's.",
         ),
