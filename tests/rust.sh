@@ -25,6 +25,7 @@ for package in script generate; do
 done
 lint tilgurap
 lint tilgurap --all-features
+(cd tilgurap && RUSTDOCFLAGS='--deny warnings' cargo doc --quiet --offline --no-deps --all-features)
 lint driver
 
 library=${TILGURAP_LIB:-../target/staticlib}/libtilgurap.a
