@@ -9,7 +9,7 @@ if ! command -v cargo > /dev/null; then
     echo "skipped: rust/, since there is no cargo"
     exit 0
 fi
-for package in script generate tilgurap driver oracle compare; do
+for package in script generate tilgurap driver oracle record compare; do
     (cd "$package" && cargo fmt --check)
 done
 
@@ -38,7 +38,7 @@ else
 fi
 
 if [ -z "${REDOX_SRC:-}" ]; then
-    echo "skipped: lints and tests of rust/oracle and rust/compare, since REDOX_SRC is not set"
+    echo "skipped: lints and tests of rust/oracle, rust/record and rust/compare, since REDOX_SRC is not set"
     exit 0
 fi
 sh oracle/build.sh clippy --quiet --all-targets -- --deny warnings
@@ -52,7 +52,10 @@ for script in "$PWD"/../examples/*.script; do
         END { exit differs || FNR != lines }
     ' "${script%.script}.expected" -
 done
-sh oracle/build.sh clippy --quiet --all-targets --manifest-path ../compare/Cargo.toml -- --deny warnings
+for package in record compare; do
+    sh oracle/build.sh clippy --quiet --all-targets --manifest-path "../$package/Cargo.toml" -- --deny warnings
+done
+sh oracle/build.sh test --quiet --manifest-path ../record/Cargo.toml
 if [ -f "$library" ]; then
     # a test looks for slips in many runs
     sh oracle/build.sh test --quiet --release --manifest-path ../compare/Cargo.toml
