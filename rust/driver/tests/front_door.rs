@@ -134,6 +134,17 @@ fn a_missing_toolchain_is_named() {
         said(&["replay"]),
         "tilgurap: rt is not there: install the Rattle toolchain, or set TILGURAP_LIB to the folder of a libtilgurap.a\n"
     );
+
+    // one that finds everything proved and writes nothing
+    std::os::unix::fs::symlink("/bin/true", bin.join("rt")).expect("a link");
+    let top = folder.0.to_str().expect("a path");
+    assert_eq!(
+        said(&["list", "../crates.txt"]),
+        format!(
+            "tilgurap: proving and building listing (rt check listing), which can take minutes\n\
+             tilgurap: rt did not write {top}/target/bin/listing, which it takes for built: remove {top}/target/stamp/listing and try again\n"
+        )
+    );
 }
 
 #[test]
