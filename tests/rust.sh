@@ -9,7 +9,7 @@ if ! command -v cargo > /dev/null; then
     echo "skipped: rust/, since there is no cargo"
     exit 0
 fi
-for package in script generate tilgurap driver oracle compare; do
+for package in script generate tilgurap driver oracle record compare; do
     (cd "$package" && cargo fmt --check)
 done
 
@@ -25,6 +25,7 @@ for package in script generate; do
 done
 lint tilgurap
 lint tilgurap --all-features
+(cd tilgurap && RUSTDOCFLAGS='--deny warnings' cargo doc --quiet --offline --no-deps --all-features)
 lint driver
 
 library=${TILGURAP_LIB:-../target/staticlib}/libtilgurap.a
@@ -37,12 +38,24 @@ else
 fi
 
 if [ -z "${REDOX_SRC:-}" ]; then
-    echo "skipped: lints and tests of rust/oracle and rust/compare, since REDOX_SRC is not set"
+    echo "skipped: lints and tests of rust/oracle, rust/record and rust/compare, since REDOX_SRC is not set"
     exit 0
 fi
 sh oracle/build.sh clippy --quiet --all-targets -- --deny warnings
 sh oracle/build.sh test --quiet --workspace
-sh oracle/build.sh clippy --quiet --all-targets --manifest-path ../compare/Cargo.toml -- --deny warnings
+# the kernel's code says what the examples expect, where it is asked (201 to 207 are the layer's own)
+for script in "$PWD"/../examples/*.script; do
+    sh oracle/build.sh run --quiet --bin oracle -- "$script" | awk -v script="$script" '
+        NR == FNR { wanted[NR] = $0; lines = NR; next }
+        $0 == "skip" && wanted[FNR] ~ /^no 20[1-7]$/ { next }
+        $0 != wanted[FNR] { print script ": line " FNR " is " $0 ", expected " wanted[FNR]; differs = 1 }
+        END { exit differs || FNR != lines }
+    ' "${script%.script}.expected" -
+done
+for package in record compare; do
+    sh oracle/build.sh clippy --quiet --all-targets --manifest-path "../$package/Cargo.toml" -- --deny warnings
+done
+sh oracle/build.sh test --quiet --manifest-path ../record/Cargo.toml
 if [ -f "$library" ]; then
     # a test looks for slips in many runs
     sh oracle/build.sh test --quiet --release --manifest-path ../compare/Cargo.toml

@@ -1,13 +1,13 @@
 //! `compare SEEDS EVENTS [FIRST]`: so many runs of so many events each, on the layer and on the
 //! kernel's own code, from the first seed (0) on. Status 0 where they say the same, 1 where they
-//! differ: then a short script shows it.
+//! differ: then a short script shows it; 130 where Ctrl-C ended it, after what was compared so far.
 
 use std::panic::catch_unwind;
 use std::process::ExitCode;
 use std::time::{Duration, Instant};
 
 use compare::counts::Counts;
-use compare::{limits, runs, words};
+use compare::{interrupt, limits, runs, words};
 use tilgurap::numbers::Layer;
 
 const USAGE: &str = "usage: compare SEEDS EVENTS [FIRST]";
@@ -49,6 +49,7 @@ fn main() -> ExitCode {
         return ExitCode::from(2);
     };
 
+    interrupt::watch();
     let others = words::compare(RANDOM_WORDS);
     match &others {
         Ok(compared) => println!(
@@ -65,6 +66,11 @@ fn main() -> ExitCode {
 
     let (mut counts, mut told) = (Counts::default(), Instant::now());
     for seed in first..first.saturating_add(seeds) {
+        if interrupt::noted() {
+            print!("{counts}");
+            println!("\ninterrupted before seed {seed}: no difference so far in the runs");
+            return ExitCode::from(interrupt::STATUS);
+        }
         if let Err(difference) = runs::compare(seed, events, &Layer::new, &mut counts) {
             show(&difference);
             return ExitCode::FAILURE;

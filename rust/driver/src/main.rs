@@ -7,7 +7,7 @@ mod reasons;
 mod table;
 
 use std::fs;
-use std::io::{self, BufWriter, Read, Write};
+use std::io::{self, BufWriter, ErrorKind, Read, Write};
 use std::process::ExitCode;
 
 use script::Script;
@@ -33,8 +33,15 @@ fn script(file: Option<&str>) -> Result<(Script, String), String> {
     let text = text(file).map_err(|error| {
         format!("{name}: {error}; name a file with an event script, or pipe one in")
     })?;
-    let script = Script::parse_bytes(&text)
-        .map_err(|mistake| format!("{name}: {mistake}; nothing was run"))?;
+    let script = Script::parse_bytes(&text).map_err(|mistake| {
+        let hint = match text.contains(&b'\r') {
+            true => "remove the carriage returns at its lines' ends",
+            false => "`./tilgurap help script` shows each event's line",
+        };
+        // a carriage return would hide what stands before it
+        let mistake = mistake.to_string().replace('\r', "\\r");
+        format!("{name}: {mistake}; nothing was run; {hint}")
+    })?;
     let text = String::from_utf8(text).expect("what was parsed is text");
     Ok((script, text))
 }
@@ -80,7 +87,12 @@ fn run(task: Task, file: &[&str]) -> Result<ExitCode, String> {
     };
     Ok(match printed.and_then(|()| out.flush()) {
         Ok(()) => ExitCode::SUCCESS,
-        Err(_) => ExitCode::FAILURE,
+        // whoever reads has enough
+        Err(error) if error.kind() == ErrorKind::BrokenPipe => ExitCode::FAILURE,
+        Err(error) => {
+            eprintln!("standard output: {error}");
+            ExitCode::FAILURE
+        }
     })
 }
 

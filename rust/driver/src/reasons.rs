@@ -51,7 +51,9 @@ fn standing(layer: &Layer, tag: u64) -> String {
 
 fn not_this_callers(layer: &Layer, tag: u64, caller: u32) -> String {
     let slot = layer.slot(Tag(tag));
-    if slot.caller.0 != caller {
+    if slot.state == SlotState::Vacant {
+        standing(layer, tag)
+    } else if slot.caller.0 != caller {
         format!("tag {tag} is caller {}'s", slot.caller)
     } else if slot.ended {
         format!("caller {caller} has ended")

@@ -1,26 +1,8 @@
 //! The program: where a script comes from, what it prints, and what a mistake in it gets.
 
-use std::io::Write;
-use std::process::{Command, Output, Stdio};
+mod common;
 
-fn run(args: &[&str], input: &[u8]) -> Output {
-    let mut child = Command::new(env!("CARGO_BIN_EXE_driver"))
-        .args(args)
-        .stdin(Stdio::piped())
-        .stdout(Stdio::piped())
-        .stderr(Stdio::piped())
-        .spawn()
-        .expect("the program starts");
-    let mut stdin = child.stdin.take().expect("its input");
-    // it may end without reading
-    let _ = stdin.write_all(input);
-    drop(stdin);
-    child.wait_with_output().expect("the program ends")
-}
-
-fn text(bytes: &[u8]) -> &str {
-    std::str::from_utf8(bytes).expect("text")
-}
+use common::{run, text};
 
 /// A killed call keeps its slot until its driver has replied, so the next call gets another one.
 const ACCIDENT: &str = "scheme 7
@@ -98,10 +80,22 @@ fn a_mistake_on_each_kind_of_line() {
         let (kind, _) = good.split_once(' ').expect("a kind and its fields");
         let (cut, _) = good.rsplit_once(' ').expect("a last field");
         for (bad, what) in [
-            (cut.to_owned(), " is missing\n"),
-            (format!("{good} 1"), "spare field `1`\n"),
-            (good.replacen(' ', " x", 1), " is no decimal number\n"),
-            (good.replacen(kind, "shut", 1), "unknown event `shut`\n"),
+            (
+                cut.to_owned(),
+                " is missing; nothing was run; `./tilgurap help script` shows each event's line\n",
+            ),
+            (
+                format!("{good} 1"),
+                "spare field `1`; nothing was run; `./tilgurap help script` shows each event's line\n",
+            ),
+            (
+                good.replacen(' ', " x", 1),
+                " is no decimal number; nothing was run; `./tilgurap help script` shows each event's line\n",
+            ),
+            (
+                good.replacen(kind, "shut", 1),
+                "unknown event `shut`; nothing was run; `./tilgurap help script` shows each event's line\n",
+            ),
         ] {
             let script = format!("scheme 7\n# a comment\n{good}\n{bad}\nopen 1\n");
             let output = run(&["replay"], script.as_bytes());
@@ -122,22 +116,59 @@ fn a_mistake_on_each_kind_of_line() {
 #[test]
 fn no_script() {
     for (script, message) in [
-        (&b""[..], "standard input: line 1: `scheme N` is missing\n"),
+        (
+            &b""[..],
+            "standard input: line 1: `scheme N` is missing; nothing was run; `./tilgurap help script` shows each event's line\n",
+        ),
         (
             b"scheme 7\nopen \xff\n",
-            "standard input: line 2: a byte that is no text\n",
+            "standard input: line 2: a byte that is no text; nothing was run; `./tilgurap help script` shows each event's line\n",
+        ),
+        (
+            b"scheme 7\nopen 1\r\n",
+            "standard input: line 2: field D: `1\\r` is no decimal number; nothing was run; remove the carriage returns at its lines' ends\n",
         ),
     ] {
         let output = run(&["replay"], script);
         assert_eq!(text(&output.stderr), message);
         assert_eq!(output.status.code(), Some(2));
     }
-    let output = run(&["replay", "no/such.script"], b"");
-    assert!(text(&output.stderr).starts_with("no/such.script: "));
-    assert_eq!(output.status.code(), Some(2));
-    for args in [&[][..], &["play"], &["replay", "a", "b"]] {
-        let output = run(args, b"");
-        assert_eq!(text(&output.stderr), "usage: driver replay [FILE]\n");
+    for task in [&["replay"][..], &["replay", "--explain"], &["status"]] {
+        let args = [task, &["no/such.script"]].concat();
+        let output = run(&args, b"");
+        assert!(text(&output.stderr).starts_with("no/such.script: "));
         assert_eq!(output.status.code(), Some(2));
     }
+    for args in [
+        &[][..],
+        &["play"],
+        &["replay", "a", "b"],
+        &["status", "a", "b"],
+    ] {
+        let output = run(args, b"");
+        assert!(text(&output.stderr).starts_with("usage: driver replay [--explain] [FILE]\n"));
+        assert_eq!(output.status.code(), Some(2));
+    }
+    let output = run(&["replay", "--explian"], b"");
+    assert!(text(&output.stderr).starts_with("unknown option --explian\n"));
+    assert_eq!(output.status.code(), Some(2));
+}
+
+#[test]
+fn an_output_that_cannot_be_written() {
+    let full = std::fs::File::options().write(true).open("/dev/full");
+    let output = std::process::Command::new(env!("CARGO_BIN_EXE_driver"))
+        .args([
+            "replay",
+            concat!(
+                env!("CARGO_MANIFEST_DIR"),
+                "/../../examples/accident.script"
+            ),
+        ])
+        .stdout(full.expect("a device"))
+        .stderr(std::process::Stdio::piped())
+        .output()
+        .expect("it runs");
+    assert!(text(&output.stderr).starts_with("standard output: "));
+    assert_eq!(output.status.code(), Some(1));
 }

@@ -93,7 +93,11 @@ impl Display for Effect {
                     "wake caller {caller}, the call with tag {tag} has its reply"
                 )
             }
-            Effect::Unmap { span } => write!(f, "unmap pages from {} on, {} of them", span.base, span.count),
+            Effect::Unmap { span } => write!(
+                f,
+                "unmap pages from {} on, {} of them",
+                span.base, span.count
+            ),
             Effect::Close { description } => {
                 write!(f, "close description {description}, nobody holds it")
             }

@@ -1,5 +1,7 @@
 //! One layer: its state and its queue, and a method for each event.
 
+use std::fmt::{self, Debug, Formatter};
+
 use crate::effect::Effect;
 use crate::entry::{Cqe, Sqe, SqeFlags};
 use crate::ffi;
@@ -112,6 +114,15 @@ pub struct Written {
 #[derive(Clone, PartialEq, Eq)]
 pub struct Layer {
     pub(crate) steps: Steps,
+}
+
+impl Debug for Layer {
+    fn fmt(&self, f: &mut Formatter) -> fmt::Result {
+        f.debug_struct("Layer")
+            .field("scheme", &self.scheme())
+            .field("status", &self.status())
+            .finish_non_exhaustive()
+    }
 }
 
 fn done(stepped: &Stepped) -> Result<u64, Refusal> {
@@ -357,6 +368,21 @@ impl Layer {
     /// part of one comes again. Bytes beyond those stored stay as they are.
     ///
     /// Refused: as [`WhenEmpty::Refuse`] says.
+    ///
+    /// ```
+    /// use tilgurap::{FileNumber, Layer, Opcode, Read, SchemeNumber, Sqe, WhenEmpty};
+    ///
+    /// let mut layer = Layer::new(SchemeNumber(7));
+    /// layer.close(FileNumber(1))?;
+    /// layer.close(FileNumber(2))?;
+    /// // one whole entry and a part of the next, which comes again
+    /// let mut bytes = [0; 100];
+    /// assert_eq!(layer.read(&mut bytes, WhenEmpty::Wait), Ok(Read::Stored(100)));
+    /// let first = Sqe::from_bytes(bytes.first_chunk().expect("64 bytes"));
+    /// assert_eq!((first.opcode(), first.args[0]), (Some(Opcode::CloseMsg), 1));
+    /// assert_eq!(layer.next_entry().map(|entry| entry.args[0]), Some(2));
+    /// # Ok::<(), tilgurap::Refusal>(())
+    /// ```
     pub fn read(&mut self, out: &mut [u8], when_empty: WhenEmpty) -> Result<Read, Refusal> {
         let flags = match when_empty {
             WhenEmpty::Wait => 0,
@@ -382,6 +408,18 @@ impl Layer {
     ///
     /// Refused for its first entry's sake: [`Einval`](Refusal::Einval), [`Ebadfd`](Refusal::Ebadfd),
     /// [`Enoent`](Refusal::Enoent).
+    ///
+    /// ```
+    /// use tilgurap::{Cqe, Effect, EventFlags, Layer, SchemeNumber, Tag};
+    ///
+    /// let mut layer = Layer::new(SchemeNumber(7));
+    /// let event = Cqe::event(3, EventFlags::READ);
+    /// let stray = Cqe::ok(Tag(9), 0);
+    /// let written = layer.write(&[event, stray, event].map(Cqe::to_bytes).concat());
+    /// // nobody waits under tag 9: the entry is turned down, the third is not looked at
+    /// assert_eq!(written.answer, Ok(16));
+    /// assert_eq!(written.effects, [Effect::Event { number: 3, flags: EventFlags::READ }]);
+    /// ```
     pub fn write(&mut self, bytes: &[u8]) -> Written {
         let mut words = vec![0; EFFECT_WORDS * (bytes.len() / Cqe::BYTES)];
         let (answer, used) = self.steps.write(&mut words, bytes);
@@ -409,6 +447,24 @@ impl Layer {
     ///
     /// Refused: those, [`Einval`](Refusal::Einval) for a vacant tag, [`Enoent`](Refusal::Enoent)
     /// where the call does not wait.
+    ///
+    /// ```
+    /// use tilgurap::{
+    ///     Caller, Cqe, Description, Identity, Layer, Opcode, Pid, Reply, SchemeNumber, Wake,
+    /// };
+    ///
+    /// let mut layer = Layer::new(SchemeNumber(7));
+    /// let (caller, logbook) = (Caller(100), Description(3));
+    /// let who = Identity { uid: 0, gid: 0, pid: Pid(100) };
+    /// let tag = layer.call(caller, Opcode::Recvfd, [0; 5], who, &[])?.tag;
+    ///
+    /// // the driver hands a description over as its reply
+    /// layer.open(logbook)?;
+    /// layer.move_list(tag, &[logbook])?;
+    /// assert_eq!(layer.complete(Cqe::many(tag)).answer, Ok(16));
+    /// assert_eq!(layer.wake(tag, caller), Ok(Wake::Replied(Reply::Many(vec![logbook]))));
+    /// # Ok::<(), tilgurap::Refusal>(())
+    /// ```
     pub fn move_list(&mut self, tag: Tag, list: &[Description]) -> Result<usize, Refusal> {
         let stepped = self.steps.move_list(&[1, tag.0], &numbers(list));
         done(&stepped).map(|count| count as usize)
@@ -439,7 +495,23 @@ impl Layer {
         done(&self.steps.supply(tag.0, offset, base, count)).map(drop)
     }
 
+    /// The number that the layer was made with.
+    pub fn scheme(&self) -> SchemeNumber {
+        SchemeNumber(self.steps.state.driver.scheme)
+    }
+
     /// The four status words.
+    ///
+    /// ```
+    /// use tilgurap::{Caller, Layer, SchemeNumber, SlotState, Tag};
+    ///
+    /// let mut layer = Layer::new(SchemeNumber(7));
+    /// let tag = layer.reserve(Caller(100))?;
+    /// assert_eq!(layer.status().placeholder.count, 1);
+    /// assert_eq!(layer.status().placeholder.tags().next(), Some(tag));
+    /// assert_eq!(layer.slot(tag).state, SlotState::Placeholder);
+    /// # Ok::<(), tilgurap::Refusal>(())
+    /// ```
     pub fn status(&self) -> Status {
         let word = |(bits, count)| StatusWord { bits, count };
         let [placeholder, waiting, responded, fmap] = self.steps.status().map(word);

@@ -47,7 +47,7 @@ impl Slot {
             2 => SlotState::Waiting,
             3 => SlotState::Responded,
             4 => SlotState::Fmap,
-            _ => SlotState::Vacant,
+            _ => return Slot::VACANT,
         };
         Slot {
             state,
