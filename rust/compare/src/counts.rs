@@ -22,30 +22,6 @@ pub struct Counts {
     most_queued: u64,
 }
 
-fn name(event: &Event) -> &'static str {
-    match event {
-        Event::Open { .. } => "open",
-        Event::Copy { .. } => "copy",
-        Event::Drop { .. } => "drop",
-        Event::Put { .. } => "put",
-        Event::Ended { .. } => "ended",
-        Event::Reserve { .. } => "reserve",
-        Event::Submit { .. } => "submit",
-        Event::Call { .. } => "call",
-        Event::Generic(_) => "generic",
-        Event::Stdfs(_) => "stdfs",
-        Event::Fmap { .. } => "fmap",
-        Event::Close { .. } => "close",
-        Event::Detach { .. } => "detach",
-        Event::Wake { .. } => "wake",
-        Event::Read { .. } => "read",
-        Event::Write { .. } => "write",
-        Event::Move { .. } => "move",
-        Event::Obtain { .. } => "obtain",
-        Event::Supply { .. } => "supply",
-    }
-}
-
 fn answer(answer: &Answer) -> String {
     match answer {
         Answer::Ok(_) => "ok".to_owned(),
@@ -101,7 +77,7 @@ impl Counts {
                 return;
             }
         };
-        let (kind, state) = (name(event), before.state());
+        let (kind, state) = (event.name(), before.state());
         more(&mut self.answers, (kind, answer(&line.answer) + mark));
         self.effects_of(kind, line);
         let tag = match event {

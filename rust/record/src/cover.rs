@@ -134,30 +134,6 @@ const LIMITS: [(&str, &[&str]); 6] = [
 /// The bits of an obtain entry's extra bytes that have a name (syscall/src/flag.rs).
 const OBTAIN_BITS: u32 = 15;
 
-fn kind(event: &Event) -> &'static str {
-    match event {
-        Event::Open { .. } => "open",
-        Event::Copy { .. } => "copy",
-        Event::Drop { .. } => "drop",
-        Event::Put { .. } => "put",
-        Event::Ended { .. } => "ended",
-        Event::Reserve { .. } => "reserve",
-        Event::Submit { .. } => "submit",
-        Event::Call { .. } => "call",
-        Event::Generic(_) => "generic",
-        Event::Stdfs(_) => "stdfs",
-        Event::Fmap { .. } => "fmap",
-        Event::Close { .. } => "close",
-        Event::Detach { .. } => "detach",
-        Event::Wake { .. } => "wake",
-        Event::Read { .. } => "read",
-        Event::Write { .. } => "write",
-        Event::Move { .. } => "move",
-        Event::Obtain { .. } => "obtain",
-        Event::Supply { .. } => "supply",
-    }
-}
-
 fn answer(event: &Event, line: &Line) -> String {
     match (&line.answer, event) {
         (Answer::Ok(0), Event::Read { .. } | Event::Write { .. }) => "ok 0".to_owned(),
@@ -295,7 +271,7 @@ impl Cover {
             let row = format!("{row}, {}", phase_name(before, tag));
             self.phases.add(&row, &answer);
         }
-        self.events.add(kind(event), &answer);
+        self.events.add(event.name(), &answer);
     }
 
     fn add_entries(&mut self, bytes: &[u8], answer: &Answer) {
@@ -313,7 +289,7 @@ impl Cover {
     /// An event of 01's own list, and what it answers there.
     pub fn add_limit(&mut self, event: &Event, line: &Line) {
         if let Answer::No(201..=207) = line.answer {
-            self.limits.add(&answer(event, line), kind(event));
+            self.limits.add(&answer(event, line), event.name());
         }
     }
 

@@ -218,6 +218,33 @@ impl Display for Payload {
     }
 }
 
+impl Event {
+    /// The word that an event's line begins with.
+    pub fn name(&self) -> &'static str {
+        match self {
+            Event::Open { .. } => "open",
+            Event::Copy { .. } => "copy",
+            Event::Drop { .. } => "drop",
+            Event::Put { .. } => "put",
+            Event::Ended { .. } => "ended",
+            Event::Reserve { .. } => "reserve",
+            Event::Submit { .. } => "submit",
+            Event::Call { .. } => "call",
+            Event::Generic(_) => "generic",
+            Event::Stdfs(_) => "stdfs",
+            Event::Fmap { .. } => "fmap",
+            Event::Close { .. } => "close",
+            Event::Detach { .. } => "detach",
+            Event::Wake { .. } => "wake",
+            Event::Read { .. } => "read",
+            Event::Write { .. } => "write",
+            Event::Move { .. } => "move",
+            Event::Obtain { .. } => "obtain",
+            Event::Supply { .. } => "supply",
+        }
+    }
+}
+
 impl Display for Event {
     fn fmt(&self, f: &mut Formatter) -> fmt::Result {
         match self {

@@ -155,6 +155,27 @@ fn numbers(list: &[Description]) -> Vec<u64> {
     list.iter().map(|description| description.0).collect()
 }
 
+fn file_numbers(files: &[FileNumber]) -> Vec<u64> {
+    files.iter().map(|file| file.0).collect()
+}
+
+fn generic_call<'a>(
+    caller: Caller,
+    pid: Pid,
+    fds: &'a [u64],
+    payload: Payload,
+    metadata: &'a [u64],
+) -> GenericCall<'a> {
+    GenericCall {
+        caller: caller.0,
+        pid: pid.0,
+        fds,
+        base: payload.base,
+        len: payload.len,
+        metadata,
+    }
+}
+
 impl Layer {
     /// A fresh layer: every slot vacant, the queue and the handles empty, no description open.
     pub fn new(scheme: SchemeNumber) -> Layer {
@@ -267,15 +288,9 @@ impl Layer {
         payload: Payload,
         metadata: &[u64],
     ) -> Result<Submitted, Refusal> {
-        let files: Vec<u64> = files.iter().map(|file| file.0).collect();
-        submitted(self.steps.generic(&GenericCall {
-            caller: caller.0,
-            pid: pid.0,
-            fds: &files,
-            base: payload.base,
-            len: payload.len,
-            metadata,
-        }))
+        let fds = file_numbers(files);
+        let call = generic_call(caller, pid, &fds, payload, metadata);
+        submitted(self.steps.generic(&call))
     }
 
     /// A standard file system call (`Opcode::StdFsCall`), as [`call_generic`](Layer::call_generic).
@@ -291,15 +306,9 @@ impl Layer {
         payload: Payload,
         metadata: &[u64],
     ) -> Result<Submitted, Refusal> {
-        let files: Vec<u64> = files.iter().map(|file| file.0).collect();
-        submitted(self.steps.stdfs(&GenericCall {
-            caller: caller.0,
-            pid: pid.0,
-            fds: &files,
-            base: payload.base,
-            len: payload.len,
-            metadata,
-        }))
+        let fds = file_numbers(files);
+        let call = generic_call(caller, pid, &fds, payload, metadata);
+        submitted(self.steps.stdfs(&call))
     }
 
     /// Asks the driver for a mapping of a file. It is no call: no reply serves it, and
