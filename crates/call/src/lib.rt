@@ -1,14 +1,18 @@
 // `UserInner::call` (src/scheme/user.rs, lines 195 to 261): a slot is given out and its entry queued; argument 5 is
 // overwritten with uid and gid.
 use effect::Effect;
+use holds::Holds;
 use ids::Tag;
 use opcode::RawOpcode;
+use part::Part;
 use schemev2::Args;
 use schemev2::Sqe;
-use state::State;
 use take_holds::TakeAnswer;
 ghost use mathlib.Core.Path.{_≡_};
+ghost use Prim.Native.Nat.{_%_};
 ghost use Rattle.effect.specs.Effect.{effectWords};
+ghost use Rattle.state.specs.declared.State.{State};
+ghost use Rattle.part.specs.Part.{Stands, found, leaves};
 ghost use Rattle.events.specs.World.{world};
 ghost use Rattle.events.specs.Outcome.{outcome};
 ghost use Rattle.events.specs.Submit.{callOf};
@@ -25,11 +29,13 @@ pub enum CallAnswer {
 pub struct CallStep {
     pub answer: CallAnswer,
     pub effect: Effect,
-    pub state: State,
+    pub part: Part,
+    pub holds: Holds,
 }
 
 pub fn call(
-    s: State,
+    p: Part,
+    h: Holds,
     words: &mut [u64; 1024],
     caller: u32,
     opcode: u64,
@@ -39,7 +45,7 @@ pub fn call(
     pid: u64,
     fds: &[u64],
 ) -> CallStep
-    ensures { λ r. ⌜ outcome (callAnswer (r .answer)) (effectWords (r .effect)) (world (r .state) (now (words .exit))) ≡ callOf (world s (now (words .entry))) caller opcode args uid gid pid (now (fds .entry)) ⌝ }
+    ensures { λ r. ⌜ ((s : State) → Stands s (p .head % 64) p → outcome (callAnswer (r .answer)) (effectWords (r .effect)) (world (leaves s (p .head % 64) (r .part) (r .holds)) (now (words .exit))) ≡ callOf (world (found s p h) (now (words .entry))) caller opcode args uid gid pid (now (fds .entry))) ⌝ }
 {
     let none = effect::none();
     let raw = opcode::try_from_raw(opcode);
@@ -48,55 +54,52 @@ pub fn call(
             return CallStep {
                 answer: CallAnswer::BadArgument,
                 effect: none,
-                state: s,
+                part: p,
+                holds: h,
             };
         }
         RawOpcode::Opcode(op) => {
-            let mut t = s.table;
-            let held = t.holds;
-            let taken = take_holds::take_list(held, fds);
+            let taken = take_holds::take_list(h, fds);
             let took = taken.answer;
             match took {
                 TakeAnswer::BadArgument => {
                     return CallStep {
                         answer: CallAnswer::BadArgument,
                         effect: none,
-                        state: s,
+                        part: p,
+                        holds: h,
                     };
                 }
                 TakeAnswer::TooMany => {
                     return CallStep {
                         answer: CallAnswer::TooManyFds,
                         effect: none,
-                        state: s,
+                        part: p,
+                        holds: h,
                     };
                 }
                 TakeAnswer::Taken => {
-                    let n = t.head;
+                    let n = p.head;
                     if 64 <= n {
                         return CallStep {
                             answer: CallAnswer::Full,
                             effect: none,
-                            state: s,
+                            part: p,
+                            holds: h,
                         };
                     }
-                    let mut d = s.driver;
-                    let q = d.queue;
+                    let q = p.queue;
                     if 128 <= q.len {
                         return CallStep {
                             answer: CallAnswer::QueueFull,
                             effect: none,
-                            state: s,
+                            part: p,
+                            holds: h,
                         };
                     }
-                    let at = n as usize;
                     let list = taken.list;
                     let holds = taken.holds;
-                    let next = t.next[at];
                     let v = slot::waiting(caller, list);
-                    t.slots[at] = v;
-                    t.head = next;
-                    t.holds = holds;
                     let who = user_args::uid_gid_hack_merge(uid, gid);
                     let a = Args(args.0, args.1, args.2, args.3, args.4, who);
                     let e = Sqe {
@@ -108,16 +111,14 @@ pub fn call(
                     };
                     let sent = wait_queue::send(q, words, e);
                     let longer = sent.queue;
-                    d.queue = longer;
+                    let after = part::given(p, v, longer);
                     let flags = flag::event_read();
-                    let fx = effect::root(d.scheme, flags);
+                    let fx = effect::root(p.scheme, flags);
                     return CallStep {
                         answer: CallAnswer::Called(Tag(n as u64)),
                         effect: fx,
-                        state: State {
-                            driver: d,
-                            table: t,
-                        },
+                        part: after,
+                        holds: holds,
                     };
                 }
             }

@@ -2,9 +2,13 @@
 // comes to it with opcode StdFsCall.
 use effect::Effect;
 use ids::Tag;
-use state::State;
+use part::Part;
 ghost use mathlib.Core.Path.{_≡_};
+ghost use Prim.Native.Nat.{_%_};
 ghost use Rattle.effect.specs.Effect.{effectWords};
+ghost use Rattle.holds.specs.declared.Holds.{Holds};
+ghost use Rattle.state.specs.declared.State.{State};
+ghost use Rattle.part.specs.Part.{Stands, found, leaves};
 ghost use Rattle.events.specs.World.{world};
 ghost use Rattle.events.specs.Outcome.{outcome};
 ghost use Rattle.events.specs.Submit.{genericOf, stdfsOf};
@@ -20,7 +24,7 @@ pub enum GenericAnswer {
 pub struct GenericStep {
     pub answer: GenericAnswer,
     pub effect: Effect,
-    pub state: State,
+    pub part: Part,
 }
 
 pub enum StdFsAnswer {
@@ -34,11 +38,11 @@ pub enum StdFsAnswer {
 pub struct StdFsStep {
     pub answer: StdFsAnswer,
     pub effect: Effect,
-    pub state: State,
+    pub part: Part,
 }
 
 fn call_with(
-    s: State,
+    p: Part,
     words: &mut [u64; 1024],
     op: u8,
     caller: u32,
@@ -48,65 +52,56 @@ fn call_with(
     len: u64,
     metadata: &[u64],
 ) -> GenericStep
-    ensures { λ r. ⌜ outcome (genericAnswer (r .answer)) (effectWords (r .effect)) (world (r .state) (now (words .exit))) ≡ genericWith op (world s (now (words .entry))) caller pid (now (fds .entry)) base len (now (metadata .entry)) ⌝ }
+    ensures { λ r. ⌜ ((s : State) (h : Holds) → Stands s (p .head % 64) p → outcome (genericAnswer (r .answer)) (effectWords (r .effect)) (world (leaves s (p .head % 64) (r .part) h) (now (words .exit))) ≡ genericWith op (world (found s p h) (now (words .entry))) caller pid (now (fds .entry)) base len (now (metadata .entry))) ⌝ }
 {
     let none = effect::none();
     if fds.len() == 0 {
         return GenericStep {
             answer: GenericAnswer::Invalid,
             effect: none,
-            state: s,
+            part: p,
         };
     }
     if 2 < fds.len() {
         return GenericStep {
             answer: GenericAnswer::Invalid,
             effect: none,
-            state: s,
+            part: p,
         };
     }
-    let mut t = s.table;
-    let n = t.head;
+    let n = p.head;
     if 64 <= n {
         return GenericStep {
             answer: GenericAnswer::Full,
             effect: none,
-            state: s,
+            part: p,
         };
     }
-    let mut d = s.driver;
-    let q = d.queue;
+    let q = p.queue;
     if 128 <= q.len {
         return GenericStep {
             answer: GenericAnswer::QueueFull,
             effect: none,
-            state: s,
+            part: p,
         };
     }
-    let at = n as usize;
-    let next = t.next[at];
     let list = fd_list::empty();
     let v = slot::waiting(caller, list);
-    t.slots[at] = v;
-    t.head = next;
     let e = generic_entry::entry(op, n as u32, pid, fds, base, len, metadata);
     let sent = wait_queue::send(q, words, e);
     let longer = sent.queue;
-    d.queue = longer;
+    let after = part::given(p, v, longer);
     let bits = flag::event_read();
-    let fx = effect::root(d.scheme, bits);
+    let fx = effect::root(p.scheme, bits);
     GenericStep {
         answer: GenericAnswer::Called(Tag(n as u64)),
         effect: fx,
-        state: State {
-            driver: d,
-            table: t,
-        },
+        part: after,
     }
 }
 
 pub fn call_generic(
-    s: State,
+    p: Part,
     words: &mut [u64; 1024],
     caller: u32,
     pid: u64,
@@ -115,9 +110,9 @@ pub fn call_generic(
     len: u64,
     metadata: &[u64],
 ) -> GenericStep
-    ensures { λ r. ⌜ outcome (genericAnswer (r .answer)) (effectWords (r .effect)) (world (r .state) (now (words .exit))) ≡ genericOf (world s (now (words .entry))) caller pid (now (fds .entry)) base len (now (metadata .entry)) ⌝ }
+    ensures { λ r. ⌜ ((s : State) (h : Holds) → Stands s (p .head % 64) p → outcome (genericAnswer (r .answer)) (effectWords (r .effect)) (world (leaves s (p .head % 64) (r .part) h) (now (words .exit))) ≡ genericOf (world (found s p h) (now (words .entry))) caller pid (now (fds .entry)) base len (now (metadata .entry))) ⌝ }
 {
-    call_with(s, words, 28, caller, pid, fds, base, len, metadata)
+    call_with(p, words, 28, caller, pid, fds, base, len, metadata)
 }
 
 fn std_fs_answer(a: GenericAnswer) -> StdFsAnswer
@@ -132,7 +127,7 @@ fn std_fs_answer(a: GenericAnswer) -> StdFsAnswer
 }
 
 pub fn translate_std_fs_call(
-    s: State,
+    p: Part,
     words: &mut [u64; 1024],
     caller: u32,
     pid: u64,
@@ -141,14 +136,14 @@ pub fn translate_std_fs_call(
     len: u64,
     metadata: &[u64],
 ) -> StdFsStep
-    ensures { λ r. ⌜ outcome (stdfsAnswer (r .answer)) (effectWords (r .effect)) (world (r .state) (now (words .exit))) ≡ stdfsOf (world s (now (words .entry))) caller pid (now (fds .entry)) base len (now (metadata .entry)) ⌝ }
+    ensures { λ r. ⌜ ((s : State) (h : Holds) → Stands s (p .head % 64) p → outcome (stdfsAnswer (r .answer)) (effectWords (r .effect)) (world (leaves s (p .head % 64) (r .part) h) (now (words .exit))) ≡ stdfsOf (world (found s p h) (now (words .entry))) caller pid (now (fds .entry)) base len (now (metadata .entry))) ⌝ }
 {
     if metadata.len() < 3 {
         let none = effect::none();
         return StdFsStep {
             answer: StdFsAnswer::Invalid,
             effect: none,
-            state: s,
+            part: p,
         };
     }
     let kind = metadata[0] % 256;
@@ -157,18 +152,18 @@ pub fn translate_std_fs_call(
         return StdFsStep {
             answer: StdFsAnswer::NotSupported,
             effect: none,
-            state: s,
+            part: p,
         };
     }
     let three = [kind, metadata[1], metadata[2]];
-    let r = call_with(s, words, 33, caller, pid, fds, base, len, &three);
+    let r = call_with(p, words, 33, caller, pid, fds, base, len, &three);
     let answer = r.answer;
     let fx = r.effect;
-    let u = r.state;
+    let after = r.part;
     let said = std_fs_answer(answer);
     StdFsStep {
         answer: said,
         effect: fx,
-        state: u,
+        part: after,
     }
 }

@@ -1,11 +1,15 @@
 // `close` and `detach` (src/scheme/user.rs, lines 1641 and 1663): an entry of its own in the queue, with tag 0 and no slot.
 use effect::Effect;
+use part::Part;
 use schemev2::Args;
 use schemev2::Sqe;
-use state::State;
 use wait_queue::SendAnswer;
 ghost use mathlib.Core.Path.{_≡_};
+ghost use Prim.Native.Nat.{ℕ};
 ghost use Rattle.effect.specs.Effect.{effectWords};
+ghost use Rattle.holds.specs.declared.Holds.{Holds};
+ghost use Rattle.state.specs.declared.State.{State};
+ghost use Rattle.part.specs.Part.{Stands, found, leaves};
 ghost use Rattle.wait_queue.specs.Queue.{sendAnswer};
 ghost use Rattle.events.specs.World.{world};
 ghost use Rattle.events.specs.Outcome.{outcome, answered};
@@ -14,21 +18,20 @@ ghost use Rattle.events.specs.Submit.{closeOf, detachOf};
 pub struct CloseStep {
     pub answer: SendAnswer,
     pub effect: Effect,
-    pub state: State,
+    pub part: Part,
 }
 
 // READ and HUP, pid 0.
-pub fn close(s: State, words: &mut [u64; 1024], id: u64) -> CloseStep
-    ensures { λ r. ⌜ outcome (answered (sendAnswer (r .answer))) (effectWords (r .effect)) (world (r .state) (now (words .exit))) ≡ closeOf (world s (now (words .entry))) id ⌝ }
+pub fn close(p: Part, words: &mut [u64; 1024], id: u64) -> CloseStep
+    ensures { λ r. ⌜ ((s : State) (n : ℕ) (h : Holds) → Stands s n p → outcome (answered (sendAnswer (r .answer))) (effectWords (r .effect)) (world (leaves s n (r .part) h) (now (words .exit))) ≡ closeOf (world (found s p h) (now (words .entry))) id) ⌝ }
 {
-    let mut d = s.driver;
-    let q = d.queue;
+    let q = p.queue;
     if 128 <= q.len {
         let none = effect::none();
         return CloseStep {
             answer: SendAnswer::Full,
             effect: none,
-            state: s,
+            part: p,
         };
     }
     let a = Args(id, 0, 0, 0, 0, 0);
@@ -41,30 +44,27 @@ pub fn close(s: State, words: &mut [u64; 1024], id: u64) -> CloseStep
     };
     let sent = wait_queue::send(q, words, e);
     let longer = sent.queue;
-    d.queue = longer;
+    let after = part::queued(p, longer);
     let read = flag::event_read();
     let hup = flag::event_hup();
-    let fx = effect::root(d.scheme, read + hup);
-    let mut u = s;
-    u.driver = d;
+    let fx = effect::root(p.scheme, read + hup);
     CloseStep {
         answer: SendAnswer::Queued,
         effect: fx,
-        state: u,
+        part: after,
     }
 }
 
-pub fn detach(s: State, words: &mut [u64; 1024], id: u64, pid: u64) -> CloseStep
-    ensures { λ r. ⌜ outcome (answered (sendAnswer (r .answer))) (effectWords (r .effect)) (world (r .state) (now (words .exit))) ≡ detachOf (world s (now (words .entry))) id pid ⌝ }
+pub fn detach(p: Part, words: &mut [u64; 1024], id: u64, pid: u64) -> CloseStep
+    ensures { λ r. ⌜ ((s : State) (n : ℕ) (h : Holds) → Stands s n p → outcome (answered (sendAnswer (r .answer))) (effectWords (r .effect)) (world (leaves s n (r .part) h) (now (words .exit))) ≡ detachOf (world (found s p h) (now (words .entry))) id pid) ⌝ }
 {
-    let mut d = s.driver;
-    let q = d.queue;
+    let q = p.queue;
     if 128 <= q.len {
         let none = effect::none();
         return CloseStep {
             answer: SendAnswer::Full,
             effect: none,
-            state: s,
+            part: p,
         };
     }
     let a = Args(id, 0, 0, 0, 0, 0);
@@ -77,14 +77,12 @@ pub fn detach(s: State, words: &mut [u64; 1024], id: u64, pid: u64) -> CloseStep
     };
     let sent = wait_queue::send(q, words, e);
     let longer = sent.queue;
-    d.queue = longer;
+    let after = part::queued(p, longer);
     let read = flag::event_read();
-    let fx = effect::root(d.scheme, read);
-    let mut u = s;
-    u.driver = d;
+    let fx = effect::root(p.scheme, read);
     CloseStep {
         answer: SendAnswer::Queued,
         effect: fx,
-        state: u,
+        part: after,
     }
 }

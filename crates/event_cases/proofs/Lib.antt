@@ -1,3 +1,4 @@
 pub mod Opcodes
 pub mod Taken
 pub mod Begun
+pub mod Parts

@@ -1,9 +1,12 @@
 // `next_id` (src/scheme/user.rs, line 185): a reserve, a Placeholder of the caller's.
 use ids::Tag;
-use state::State;
+use part::Part;
 ghost use mathlib.Core.Path.{_≡_};
 ghost use mathlib.Core.List.{List, []};
-ghost use Prim.Native.Nat.{ℕ};
+ghost use Prim.Native.Nat.{ℕ, _%_};
+ghost use Rattle.holds.specs.declared.Holds.{Holds};
+ghost use Rattle.state.specs.declared.State.{State};
+ghost use Rattle.part.specs.Part.{Stands, found, leaves};
 ghost use Rattle.events.specs.World.{world};
 ghost use Rattle.events.specs.Outcome.{outcome};
 ghost use Rattle.events.specs.Submit.{reserveOf};
@@ -16,29 +19,24 @@ pub enum NextIdAnswer {
 
 pub struct NextIdStep {
     pub answer: NextIdAnswer,
-    pub state: State,
+    pub part: Part,
 }
 
-pub fn next_id(s: State, caller: u32) -> NextIdStep
-    ensures { λ r. ⌜ ((ws : List ℕ) → outcome (nextIdAnswer (r .answer)) [] (world (r .state) ws) ≡ reserveOf (world s ws) caller) ⌝ }
+pub fn next_id(p: Part, caller: u32) -> NextIdStep
+    ensures { λ r. ⌜ ((s : State) (h : Holds) (ws : List ℕ) → Stands s (p .head % 64) p → outcome (nextIdAnswer (r .answer)) [] (world (leaves s (p .head % 64) (r .part) h) ws) ≡ reserveOf (world (found s p h) ws) caller) ⌝ }
 {
-    let mut t = s.table;
-    let n = t.head;
+    let n = p.head;
     if 64 <= n {
         return NextIdStep {
             answer: NextIdAnswer::Full,
-            state: s,
+            part: p,
         };
     }
-    let at = n as usize;
-    let next = t.next[at];
     let v = slot::placeholder(caller);
-    t.slots[at] = v;
-    t.head = next;
-    let mut u = s;
-    u.table = t;
+    let q = p.queue;
+    let u = part::given(p, v, q);
     NextIdStep {
         answer: NextIdAnswer::Reserved(Tag(n as u64)),
-        state: u,
+        part: u,
     }
 }

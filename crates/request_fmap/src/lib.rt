@@ -1,11 +1,15 @@
 // `request_fmap` (src/scheme/user.rs, lines 756 to 790): a map request. It is no call, and its offset stays out of the entry.
 use effect::Effect;
 use ids::Tag;
+use part::Part;
 use schemev2::Args;
 use schemev2::Sqe;
-use state::State;
 ghost use mathlib.Core.Path.{_≡_};
+ghost use Prim.Native.Nat.{_%_};
 ghost use Rattle.effect.specs.Effect.{effectWords};
+ghost use Rattle.holds.specs.declared.Holds.{Holds};
+ghost use Rattle.state.specs.declared.State.{State};
+ghost use Rattle.part.specs.Part.{Stands, found, leaves};
 ghost use Rattle.events.specs.World.{world};
 ghost use Rattle.events.specs.Outcome.{outcome};
 ghost use Rattle.events.specs.Submit.{fmapOf};
@@ -20,11 +24,11 @@ pub enum FmapAnswer {
 pub struct FmapStep {
     pub answer: FmapAnswer,
     pub effect: Effect,
-    pub state: State,
+    pub part: Part,
 }
 
 pub fn request_fmap(
-    s: State,
+    p: Part,
     words: &mut [u64; 1024],
     caller: u32,
     id: u64,
@@ -34,32 +38,26 @@ pub fn request_fmap(
     gid: u32,
     pid: u64,
 ) -> FmapStep
-    ensures { λ r. ⌜ outcome (fmapAnswer (r .answer)) (effectWords (r .effect)) (world (r .state) (now (words .exit))) ≡ fmapOf (world s (now (words .entry))) caller id pages flags uid gid pid ⌝ }
+    ensures { λ r. ⌜ ((s : State) (h : Holds) → Stands s (p .head % 64) p → outcome (fmapAnswer (r .answer)) (effectWords (r .effect)) (world (leaves s (p .head % 64) (r .part) h) (now (words .exit))) ≡ fmapOf (world (found s p h) (now (words .entry))) caller id pages flags uid gid pid) ⌝ }
 {
     let none = effect::none();
-    let mut t = s.table;
-    let n = t.head;
+    let n = p.head;
     if 64 <= n {
         return FmapStep {
             answer: FmapAnswer::Full,
             effect: none,
-            state: s,
+            part: p,
         };
     }
-    let mut d = s.driver;
-    let q = d.queue;
+    let q = p.queue;
     if 128 <= q.len {
         return FmapStep {
             answer: FmapAnswer::QueueFull,
             effect: none,
-            state: s,
+            part: p,
         };
     }
-    let at = n as usize;
-    let next = t.next[at];
     let v = slot::map_request(caller);
-    t.slots[at] = v;
-    t.head = next;
     let who = user_args::uid_gid_hack_merge(uid, gid);
     let a = Args(id, flags, pages, 0, 0, who);
     let e = Sqe {
@@ -71,15 +69,12 @@ pub fn request_fmap(
     };
     let sent = wait_queue::send(q, words, e);
     let longer = sent.queue;
-    d.queue = longer;
+    let after = part::given(p, v, longer);
     let bits = flag::event_read();
-    let fx = effect::root(d.scheme, bits);
+    let fx = effect::root(p.scheme, bits);
     FmapStep {
         answer: FmapAnswer::Requested(Tag(n as u64)),
         effect: fx,
-        state: State {
-            driver: d,
-            table: t,
-        },
+        part: after,
     }
 }

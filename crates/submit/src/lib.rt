@@ -1,16 +1,20 @@
 // A reserved call is submitted: the start of `call_inner` (src/scheme/user.rs, lines 233 to 261). Opcode, flags, arguments
 // and pid are taken as given.
 use effect::Effect;
+use holds::Holds;
 use ids::Tag;
 use opcode::RawOpcode;
+use part::Part;
 use schemev2::Args;
 use schemev2::Sqe;
 use slot::Phase;
 use slot::Slot;
-use state::State;
 use take_holds::TakeAnswer;
 ghost use mathlib.Core.Path.{_≡_};
+ghost use Prim.Native.Nat.{_%_};
 ghost use Rattle.effect.specs.Effect.{effectWords};
+ghost use Rattle.state.specs.declared.State.{State};
+ghost use Rattle.part.specs.Part.{Stands, found, leaves};
 ghost use Rattle.events.specs.World.{world};
 ghost use Rattle.events.specs.Outcome.{outcome};
 ghost use Rattle.events.specs.Submit.{submittable, submitOf};
@@ -27,7 +31,8 @@ pub enum SubmitAnswer {
 pub struct SubmitStep {
     pub answer: SubmitAnswer,
     pub effect: Effect,
-    pub state: State,
+    pub part: Part,
+    pub holds: Holds,
 }
 
 // Whether it is a Placeholder of this caller's, which has not ended.
@@ -50,7 +55,8 @@ fn is_submittable(v: Slot, caller: u32) -> bool
 }
 
 pub fn submit(
-    s: State,
+    p: Part,
+    h: Holds,
     words: &mut [u64; 1024],
     tag: Tag,
     caller: u32,
@@ -60,7 +66,7 @@ pub fn submit(
     pid: u64,
     fds: &[u64],
 ) -> SubmitStep
-    ensures { λ r. ⌜ outcome (submitAnswer (r .answer)) (effectWords (r .effect)) (world (r .state) (now (words .exit))) ≡ submitOf (world s (now (words .entry))) (tag .0) caller opcode flags args pid (now (fds .entry)) ⌝ }
+    ensures { λ r. ⌜ ((s : State) → Stands s (tag .0 % 64) p → outcome (submitAnswer (r .answer)) (effectWords (r .effect)) (world (leaves s (tag .0 % 64) (r .part) (r .holds)) (now (words .exit))) ≡ submitOf (world (found s p h) (now (words .entry))) (tag .0) caller opcode flags args pid (now (fds .entry))) ⌝ }
 {
     let none = effect::none();
     let raw = opcode::try_from_raw(opcode);
@@ -69,61 +75,61 @@ pub fn submit(
             return SubmitStep {
                 answer: SubmitAnswer::BadArgument,
                 effect: none,
-                state: s,
+                part: p,
+                holds: h,
             };
         }
         RawOpcode::Opcode(op) => {
-            let mut t = s.table;
-            let held = t.holds;
-            let taken = take_holds::take_list(held, fds);
+            let taken = take_holds::take_list(h, fds);
             let took = taken.answer;
             match took {
                 TakeAnswer::BadArgument => {
                     return SubmitStep {
                         answer: SubmitAnswer::BadArgument,
                         effect: none,
-                        state: s,
+                        part: p,
+                        holds: h,
                     };
                 }
                 TakeAnswer::TooMany => {
                     return SubmitStep {
                         answer: SubmitAnswer::TooManyFds,
                         effect: none,
-                        state: s,
+                        part: p,
+                        holds: h,
                     };
                 }
                 TakeAnswer::Taken => {
                     let n = ids::slot_of(tag);
-                    let at = n.0 as usize;
-                    if 64 <= at {
+                    if 64 <= n.0 {
                         return SubmitStep {
                             answer: SubmitAnswer::NotYours,
                             effect: none,
-                            state: s,
+                            part: p,
+                            holds: h,
                         };
                     }
-                    let v = t.slots[at];
+                    let v = p.slot;
                     if !is_submittable(v, caller) {
                         return SubmitStep {
                             answer: SubmitAnswer::NotYours,
                             effect: none,
-                            state: s,
+                            part: p,
+                            holds: h,
                         };
                     }
-                    let mut d = s.driver;
-                    let q = d.queue;
+                    let q = p.queue;
                     if 128 <= q.len {
                         return SubmitStep {
                             answer: SubmitAnswer::QueueFull,
                             effect: none,
-                            state: s,
+                            part: p,
+                            holds: h,
                         };
                     }
                     let list = taken.list;
                     let holds = taken.holds;
                     let w = slot::waiting(caller, list);
-                    t.slots[at] = w;
-                    t.holds = holds;
                     let e = Sqe {
                         opcode: op,
                         sqe_flags: flags,
@@ -133,16 +139,14 @@ pub fn submit(
                     };
                     let sent = wait_queue::send(q, words, e);
                     let longer = sent.queue;
-                    d.queue = longer;
+                    let after = part::stored(p, w, longer);
                     let bits = flag::event_read();
-                    let fx = effect::root(d.scheme, bits);
+                    let fx = effect::root(p.scheme, bits);
                     return SubmitStep {
                         answer: SubmitAnswer::Submitted(tag),
                         effect: fx,
-                        state: State {
-                            driver: d,
-                            table: t,
-                        },
+                        part: after,
+                        holds: holds,
                     };
                 }
             }

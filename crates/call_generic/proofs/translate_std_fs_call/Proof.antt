@@ -1,15 +1,18 @@
 -- `call_generic::translate_std_fs_call` meets its contract. Assumes nothing.
 use borrow.Author.Needs.{needs}
-use Rattle.call_generic.proofs.Cases.{few-words, no-kind, translated, again}
-use mathlib.Core.Path.{sym, _∙_}
 use Rattle.call_generic.proofs.translate_std_fs_call.Statement.{statement}
 use Rattle.call_generic.proofs.translate_std_fs_call.Tie as tie
+use Prim.Native.Nat.{_%_}
+use mathlib.Core.Path.{sym, _∙_}
+use Rattle.part.specs.Part.{found}
+use Rattle.event_cases.proofs.Parts.{stays}
+use Rattle.call_generic.proofs.Cases.{few-words, no-kind, translated, again}
 
 none-requires : tie.Need-none-requires
 none-requires c κs = search needs
 
 returns : tie.Need-returns
-returns c = few-words (c .before .before .before .before .args .s) (c .before .before .before .before .args .words .now) (c .before .before .before .before .args .caller) (c .before .before .before .before .args .pid) (c .before .before .before .before .args .fds .now) (c .before .before .before .before .args .base) (c .before .before .before .before .args .len) (c .before .before .before .before .args .metadata .now) _ (c .none .ensures) (c .before .if1 .taken)
+returns c = let a = c .before .before .before .before .args in λ s h st. stays s (a .p .head % 64) (a .p) st h _ _ _ _ (few-words (found s (a .p) h) (a .words .now) (a .caller) (a .pid) (a .fds .now) (a .base) (a .len) (a .metadata .now) _ (c .none .ensures) (c .before .if1 .taken))
 
 shared-slice-read-kind : tie.Need-shared-slice-read-kind
 shared-slice-read-kind c = search needs
@@ -21,7 +24,7 @@ none-requires-2 : tie.Need-none-requires-2
 none-requires-2 c κs = search needs
 
 returns-2 : tie.Need-returns-2
-returns-2 c = no-kind (c .before .before .before .before .before .before .before .args .s) (c .before .before .before .before .before .before .before .args .words .now) (c .before .before .before .before .before .before .before .args .caller) (c .before .before .before .before .before .before .before .args .pid) (c .before .before .before .before .before .before .before .args .fds .now) (c .before .before .before .before .before .before .before .args .base) (c .before .before .before .before .before .before .before .args .len) (c .before .before .before .before .before .before .before .args .metadata .now) _ (c .none2 .ensures) (c .before .before .before .before .if1 .left) (sym (c .before .before .is-wrong-kind .ensures) ∙ c .before .if2 .taken)
+returns-2 c = let a = c .before .before .before .before .before .before .before .args in λ s h st. stays s (a .p .head % 64) (a .p) st h _ _ _ _ (no-kind (found s (a .p) h) (a .words .now) (a .caller) (a .pid) (a .fds .now) (a .base) (a .len) (a .metadata .now) _ (c .none2 .ensures) (c .before .before .before .before .if1 .left) (sym (c .before .before .is-wrong-kind .ensures) ∙ c .before .if2 .taken))
 
 shared-slice-read-t22 : tie.Need-shared-slice-read-t22
 shared-slice-read-t22 c = search needs
@@ -39,7 +42,7 @@ std-fs-answer-requires : tie.Need-std-fs-answer-requires
 std-fs-answer-requires c κs = search needs
 
 returns-3 : tie.Need-returns-3
-returns-3 c = translated (c .before .before .before .before .before .before .before .before .before .before .before .before .before .before .args .s) (c .before .before .before .before .before .before .before .before .before .before .before .before .before .before .args .words .now) (c .before .before .before .before .before .before .before .before .before .before .before .before .before .before .args .caller) (c .before .before .before .before .before .before .before .before .before .before .before .before .before .before .args .pid) (c .before .before .before .before .before .before .before .before .before .before .before .before .before .before .args .fds .now) (c .before .before .before .before .before .before .before .before .before .before .before .before .before .before .args .base) (c .before .before .before .before .before .before .before .before .before .before .before .before .before .before .args .len) (c .before .before .before .before .before .before .before .before .before .before .before .before .before .before .args .metadata .now) _ (c .before .before .before .before .before .before .before .before .before .before .before .if1 .left) (sym (c .before .before .before .before .before .before .before .before .before .is-wrong-kind .ensures) ∙ c .before .before .before .before .before .before .before .before .if2 .left) (again _ _ _ _ _ (c .std-fs-answer .ensures) (c .before .before .before .call-with .ensures))
+returns-3 c = let a = c .before .before .before .before .before .before .before .before .before .before .before .before .before .before .args in λ s h st. translated (found s (a .p) h) (a .words .now) (a .caller) (a .pid) (a .fds .now) (a .base) (a .len) (a .metadata .now) _ (c .before .before .before .before .before .before .before .before .before .before .before .if1 .left) (sym (c .before .before .before .before .before .before .before .before .before .is-wrong-kind .ensures) ∙ c .before .before .before .before .before .before .before .before .if2 .left) (again _ _ _ _ _ (c .std-fs-answer .ensures) (c .before .before .before .call-with .ensures s h st))
 
 pub translate-std-fs-call-spec : {M : Type 1} → statement M
 translate-std-fs-call-spec =

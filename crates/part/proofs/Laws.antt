@@ -1,0 +1,57 @@
+-- The state that an event leaves, by what became of its part. Assumes nothing.
+use Prim.Native.Nat.{ℕ, _%_, _<_}
+use mathlib.Core.Path.{_≡_, sym, ap, _∙_}
+use native.Mathlib.Omega.{arith}
+use mathlib.Core.List.{List}
+use lib.ListN.{getD, set}
+use lib.Seq.{set-getD}
+use Rattle.holds.specs.declared.Holds.{Holds}
+use Rattle.slot.specs.declared.Slot.{Slot}
+use Rattle.slot.specs.Slots.{vacantSlot}
+use Rattle.state.specs.declared.Driver.{Driver}
+use Rattle.state.specs.declared.State.{State}
+use Rattle.table.specs.declared.Table.{Table}
+use Rattle.table.specs.Table.{noSlot}
+use Rattle.wait_queue.specs.declared.WaitQueue.{WaitQueue}
+use Rattle.part.specs.declared.Part.{Part}
+use Rattle.part.specs.Part.{givenOf, storedOf, vacatedOf, queuedOf, Stands, found, leaves}
+
+abbrev driver : State → WaitQueue → Driver
+driver s q = record { scheme = s .driver .scheme; handles = s .driver .handles; queue = q }
+
+abbrev pub laid : State → WaitQueue → List Slot → List ℕ → ℕ → Holds → State
+laid s q slots next head h = record { driver = driver s q; table = record { slots = slots; next = next; head = head; holds = h } }
+
+module _ (s : State) (n : ℕ) (p : Part) (st : Stands s n p) where
+  slots-kept : set (s .table .slots) n (p .slot) ≡ s .table .slots
+  slots-kept = ap (set (s .table .slots) n) (sym (st .0)) ∙ set-getD (s .table .slots) n noSlot
+
+  next-kept : set (s .table .next) n (p .next) ≡ s .table .next
+  next-kept = ap (set (s .table .next) n) (sym (st .1)) ∙ set-getD (s .table .next) n 0
+
+  -- the part as it was
+  pub kept : (h : Holds) → leaves s n p h ≡ found s p h
+  kept h = λ i. laid s (p .queue) (slots-kept i) (next-kept i) (p .head) h
+
+  -- the queue alone changed
+  pub queued-is : (u : Part) (q : WaitQueue) (h : Holds) → u ≡ queuedOf p q → leaves s n u h ≡ laid s q (s .table .slots) (s .table .next) (p .head) h
+  queued-is u q h e = ap (λ (x : Part). leaves s n x h) e ∙ λ i. laid s q (slots-kept i) (next-kept i) (p .head) h
+
+  pub stored-is : (u : Part) (v : Slot) (q : WaitQueue) (h : Holds) → u ≡ storedOf p v q → leaves s n u h ≡ laid s q (set (s .table .slots) n v) (s .table .next) (p .head) h
+  stored-is u v q h e = ap (λ (x : Part). leaves s n x h) e ∙ λ i. laid s q (set (s .table .slots) n v) (next-kept i) (p .head) h
+
+  pub vacated-is : (u : Part) (k : ℕ) (h : Holds) → u ≡ vacatedOf p k → leaves s n u h ≡ laid s (p .queue) (set (s .table .slots) n vacantSlot) (set (s .table .next) n (p .head)) k h
+  vacated-is u k h e = ap (λ (x : Part). leaves s n x h) e
+
+-- slot n is the tag k's, which is below 64
+pub small : (k : ℕ) → k < 64 → k % 64 ≡ k
+small k h = omega (arith, h)
+
+-- the head's slot is given out
+pub given-is :
+    (s : State) (p u : Part) (v : Slot) (q : WaitQueue) (h : Holds) → Stands s (p .head % 64) p → p .head < 64 → u ≡ givenOf p v q
+    → leaves s (p .head % 64) u h ≡ laid s q (set (s .table .slots) (p .head) v) (s .table .next) (getD (s .table .next) (p .head) 0) h
+given-is s p u v q h st below e =
+    ap (λ (x : Part). leaves s (p .head % 64) x h) e
+    ∙ (λ i. laid s q (set (s .table .slots) (p .head % 64) v) (next-kept s (p .head % 64) p st i) (sym (st .1) i) h)
+    ∙ ap (λ (n : ℕ). laid s q (set (s .table .slots) n v) (s .table .next) (getD (s .table .next) n 0) h) (small (p .head) below)
