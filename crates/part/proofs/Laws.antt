@@ -6,6 +6,9 @@ use mathlib.Core.List.{List}
 use lib.ListN.{getD, set}
 use lib.Seq.{set-getD}
 use Rattle.holds.specs.declared.Holds.{Holds}
+use Rattle.ids.specs.declared.SlotNo.{SlotNo}
+use Rattle.ids.specs.declared.Tag.{Tag}
+use Rattle.ids.specs.Ids.{slotOf}
 use Rattle.slot.specs.declared.Slot.{Slot}
 use Rattle.slot.specs.Slots.{vacantSlot}
 use Rattle.state.specs.declared.Driver.{Driver}
@@ -37,14 +40,7 @@ module _ (s : State) (n : ℕ) (p : Part) (st : Stands s n p) where
   pub queued-is : (u : Part) (q : WaitQueue) (h : Holds) → u ≡ queuedOf p q → leaves s n u h ≡ laid s q (s .table .slots) (s .table .next) (p .head) h
   queued-is u q h e = ap (λ (x : Part). leaves s n x h) e ∙ λ i. laid s q (slots-kept i) (next-kept i) (p .head) h
 
-  pub stored-is : (u : Part) (v : Slot) (q : WaitQueue) (h : Holds) → u ≡ storedOf p v q → leaves s n u h ≡ laid s q (set (s .table .slots) n v) (s .table .next) (p .head) h
-  stored-is u v q h e = ap (λ (x : Part). leaves s n x h) e ∙ λ i. laid s q (set (s .table .slots) n v) (next-kept i) (p .head) h
-
-  pub vacated-is : (u : Part) (k : ℕ) (h : Holds) → u ≡ vacatedOf p k → leaves s n u h ≡ laid s (p .queue) (set (s .table .slots) n vacantSlot) (set (s .table .next) n (p .head)) k h
-  vacated-is u k h e = ap (λ (x : Part). leaves s n x h) e
-
--- slot n is the tag k's, which is below 64
-pub small : (k : ℕ) → k < 64 → k % 64 ≡ k
+small : (k : ℕ) → k < 64 → k % 64 ≡ k
 small k h = omega (arith, h)
 
 -- the head's slot is given out
@@ -55,3 +51,25 @@ given-is s p u v q h st below e =
     ap (λ (x : Part). leaves s (p .head % 64) x h) e
     ∙ (λ i. laid s q (set (s .table .slots) (p .head % 64) v) (next-kept s (p .head % 64) p st i) (sym (st .1) i) h)
     ∙ ap (λ (n : ℕ). laid s q (set (s .table .slots) n v) (s .table .next) (getD (s .table .next) n 0) h) (small (p .head) below)
+
+-- k is the slot number of the tag n, which is below 64
+module _ (s : State) (n : Tag) (k : SlotNo) (is : k ≡ slotOf n) (below : k .0 < 64) (p : Part) (st : Stands s (n .0 % 64) p) where
+  place : n .0 % 64 ≡ k .0
+  place = omega (arith, ap (λ (x : SlotNo). x .0) is, below)
+
+  -- what stands at the tag
+  pub slot-is : p .slot ≡ getD (s .table .slots) (k .0) noSlot
+  slot-is = sym (st .0) ∙ ap (λ (j : ℕ). getD (s .table .slots) j noSlot) place
+
+  pub stored-at : (u : Part) (v : Slot) (q : WaitQueue) (h : Holds) → u ≡ storedOf p v q → leaves s (n .0 % 64) u h ≡ laid s q (set (s .table .slots) (k .0) v) (s .table .next) (p .head) h
+  stored-at u v q h e =
+      ap (λ (x : Part). leaves s (n .0 % 64) x h) e
+      ∙ (λ i. laid s q (set (s .table .slots) (n .0 % 64) v) (next-kept s (n .0 % 64) p st i) (p .head) h)
+      ∙ ap (λ (j : ℕ). laid s q (set (s .table .slots) j v) (s .table .next) (p .head) h) place
+
+  pub vacated-at :
+      (u : Part) (h : Holds) → u ≡ vacatedOf p (k .0)
+      → leaves s (n .0 % 64) u h ≡ laid s (p .queue) (set (s .table .slots) (k .0) vacantSlot) (set (s .table .next) (k .0) (p .head)) (k .0) h
+  vacated-at u h e =
+      ap (λ (x : Part). leaves s (n .0 % 64) x h) e
+      ∙ ap (λ (j : ℕ). laid s (p .queue) (set (s .table .slots) j vacantSlot) (set (s .table .next) j (p .head)) (k .0) h) place
