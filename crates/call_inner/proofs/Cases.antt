@@ -104,12 +104,9 @@ module _ (s : State) (ws : List ℕ) (n : Tag) (c killed base count : ℕ) where
       no-slot h =
           let p : phaseIn w (n .0) ≡ Vacant = ap phaseOf (sym (slot-out (s .table) n k is vacantSlot refl h)) in rw (le-ltb 1 killed x, p, none) refl
 
-      module _ (h : k .0 < 64) where
-        abbrev v : Slot
-        v = getD (s .table .slots) (k .0) noSlot
-
+      module _ (h : k .0 < 64) (v : Slot) (at : v ≡ getD (s .table .slots) (k .0) noSlot) where
         here : v ≡ slotIn w (n .0)
-        here = slot-in (s .table) n k is h
+        here = at ∙ slot-in (s .table) n k is h
 
         whole : wakeAs (phaseOf v) (wakeable v c) (eqb killed 1) (v .canceling) (queueFull w) w (n .0) span ≡ wakeOf w (n .0) c killed base count
         whole =

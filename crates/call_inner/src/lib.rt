@@ -2,12 +2,19 @@
 use effect::Effect;
 use fd_list::List;
 use ids::Tag;
+use part::Part;
 use slot::PageSpan;
 use slot::Reply;
-use state::State;
 use wake_decision::Turn;
 use wake_decision::WakeAnswer;
 ghost use mathlib.Core.Path.{_≡_};
+ghost use Prim.Native.Nat.{_%_};
+ghost use lib.ListN.{length};
+ghost use Rattle.fd_list.specs.Lists.{numbers};
+ghost use Rattle.holds.specs.declared.Holds.{Holds};
+ghost use Rattle.holds.specs.Holds.{outsideOf};
+ghost use Rattle.state.specs.declared.State.{State};
+ghost use Rattle.part.specs.Part.{Stands, found, leaves};
 ghost use Rattle.effect.specs.Effect.{effectWords};
 ghost use Rattle.slot.specs.Slots.{noReply};
 ghost use Rattle.events.specs.World.{world};
@@ -15,13 +22,14 @@ ghost use Rattle.events.specs.Outcome.{outcome};
 ghost use Rattle.events.specs.Wake.{wakeOf};
 ghost use Rattle.wake_decision.specs.Wake.{wakeAnswer};
 
-// A reply handed over stands beside the answer, with its list.
+// A reply handed over stands beside the answer, with its list. The holds in `out` become outside holds.
 pub struct WakeStep {
     pub answer: WakeAnswer,
     pub reply: Reply,
     pub fds: List,
     pub effect: Effect,
-    pub state: State,
+    pub part: Part,
+    pub out: List,
 }
 
 fn no_reply() -> Reply
@@ -36,7 +44,7 @@ fn no_reply() -> Reply
 }
 
 pub fn wake(
-    s: State,
+    p: Part,
     words: &mut [u64; 1024],
     tag: Tag,
     caller: u32,
@@ -44,7 +52,7 @@ pub fn wake(
     base: u64,
     count: u64,
 ) -> WakeStep
-    ensures { λ r. ⌜ outcome (wakeAnswer (r .answer) (r .reply) (r .fds)) (effectWords (r .effect)) (world (r .state) (now (words .exit))) ≡ wakeOf (world s (now (words .entry))) (tag .0) caller killed base count ⌝ }
+    ensures { λ r. ⌜ ((s : State) (h : Holds) → length (h .outside) ≡ 64 → Stands s (tag .0 % 64) p → outcome (wakeAnswer (r .answer) (r .reply) (r .fds)) (effectWords (r .effect)) (world (leaves s (tag .0 % 64) (r .part) (outsideOf h (numbers (r .out)))) (now (words .exit))) ≡ wakeOf (world (found s p h) (now (words .entry))) (tag .0) caller killed base count) ⌝ }
 {
     let none = effect::none();
     let blank = no_reply();
@@ -55,24 +63,23 @@ pub fn wake(
             reply: blank,
             fds: empty,
             effect: none,
-            state: s,
+            part: p,
+            out: empty,
         };
     }
     let n = ids::slot_of(tag);
-    let at = n.0 as usize;
-    if 64 <= at {
+    if 64 <= n.0 {
         return WakeStep {
             answer: WakeAnswer::BadDescriptor,
             reply: blank,
             fds: empty,
             effect: none,
-            state: s,
+            part: p,
+            out: empty,
         };
     }
-    let mut t = s.table;
-    let mut d = s.driver;
-    let q = d.queue;
-    let v = t.slots[at];
+    let q = p.queue;
+    let v = p.slot;
     let decided = wake_decision::decide(v, caller, killed, q.len);
     let answer = decided.answer;
     let turn = decided.turn;
@@ -83,7 +90,8 @@ pub fn wake(
                 reply: blank,
                 fds: empty,
                 effect: none,
-                state: s,
+                part: p,
+                out: empty,
             };
         }
         Turn::Interrupt => {
@@ -92,58 +100,45 @@ pub fn wake(
                 count: count,
             };
             let w = slot::interrupted(v, span);
-            t.slots[at] = w;
+            let after = part::stored(p, w, q);
             return WakeStep {
                 answer: WakeAnswer::Interrupted,
                 reply: blank,
                 fds: empty,
                 effect: none,
-                state: State {
-                    driver: d,
-                    table: t,
-                },
+                part: after,
+                out: empty,
             };
         }
         Turn::Cancel => {
             let w = slot::canceled(v);
-            t.slots[at] = w;
             let e = wake_decision::cancel_entry(n);
             let sent = wait_queue::send(q, words, e);
             let longer = sent.queue;
-            d.queue = longer;
+            let after = part::stored(p, w, longer);
             let bits = flag::event_read();
-            let fx = effect::root(d.scheme, bits);
+            let fx = effect::root(p.scheme, bits);
             return WakeStep {
                 answer: WakeAnswer::Blocked,
                 reply: blank,
                 fds: empty,
                 effect: fx,
-                state: State {
-                    driver: d,
-                    table: t,
-                },
+                part: after,
+                out: empty,
             };
         }
         Turn::HandOver => {
             let reply = v.reply;
             let fds = v.fds;
-            let held = t.holds;
-            let out = wake_decision::hand_out(held, reply, fds);
-            let vacant = slot::vacant();
-            let head = t.head;
-            t.slots[at] = vacant;
-            t.next[at] = head;
-            t.head = n.0;
-            t.holds = out;
+            let out = wake_decision::holds_in(reply, fds);
+            let after = part::vacated(p, n.0);
             return WakeStep {
                 answer: WakeAnswer::Replied,
                 reply: reply,
                 fds: fds,
                 effect: none,
-                state: State {
-                    driver: d,
-                    table: t,
-                },
+                part: after,
+                out: out,
             };
         }
     }

@@ -1,6 +1,5 @@
 // What a wake answers and does, decided on the tag's slot (`call_inner`, src/scheme/user.rs, lines 263 to 388).
 use fd_list::List;
-use holds::Holds;
 use ids::Description;
 use ids::SlotNo;
 use schemev2::Args;
@@ -10,6 +9,9 @@ use slot::Reply;
 use slot::Slot;
 ghost use mathlib.Core.Path.{_≡_};
 ghost use lib.Dec.{eqb, leb};
+ghost use lib.ListN.{length};
+ghost use Rattle.fd_list.specs.Lists.{numbers};
+ghost use Rattle.holds.specs.declared.Holds.{Holds};
 ghost use Rattle.holds.specs.Holds.{outsideOf};
 ghost use Rattle.slot.specs.Slots.{phaseOf};
 ghost use Rattle.events.specs.Wake.{responseFrom, heldIn, cancelEntry, wakeable};
@@ -51,24 +53,23 @@ fn is_wakeable(v: Slot, caller: u32) -> bool
     !v.returned
 }
 
-// What a reply holds becomes outside holds.
-pub fn hand_out(h: Holds, r: Reply, fds: List) -> Holds
-    ensures { λ o. ⌜ o ≡ outsideOf h (heldIn (responseFrom r fds)) ⌝ }
+// The holds that a reply brings, which become outside holds.
+pub fn holds_in(r: Reply, fds: List) -> List
+    ensures { λ o. ⌜ ((h : Holds) → length (h .outside) ≡ 64 → outsideOf h (numbers o) ≡ outsideOf h (heldIn (responseFrom r fds))) ⌝ }
 {
     let kind = r.kind;
     if kind < 2 {
-        return h;
+        return fd_list::empty();
     }
     if 2 < kind {
-        return holds::to_outside(h, fds);
+        return fds;
     }
     let word = r.word;
     if 63 < word {
-        return h;
+        return fd_list::empty();
     }
     let d = Description(word as u8);
-    let one = fd_list::single(d);
-    holds::to_outside(h, one)
+    fd_list::single(d)
 }
 
 // The decision on the tag's slot, with so many entries unread.
