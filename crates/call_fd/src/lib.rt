@@ -1,20 +1,22 @@
 // The driver's descriptor calls (01, "Descriptor calls"; src/scheme/user.rs, lines 1153 to 1265): a list moved into a
 // waiting call, and its list obtained.
-use fd_list::List;
 use holds::Holds;
 use ids::Tag;
+use part::Part;
 use slot::Phase;
-use state::State;
-use table::Table;
+use slot::Slot;
 use take_holds::TakeAnswer;
 ghost use mathlib.Core.Path.{_≡_};
 ghost use mathlib.Core.List.{List as Words, []};
-ghost use Prim.Native.Nat.{ℕ};
-ghost use Rattle.fd_list.specs.Lists.{numbers};
-ghost use Rattle.holds.specs.Holds.{discardedOf};
-ghost use Rattle.events.specs.World.{world, withHolds};
+ghost use Prim.Native.Nat.{ℕ, _%_};
+ghost use lib.ListN.{getD};
+ghost use Rattle.state.specs.declared.State.{State};
+ghost use Rattle.table.specs.declared.Table.{Table};
+ghost use Rattle.table.specs.Table.{noSlot};
+ghost use Rattle.part.specs.Part.{Stands, found, leaves};
+ghost use Rattle.events.specs.World.{world};
 ghost use Rattle.events.specs.Outcome.{outcome};
-ghost use Rattle.events.specs.Descriptors.{moveOf, obtainCallOf};
+ghost use Rattle.events.specs.Descriptors.{requestOf, moveOf, obtainCallOf};
 ghost use Rattle.call_fd.specs.CallFd.{findOf, callFdwriteAnswer, callFdreadAnswer};
 
 // The request that the metadata names, where it waits.
@@ -34,7 +36,8 @@ pub enum CallFdwriteAnswer {
 
 pub struct CallFdwrite {
     pub answer: CallFdwriteAnswer,
-    pub state: State,
+    pub part: Part,
+    pub holds: Holds,
 }
 
 pub enum CallFdreadAnswer {
@@ -45,12 +48,13 @@ pub enum CallFdreadAnswer {
 
 pub struct CallFdread {
     pub answer: CallFdreadAnswer,
-    pub state: State,
+    pub part: Part,
+    pub holds: Holds,
 }
 
-// Two words, the verb and the request id, all 64 bits of it.
-fn find_request(t: Table, metadata: &[u64], verb: u64) -> Request
-    ensures { λ r. ⌜ r ≡ findOf t verb (now (metadata .entry)) ⌝ }
+// Two words, the verb and the request id, all 64 bits of it; v stands at its slot.
+fn find_request(v: Slot, metadata: &[u64], verb: u64) -> Request
+    ensures { λ r. ⌜ ((t : Table) → getD (t .slots) (requestOf (now (metadata .entry)) % 64) noSlot ≡ v → r ≡ findOf t verb (now (metadata .entry))) ⌝ }
 {
     if metadata.len() != 2 {
         return Request::Invalid;
@@ -59,7 +63,10 @@ fn find_request(t: Table, metadata: &[u64], verb: u64) -> Request
         return Request::Invalid;
     }
     let tag = Tag(metadata[1]);
-    let v = table::slot_at(t, tag);
+    let n = ids::slot_of(tag);
+    if 64 <= n.0 {
+        return Request::Invalid;
+    }
     let p = slot::phase_of(v);
     match p {
         Phase::Vacant => Request::Invalid,
@@ -70,61 +77,50 @@ fn find_request(t: Table, metadata: &[u64], verb: u64) -> Request
     }
 }
 
-// What a refused move brought is dropped.
-fn brought_back(s: State, h: Holds, list: List) -> State
-    ensures { λ r. ⌜ ((ws : Words ℕ) → world r ws ≡ withHolds (world s ws) (discardedOf h (numbers list))) ⌝ }
-{
-    let mut t = s.table;
-    let left = holds::discard_list(h, list);
-    t.holds = left;
-    let mut u = s;
-    u.table = t;
-    u
-}
-
 // `MoveFd`, verb 1: the list replaces the call's, whose holds are dropped with no close. Refused by the request it drops
 // what it brought.
-pub fn call_fdwrite(s: State, metadata: &[u64], fds: &[u64]) -> CallFdwrite
-    ensures { λ r. ⌜ ((ws : Words ℕ) → outcome (callFdwriteAnswer (r .answer)) [] (world (r .state) ws) ≡ moveOf (world s ws) (now (metadata .entry)) (now (fds .entry))) ⌝ }
+pub fn call_fdwrite(p: Part, h: Holds, metadata: &[u64], fds: &[u64]) -> CallFdwrite
+    ensures { λ r. ⌜ ((s : State) (ws : Words ℕ) → Stands s (requestOf (now (metadata .entry)) % 64) p → outcome (callFdwriteAnswer (r .answer)) [] (world (leaves s (requestOf (now (metadata .entry)) % 64) (r .part) (r .holds)) ws) ≡ moveOf (world (found s p h) ws) (now (metadata .entry)) (now (fds .entry))) ⌝ }
 {
-    let t = s.table;
-    let h = t.holds;
     let taken = take_holds::take_list(h, fds);
     let answer = taken.answer;
     match answer {
         TakeAnswer::BadArgument => CallFdwrite {
             answer: CallFdwriteAnswer::BadArgument,
-            state: s,
+            part: p,
+            holds: h,
         },
         TakeAnswer::TooMany => CallFdwrite {
             answer: CallFdwriteAnswer::TooMany,
-            state: s,
+            part: p,
+            holds: h,
         },
         TakeAnswer::Taken => {
             let list = taken.list;
             let inside = taken.holds;
-            let found = find_request(t, metadata, 1);
+            let v = p.slot;
+            let found = find_request(v, metadata, 1);
             match found {
                 Request::Invalid => CallFdwrite {
                     answer: CallFdwriteAnswer::Invalid,
-                    state: brought_back(s, inside, list),
+                    part: p,
+                    holds: holds::discard_list(inside, list),
                 },
                 Request::NotWaiting => CallFdwrite {
                     answer: CallFdwriteAnswer::NotWaiting,
-                    state: brought_back(s, inside, list),
+                    part: p,
+                    holds: holds::discard_list(inside, list),
                 },
-                Request::Waits(tag) => {
-                    let v = table::slot_at(t, tag);
+                Request::Waits(_) => {
                     let old = v.fds;
                     let left = holds::discard_list(inside, old);
                     let w = slot::with_fds(v, list);
-                    let mut after = table::put_slot(t, tag, w);
-                    after.holds = left;
-                    let mut u = s;
-                    u.table = after;
+                    let q = p.queue;
+                    let after = part::stored(p, w, q);
                     CallFdwrite {
                         answer: CallFdwriteAnswer::Moved(fds.len() as u64),
-                        state: u,
+                        part: after,
+                        holds: left,
                     }
                 }
             }
@@ -133,35 +129,34 @@ pub fn call_fdwrite(s: State, metadata: &[u64], fds: &[u64]) -> CallFdwrite
 }
 
 // `ObtainFd`, verb 0: the call's list becomes outside holds.
-pub fn call_fdread(s: State, metadata: &[u64]) -> CallFdread
-    ensures { λ r. ⌜ ((ws : Words ℕ) → outcome (callFdreadAnswer (r .answer)) [] (world (r .state) ws) ≡ obtainCallOf (world s ws) (now (metadata .entry))) ⌝ }
+pub fn call_fdread(p: Part, h: Holds, metadata: &[u64]) -> CallFdread
+    ensures { λ r. ⌜ ((s : State) (ws : Words ℕ) → Stands s (requestOf (now (metadata .entry)) % 64) p → outcome (callFdreadAnswer (r .answer)) [] (world (leaves s (requestOf (now (metadata .entry)) % 64) (r .part) (r .holds)) ws) ≡ obtainCallOf (world (found s p h) ws) (now (metadata .entry))) ⌝ }
 {
-    let t = s.table;
-    let found = find_request(t, metadata, 0);
+    let v = p.slot;
+    let found = find_request(v, metadata, 0);
     match found {
         Request::Invalid => CallFdread {
             answer: CallFdreadAnswer::Invalid,
-            state: s,
+            part: p,
+            holds: h,
         },
         Request::NotWaiting => CallFdread {
             answer: CallFdreadAnswer::NotWaiting,
-            state: s,
+            part: p,
+            holds: h,
         },
-        Request::Waits(tag) => {
-            let v = table::slot_at(t, tag);
+        Request::Waits(_) => {
             let old = v.fds;
-            let h = t.holds;
             let outside = holds::to_outside(h, old);
             let n = fd_list::size(old);
             let none = fd_list::empty();
             let w = slot::with_fds(v, none);
-            let mut after = table::put_slot(t, tag, w);
-            after.holds = outside;
-            let mut u = s;
-            u.table = after;
+            let q = p.queue;
+            let after = part::stored(p, w, q);
             CallFdread {
                 answer: CallFdreadAnswer::Obtained(n as u64),
-                state: u,
+                part: after,
+                holds: outside,
             }
         }
     }

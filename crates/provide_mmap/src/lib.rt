@@ -1,11 +1,14 @@
 // Map supply (01, "Map supply"; `ProvideMmap` in `handle_parsed`, src/scheme/user.rs, lines 849 to 919): it alone vacates a
 // map request's slot.
 use ids::Tag;
+use part::Part;
 use slot::Phase;
-use state::State;
 ghost use mathlib.Core.Path.{_≡_};
 ghost use mathlib.Core.List.{List, []};
-ghost use Prim.Native.Nat.{ℕ};
+ghost use Prim.Native.Nat.{ℕ, _%_};
+ghost use Rattle.holds.specs.declared.Holds.{Holds};
+ghost use Rattle.state.specs.declared.State.{State};
+ghost use Rattle.part.specs.Part.{Stands, found, leaves};
 ghost use Rattle.events.specs.World.{world};
 ghost use Rattle.events.specs.Outcome.{outcome};
 ghost use Rattle.events.specs.Supply.{supplyOf};
@@ -20,64 +23,68 @@ pub enum ProvideMmapAnswer {
 
 pub struct ProvideMmap {
     pub answer: ProvideMmapAnswer,
-    pub state: State,
+    pub part: Part,
 }
 
 // The slot is vacated also where its caller has ended.
-pub fn provide_mmap(s: State, tag: Tag, offset: u64, base: u64, count: u64) -> ProvideMmap
-    ensures { λ r. ⌜ ((ws : List ℕ) → outcome (provideMmapAnswer (r .answer)) [] (world (r .state) ws) ≡ supplyOf (world s ws) (tag .0) offset base count) ⌝ }
+pub fn provide_mmap(p: Part, tag: Tag, offset: u64, base: u64, count: u64) -> ProvideMmap
+    ensures { λ r. ⌜ ((s : State) (h : Holds) (ws : List ℕ) → Stands s (tag .0 % 64) p → outcome (provideMmapAnswer (r .answer)) [] (world (leaves s (tag .0 % 64) (r .part) h) ws) ≡ supplyOf (world (found s p h) ws) (tag .0) offset base count) ⌝ }
 {
     if offset % 4096 != 0 {
         return ProvideMmap {
             answer: ProvideMmapAnswer::Invalid,
-            state: s,
+            part: p,
         };
     }
     if base % 4096 != 0 {
         return ProvideMmap {
             answer: ProvideMmapAnswer::Invalid,
-            state: s,
+            part: p,
         };
     }
     if count != 1 {
         return ProvideMmap {
             answer: ProvideMmapAnswer::Invalid,
-            state: s,
+            part: p,
         };
     }
-    let t = s.table;
-    let v = table::slot_at(t, tag);
-    let p = slot::phase_of(v);
-    match p {
+    let n = ids::slot_of(tag);
+    if 64 <= n.0 {
+        return ProvideMmap {
+            answer: ProvideMmapAnswer::Invalid,
+            part: p,
+        };
+    }
+    let v = p.slot;
+    let phase = slot::phase_of(v);
+    match phase {
         Phase::Vacant => ProvideMmap {
             answer: ProvideMmapAnswer::Invalid,
-            state: s,
+            part: p,
         },
         Phase::Placeholder => ProvideMmap {
             answer: ProvideMmapAnswer::BadDescriptor,
-            state: s,
+            part: p,
         },
         Phase::Waiting => ProvideMmap {
             answer: ProvideMmapAnswer::Invalid,
-            state: s,
+            part: p,
         },
         Phase::Responded => ProvideMmap {
             answer: ProvideMmapAnswer::Invalid,
-            state: s,
+            part: p,
         },
         Phase::Fmap => {
-            let gone = table::vacate(t, tag);
-            let mut u = s;
-            u.table = gone;
+            let after = part::vacated(p, n.0);
             if v.ended {
                 return ProvideMmap {
                     answer: ProvideMmapAnswer::NoCaller,
-                    state: u,
+                    part: after,
                 };
             }
             ProvideMmap {
                 answer: ProvideMmapAnswer::Supplied,
-                state: u,
+                part: after,
             }
         }
     }
