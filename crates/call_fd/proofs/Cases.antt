@@ -1,13 +1,15 @@
 -- The descriptor calls by the list that is taken and by the request that the metadata name. Assumes nothing.
-use Prim.Native.Nat.{ℕ}
+use Prim.Native.Nat.{ℕ, _%_, _<_}
 use mathlib.Core.Path.{_≡_, refl, sym, ap, _∙_}
 use mathlib.Core.Bool.{Bool, true, false, not, cond, _||_}
 use mathlib.Core.List.{List, [], _∷_}
 use native.Mathlib.Omega.{arith}
 use lib.Dec.{ltb, eqb}
-use lib.ListN.{length}
-use borrow.Author.Tests.{ltb-false}
+use lib.ListN.{length, getD}
+use borrow.Author.Tests.{ltb-true, ltb-false, lt-ltb}
+use Rattle.ids.specs.declared.SlotNo.{SlotNo}
 use Rattle.ids.specs.declared.Tag.{Tag}
+use Rattle.ids.specs.Ids.{slotOf}
 use Rattle.counts.specs.Counts.{any, lessAll}
 use Rattle.fd_list.specs.declared.List.{List as Fds}
 use Rattle.fd_list.specs.Lists.{numbers, listOf}
@@ -17,10 +19,10 @@ use Rattle.holds.specs.Holds.{holdsWith, discardedOf, outsideOf}
 use Rattle.slot.specs.declared.Phase.{Phase}
 use Rattle.slot.specs.declared.Phase.the-variants.{Vacant, Placeholder, Waiting, Responded, Fmap}
 use Rattle.slot.specs.declared.Slot.{Slot}
-use Rattle.slot.specs.Slots.{phaseOf, withFdsOf}
+use Rattle.slot.specs.Slots.{phaseOf, vacantSlot, withFdsOf}
 use Rattle.state.specs.declared.State.{State}
 use Rattle.table.specs.declared.Table.{Table}
-use Rattle.table.specs.Table.{slotAt, putAt}
+use Rattle.table.specs.Table.{noSlot, slotAt, putAt}
 use Rattle.take_holds.specs.declared.Taken.{Taken}
 use Rattle.take_holds.specs.declared.TakeAnswer.{TakeAnswer}
 use Rattle.take_holds.specs.declared.TakeAnswer.the-variants as take
@@ -33,12 +35,6 @@ use Rattle.call_fd.specs.declared.Request.{Request}
 use Rattle.call_fd.specs.declared.Request.the-variants as request
 use Rattle.call_fd.specs.CallFd.{requestIn, findOf}
 
--- the tag of a request that waits
-abbrev tagOr : ℕ → Request → ℕ
-tagOr n (request.Waits k) = k .0
-tagOr n request.Invalid = n
-tagOr n request.NotWaiting = n
-
 -- the request that the metadata name
 module _ (t : Table) (verb : ℕ) (ms : List ℕ) where
   pub wrong-length : eqb (length ms) 2 ≡ false → request.Invalid ≡ findOf t verb ms
@@ -49,22 +45,41 @@ module _ (t : Table) (verb : ℕ) (ms : List ℕ) where
 
   pub in-phase :
       eqb (length ms) 2 ≡ true → eqb (verbOf ms) verb ≡ true → (v : Slot) → v ≡ slotAt t (requestOf ms) → (p : Phase) → p ≡ phaseOf v
-      → (x : Phase) → p ≡ x → requestIn x (requestOf ms) ≡ findOf t verb ms
+      → (x : Phase) → p ≡ x → requestIn x ≡ findOf t verb ms
   in-phase l q v e p f x g = rw (l, q, ← e, ← f, g) refl
 
-  named : (k : Tag) → findOf t verb ms ≡ request.Waits k → k .0 ≡ requestOf ms
-  named k e = ap (tagOr (requestOf ms)) (sym e) ∙ go (wrongWords verb ms) (phaseOf (slotAt t (requestOf ms)))
+  -- a request that waits is a tag below 64
+  abbrev waits : Request → ℕ
+  waits request.Waits = 1
+  waits request.Invalid = 0
+  waits request.NotWaiting = 0
+
+  pub waits-below : findOf t verb ms ≡ request.Waits → requestOf ms < 64
+  waits-below e = go (ltb (requestOf ms) 64) refl
     where
-      go : (b : Bool) (p : Phase) → tagOr (requestOf ms) (cond b request.Invalid (requestIn p (requestOf ms))) ≡ requestOf ms
-      go true p = refl
-      go false Vacant = refl
-      go false Placeholder = refl
-      go false Waiting = refl
-      go false Responded = refl
-      go false Fmap = refl
+      none : (b : Bool) → cond b request.Invalid request.Invalid ≡ request.Invalid
+      none true = refl
+      none false = refl
+
+      go : (b : Bool) → ltb (requestOf ms) 64 ≡ b → requestOf ms < 64
+      go true q = ltb-true (requestOf ms) 64 q
+      go false q =
+          let z : findOf t verb ms ≡ request.Invalid =
+          ap (λ (b : Bool). cond (wrongWords verb ms) request.Invalid (requestIn (phaseOf (cond b (getD (t .slots) (requestOf ms) noSlot) vacantSlot)))) q ∙ none (wrongWords verb ms) in
+          absurd (omega (arith, ap waits (sym z ∙ e)))
+
+-- k is the slot number of the tag n
+pub below-is : (n : Tag) (k : SlotNo) → k ≡ slotOf n → k .0 < 64 → n .0 < 64
+below-is n k is h = omega (arith, ap (λ (x : SlotNo). x .0) is, h)
+
+-- the slot at a tag below 64
+pub stands : (t : Table) (n : ℕ) (v : Slot) → n < 64 → getD (t .slots) (n % 64) noSlot ≡ v → v ≡ slotAt t n
+stands t n v h e =
+    sym e ∙ ap (λ (j : ℕ). getD (t .slots) j noSlot) (let z : n % 64 ≡ n = omega (arith, h) in z)
+    ∙ sym (ap (λ (b : Bool). cond b (getD (t .slots) n noSlot) vacantSlot) (lt-ltb n 64 h))
 
 abbrev onRequest : Request → (ℕ → Outcome) → Outcome → Outcome
-onRequest (request.Waits k) turn o = o
+onRequest request.Waits turn o = o
 onRequest request.Invalid turn o = turn 22
 onRequest request.NotWaiting turn o = turn 2
 
@@ -75,7 +90,7 @@ request-rows w verb ms turn o = go (wrongWords verb ms) (phaseIn w (requestOf ms
   where
     go :
         (b : Bool) (p : Phase)
-        → onRequest (cond b request.Invalid (requestIn p (requestOf ms))) turn o
+        → onRequest (cond b request.Invalid (requestIn p)) turn o
         ≡ checked turn (row 22 (b || isVacant p) ∷ row 2 (not (isWaiting p)) ∷ []) o
     go true p = refl
     go false Vacant = refl
@@ -118,9 +133,6 @@ list-same h ds e = go (any (bad h ds) ds) (ltb 16 (length ds)) refl e
     go false true q e = absurd (omega (arith, ap code e))
     go false false q e = (refl, numbers-listOf ds (ltb-false 16 (length ds) q))
 
-pub left-with : (s : State) (ws : List ℕ) (b h : Holds) → b ≡ h → withHolds (world s ws) b ≡ withHolds (world s ws) h
-left-with s ws b h e = ap (withHolds (world s ws)) e
-
 -- the move
 module _ (s : State) (ms ds ws : List ℕ) (o : Taken) (e : o ≡ takeOf (s .table .holds) ds) where
   pub listed :
@@ -149,12 +161,12 @@ module _ (s : State) (ms ds ws : List ℕ) (o : Taken) (e : o ≡ takeOf (s .tab
     brought x p u d = rw (d, e, same .1) (turned x p)
 
     pub arrived :
-        (k : Tag) → f ≡ request.Waits k → (v : Slot) → v ≡ slotAt (s .table) (k .0)
+        f ≡ request.Waits → (v : Slot) → v ≡ slotAt (s .table) (requestOf ms)
         → (b : Holds) → b ≡ discardedOf (o .holds) (numbers (v .fds)) → (x : Slot) → x ≡ withFdsOf v (o .list)
-        → (t : Table) → t ≡ putAt (s .table) (k .0) x
+        → (t : Table) → t ≡ putAt (s .table) (requestOf ms) x
         → outcome (ok (length ds)) [] (withTable (world s ws) (tableWith t b)) ≡ moveOf (world s ws) ms ds
-    arrived k p v i b d x j t l =
-        rw (l, j, d, i, e, same .0, named (s .table) 1 ms k (sym g ∙ p)) (turned (request.Waits k) p)
+    arrived p v i b d x j t l =
+        rw (l, j, d, i, e, same .0) (turned request.Waits p)
 
 -- the obtain
 module _ (s : State) (ms ws : List ℕ) (f : Request) (g : f ≡ findOf (s .table) 0 ms) where
@@ -162,9 +174,9 @@ module _ (s : State) (ms ws : List ℕ) (f : Request) (g : f ≡ findOf (s .tabl
   refused x p = rw (← p, g) (request-rows (world s ws) 0 ms (refuse (world s ws)) (givenUp (world s ws) (requestOf ms)))
 
   pub obtained :
-      (k : Tag) → f ≡ request.Waits k → (v : Slot) → v ≡ slotAt (s .table) (k .0)
+      f ≡ request.Waits → (v : Slot) → v ≡ slotAt (s .table) (requestOf ms)
       → (b : Holds) → b ≡ outsideOf (s .table .holds) (numbers (v .fds)) → (n : ℕ) → n ≡ length (numbers (v .fds))
-      → (none : Fds) → none ≡ listOf [] → (x : Slot) → x ≡ withFdsOf v none → (t : Table) → t ≡ putAt (s .table) (k .0) x
+      → (none : Fds) → none ≡ listOf [] → (x : Slot) → x ≡ withFdsOf v none → (t : Table) → t ≡ putAt (s .table) (requestOf ms) x
       → outcome (ok n) [] (withTable (world s ws) (tableWith t b)) ≡ obtainCallOf (world s ws) ms
-  obtained k p v i b d n m none z x j t l =
-      rw (l, j, z, m, d, i, named (s .table) 0 ms k (sym g ∙ p)) (refused (request.Waits k) p)
+  obtained p v i b d n m none z x j t l =
+      rw (l, j, z, m, d, i) (refused request.Waits p)

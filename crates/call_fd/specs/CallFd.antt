@@ -16,16 +16,16 @@ use Rattle.call_fd.specs.declared.CallFdwriteAnswer.the-variants as writ
 use Rattle.call_fd.specs.declared.CallFdreadAnswer.{CallFdreadAnswer}
 use Rattle.call_fd.specs.declared.CallFdreadAnswer.the-variants as read
 
--- by the phase of the slot at n
-abbrev pub requestIn : Phase → ℕ → Request
-requestIn Vacant n = request.Invalid
-requestIn Placeholder n = request.NotWaiting
-requestIn Waiting n = request.Waits (record { 0 = n })
-requestIn Responded n = request.NotWaiting
-requestIn Fmap n = request.NotWaiting
+-- by the phase of its slot
+abbrev pub requestIn : Phase → Request
+requestIn Vacant = request.Invalid
+requestIn Placeholder = request.NotWaiting
+requestIn Waiting = request.Waits
+requestIn Responded = request.NotWaiting
+requestIn Fmap = request.NotWaiting
 
 abbrev pub findOf : Table → ℕ → List ℕ → Request
-findOf t verb ms = cond (wrongWords verb ms) request.Invalid (requestIn (phaseOf (slotAt t (requestOf ms))) (requestOf ms))
+findOf t verb ms = cond (wrongWords verb ms) request.Invalid (requestIn (phaseOf (slotAt t (requestOf ms))))
 
 abbrev pub callFdwriteAnswer : CallFdwriteAnswer → Answer
 callFdwriteAnswer (write.Moved n) = ok n

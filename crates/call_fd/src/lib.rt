@@ -21,7 +21,7 @@ ghost use Rattle.call_fd.specs.CallFd.{findOf, callFdwriteAnswer, callFd
 
 // The request that the metadata names, where it waits.
 enum Request {
-    Waits(Tag),
+    Waits,
     Invalid,
     NotWaiting,
 }
@@ -71,7 +71,7 @@ fn find_request(v: Slot, metadata: &[u64], verb: u64) -> Request
     match p {
         Phase::Vacant => Request::Invalid,
         Phase::Placeholder => Request::NotWaiting,
-        Phase::Waiting => Request::Waits(tag),
+        Phase::Waiting => Request::Waits,
         Phase::Responded => Request::NotWaiting,
         Phase::Fmap => Request::NotWaiting,
     }
@@ -111,7 +111,7 @@ pub fn call_fdwrite(p: Part, h: Holds, metadata: &[u64], fds: &[u64]) -> CallFdw
                     part: p,
                     holds: holds::discard_list(inside, list),
                 },
-                Request::Waits(_) => {
+                Request::Waits => {
                     let old = v.fds;
                     let left = holds::discard_list(inside, old);
                     let w = slot::with_fds(v, list);
@@ -145,7 +145,7 @@ pub fn call_fdread(p: Part, h: Holds, metadata: &[u64]) -> CallFdread
             part: p,
             holds: h,
         },
-        Request::Waits(_) => {
+        Request::Waits => {
             let old = v.fds;
             let outside = holds::to_outside(h, old);
             let n = fd_list::size(old);

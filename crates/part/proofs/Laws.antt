@@ -40,7 +40,16 @@ module _ (s : State) (n : ℕ) (p : Part) (st : Stands s n p) where
   pub queued-is : (u : Part) (q : WaitQueue) (h : Holds) → u ≡ queuedOf p q → leaves s n u h ≡ laid s q (s .table .slots) (s .table .next) (p .head) h
   queued-is u q h e = ap (λ (x : Part). leaves s n x h) e ∙ λ i. laid s q (slots-kept i) (next-kept i) (p .head) h
 
-small : (k : ℕ) → k < 64 → k % 64 ≡ k
+-- the slot, whose number is k, becomes v
+pub stored-here :
+    (s : State) (n : ℕ) (p : Part) → Stands s n p → (k : ℕ) → n ≡ k → (u : Part) (v : Slot) (q : WaitQueue) (h : Holds) → u ≡ storedOf p v q
+    → leaves s n u h ≡ laid s q (set (s .table .slots) k v) (s .table .next) (p .head) h
+stored-here s n p st k same u v q h e =
+    ap (λ (x : Part). leaves s n x h) e
+    ∙ (λ i. laid s q (set (s .table .slots) n v) (next-kept s n p st i) (p .head) h)
+    ∙ ap (λ (j : ℕ). laid s q (set (s .table .slots) j v) (s .table .next) (p .head) h) same
+
+pub small : (k : ℕ) → k < 64 → k % 64 ≡ k
 small k h = omega (arith, h)
 
 -- the head's slot is given out
@@ -62,10 +71,7 @@ module _ (s : State) (n : Tag) (k : SlotNo) (is : k ≡ slotOf n) (below : k .0 
   slot-is = sym (st .0) ∙ ap (λ (j : ℕ). getD (s .table .slots) j noSlot) place
 
   pub stored-at : (u : Part) (v : Slot) (q : WaitQueue) (h : Holds) → u ≡ storedOf p v q → leaves s (n .0 % 64) u h ≡ laid s q (set (s .table .slots) (k .0) v) (s .table .next) (p .head) h
-  stored-at u v q h e =
-      ap (λ (x : Part). leaves s (n .0 % 64) x h) e
-      ∙ (λ i. laid s q (set (s .table .slots) (n .0 % 64) v) (next-kept s (n .0 % 64) p st i) (p .head) h)
-      ∙ ap (λ (j : ℕ). laid s q (set (s .table .slots) j v) (s .table .next) (p .head) h) place
+  stored-at = stored-here s (n .0 % 64) p st (k .0) place
 
   pub vacated-at :
       (u : Part) (h : Holds) → u ≡ vacatedOf p (k .0)
