@@ -1,5 +1,6 @@
 // An event's answer as numbers, for hosts in other languages and for the run: an enum cannot cross to them.
 use effect::Effect;
+use part::Part;
 use state::State;
 ghost use mathlib.Core.Path.{_≡_};
 ghost use Rattle.events.specs.Outcome.{ok, no, wait};
@@ -18,6 +19,13 @@ pub struct Step {
     pub answer: AnswerWords,
     pub effect: Effect,
     pub state: State,
+}
+
+// The same of the part that an event looked at.
+pub struct PartStep {
+    pub answer: AnswerWords,
+    pub effect: Effect,
+    pub part: Part,
 }
 
 pub fn done(value: u64) -> AnswerWords

@@ -1,19 +1,24 @@
-// The callers' events but the wake, answered in numbers.
+// The callers' events but the wake, on a part, answered in numbers. Hold counts are lent where an event takes holds.
 use answer_words::AnswerWords;
-use answer_words::Step;
+use answer_words::PartStep;
 use call::CallAnswer;
 use call_generic::GenericAnswer;
 use call_generic::StdFsAnswer;
+use holds::Holds;
 use ids::Tag;
 use next_id::NextIdAnswer;
+use part::Part;
 use request_fmap::FmapAnswer;
 use schemev2::Args;
-use state::State;
 use submit::SubmitAnswer;
 use wait_queue::SendAnswer;
 ghost use mathlib.Core.Path.{_≡_};
 ghost use mathlib.Core.List.{List};
-ghost use Prim.Native.Nat.{ℕ};
+ghost use Prim.Native.Nat.{ℕ, _%_};
+ghost use Rattle.holds.specs.declared.Holds.{Holds as Counts};
+ghost use Rattle.holds.specs.Holds.{holdsWith};
+ghost use Rattle.state.specs.declared.State.{State};
+ghost use Rattle.part.specs.Part.{Stands, found, leaves};
 ghost use Rattle.answer_words.specs.Words.{answerOf};
 ghost use Rattle.effect.specs.Effect.{effectWords};
 ghost use Rattle.call.specs.Call.{callAnswer};
@@ -101,23 +106,25 @@ fn send_words(a: SendAnswer) -> AnswerWords
     }
 }
 
-pub fn next_id(s: State, caller: u32) -> Step
-    ensures { λ r. ⌜ ((ws : List ℕ) → outcome (answerOf (r .answer)) (effectWords (r .effect)) (world (r .state) ws) ≡ reserveOf (world s ws) caller) ⌝ }
+pub fn next_id(p: Part, caller: u32) -> PartStep
+    ensures { λ r. ⌜ ((s : State) (h : Counts) (ws : List ℕ) → Stands s (p .head % 64) p → outcome (answerOf (r .answer)) (effectWords (r .effect)) (world (leaves s (p .head % 64) (r .part) h) ws) ≡ reserveOf (world (found s p h) ws) caller) ⌝ }
 {
-    let r = next_id::next_id(s, caller);
+    let r = next_id::next_id(p, caller);
     let answer = r.answer;
-    let after = r.state;
+    let after = r.part;
     let said = next_id_words(answer);
     let fx = effect::none();
-    Step {
+    PartStep {
         answer: said,
         effect: fx,
-        state: after,
+        part: after,
     }
 }
 
 pub fn submit(
-    s: State,
+    p: Part,
+    all: &mut [u16; 64],
+    outside: &mut [u16; 64],
     words: &mut [u64; 1024],
     tag: Tag,
     caller: u32,
@@ -126,23 +133,36 @@ pub fn submit(
     args: Args,
     pid: u64,
     fds: &[u64],
-) -> Step
-    ensures { λ r. ⌜ outcome (answerOf (r .answer)) (effectWords (r .effect)) (world (r .state) (now (words .exit))) ≡ submitOf (world s (now (words .entry))) (tag .0) caller opcode flags args pid (now (fds .entry)) ⌝ }
+) -> PartStep
+    ensures { λ r. ⌜ ((s : State) → Stands s (tag .0 % 64) p → outcome (answerOf (r .answer)) (effectWords (r .effect)) (world (leaves s (tag .0 % 64) (r .part) (holdsWith (now (all .exit)) (now (outside .exit)))) (now (words .exit))) ≡ submitOf (world (found s p (holdsWith (now (all .entry)) (now (outside .entry)))) (now (words .entry))) (tag .0) caller opcode flags args pid (now (fds .entry))) ⌝ }
 {
-    let r = submit::submit(s, words, tag, caller, opcode, flags, args, pid, fds);
+    let a = *all;
+    let o = *outside;
+    let h = Holds {
+        holds: a,
+        outside: o,
+    };
+    let r = submit::submit(p, h, words, tag, caller, opcode, flags, args, pid, fds);
     let answer = r.answer;
-    let after = r.state;
+    let after = r.part;
+    let left = r.holds;
+    let b = left.holds;
+    let u = left.outside;
+    *all = b;
+    *outside = u;
     let said = submit_words(answer);
     let fx = r.effect;
-    Step {
+    PartStep {
         answer: said,
         effect: fx,
-        state: after,
+        part: after,
     }
 }
 
 pub fn call(
-    s: State,
+    p: Part,
+    all: &mut [u16; 64],
+    outside: &mut [u16; 64],
     words: &mut [u64; 1024],
     caller: u32,
     opcode: u64,
@@ -151,23 +171,34 @@ pub fn call(
     gid: u32,
     pid: u64,
     fds: &[u64],
-) -> Step
-    ensures { λ r. ⌜ outcome (answerOf (r .answer)) (effectWords (r .effect)) (world (r .state) (now (words .exit))) ≡ callOf (world s (now (words .entry))) caller opcode args uid gid pid (now (fds .entry)) ⌝ }
+) -> PartStep
+    ensures { λ r. ⌜ ((s : State) → Stands s (p .head % 64) p → outcome (answerOf (r .answer)) (effectWords (r .effect)) (world (leaves s (p .head % 64) (r .part) (holdsWith (now (all .exit)) (now (outside .exit)))) (now (words .exit))) ≡ callOf (world (found s p (holdsWith (now (all .entry)) (now (outside .entry)))) (now (words .entry))) caller opcode args uid gid pid (now (fds .entry))) ⌝ }
 {
-    let r = call::call(s, words, caller, opcode, args, uid, gid, pid, fds);
+    let a = *all;
+    let o = *outside;
+    let h = Holds {
+        holds: a,
+        outside: o,
+    };
+    let r = call::call(p, h, words, caller, opcode, args, uid, gid, pid, fds);
     let answer = r.answer;
-    let after = r.state;
+    let after = r.part;
+    let left = r.holds;
+    let b = left.holds;
+    let u = left.outside;
+    *all = b;
+    *outside = u;
     let said = call_words(answer);
     let fx = r.effect;
-    Step {
+    PartStep {
         answer: said,
         effect: fx,
-        state: after,
+        part: after,
     }
 }
 
 pub fn call_generic(
-    s: State,
+    p: Part,
     words: &mut [u64; 1024],
     caller: u32,
     pid: u64,
@@ -175,23 +206,23 @@ pub fn call_generic(
     base: u64,
     len: u64,
     metadata: &[u64],
-) -> Step
-    ensures { λ r. ⌜ outcome (answerOf (r .answer)) (effectWords (r .effect)) (world (r .state) (now (words .exit))) ≡ genericOf (world s (now (words .entry))) caller pid (now (fds .entry)) base len (now (metadata .entry)) ⌝ }
+) -> PartStep
+    ensures { λ r. ⌜ ((s : State) (h : Counts) → Stands s (p .head % 64) p → outcome (answerOf (r .answer)) (effectWords (r .effect)) (world (leaves s (p .head % 64) (r .part) h) (now (words .exit))) ≡ genericOf (world (found s p h) (now (words .entry))) caller pid (now (fds .entry)) base len (now (metadata .entry))) ⌝ }
 {
-    let r = call_generic::call_generic(s, words, caller, pid, fds, base, len, metadata);
+    let r = call_generic::call_generic(p, words, caller, pid, fds, base, len, metadata);
     let answer = r.answer;
-    let after = r.state;
+    let after = r.part;
     let said = generic_words(answer);
     let fx = r.effect;
-    Step {
+    PartStep {
         answer: said,
         effect: fx,
-        state: after,
+        part: after,
     }
 }
 
 pub fn translate_std_fs_call(
-    s: State,
+    p: Part,
     words: &mut [u64; 1024],
     caller: u32,
     pid: u64,
@@ -199,23 +230,23 @@ pub fn translate_std_fs_call(
     base: u64,
     len: u64,
     metadata: &[u64],
-) -> Step
-    ensures { λ r. ⌜ outcome (answerOf (r .answer)) (effectWords (r .effect)) (world (r .state) (now (words .exit))) ≡ stdfsOf (world s (now (words .entry))) caller pid (now (fds .entry)) base len (now (metadata .entry)) ⌝ }
+) -> PartStep
+    ensures { λ r. ⌜ ((s : State) (h : Counts) → Stands s (p .head % 64) p → outcome (answerOf (r .answer)) (effectWords (r .effect)) (world (leaves s (p .head % 64) (r .part) h) (now (words .exit))) ≡ stdfsOf (world (found s p h) (now (words .entry))) caller pid (now (fds .entry)) base len (now (metadata .entry))) ⌝ }
 {
-    let r = call_generic::translate_std_fs_call(s, words, caller, pid, fds, base, len, metadata);
+    let r = call_generic::translate_std_fs_call(p, words, caller, pid, fds, base, len, metadata);
     let answer = r.answer;
-    let after = r.state;
+    let after = r.part;
     let said = std_fs_words(answer);
     let fx = r.effect;
-    Step {
+    PartStep {
         answer: said,
         effect: fx,
-        state: after,
+        part: after,
     }
 }
 
 pub fn request_fmap(
-    s: State,
+    p: Part,
     words: &mut [u64; 1024],
     caller: u32,
     id: u64,
@@ -224,47 +255,47 @@ pub fn request_fmap(
     uid: u32,
     gid: u32,
     pid: u64,
-) -> Step
-    ensures { λ r. ⌜ outcome (answerOf (r .answer)) (effectWords (r .effect)) (world (r .state) (now (words .exit))) ≡ fmapOf (world s (now (words .entry))) caller id pages flags uid gid pid ⌝ }
+) -> PartStep
+    ensures { λ r. ⌜ ((s : State) (h : Counts) → Stands s (p .head % 64) p → outcome (answerOf (r .answer)) (effectWords (r .effect)) (world (leaves s (p .head % 64) (r .part) h) (now (words .exit))) ≡ fmapOf (world (found s p h) (now (words .entry))) caller id pages flags uid gid pid) ⌝ }
 {
-    let r = request_fmap::request_fmap(s, words, caller, id, pages, flags, uid, gid, pid);
+    let r = request_fmap::request_fmap(p, words, caller, id, pages, flags, uid, gid, pid);
     let answer = r.answer;
-    let after = r.state;
+    let after = r.part;
     let said = fmap_words(answer);
     let fx = r.effect;
-    Step {
+    PartStep {
         answer: said,
         effect: fx,
-        state: after,
+        part: after,
     }
 }
 
-pub fn close(s: State, words: &mut [u64; 1024], id: u64) -> Step
-    ensures { λ r. ⌜ outcome (answerOf (r .answer)) (effectWords (r .effect)) (world (r .state) (now (words .exit))) ≡ closeOf (world s (now (words .entry))) id ⌝ }
+pub fn close(p: Part, words: &mut [u64; 1024], id: u64) -> PartStep
+    ensures { λ r. ⌜ ((s : State) (n : ℕ) (h : Counts) → Stands s n p → outcome (answerOf (r .answer)) (effectWords (r .effect)) (world (leaves s n (r .part) h) (now (words .exit))) ≡ closeOf (world (found s p h) (now (words .entry))) id) ⌝ }
 {
-    let r = close::close(s, words, id);
+    let r = close::close(p, words, id);
     let answer = r.answer;
-    let after = r.state;
+    let after = r.part;
     let said = send_words(answer);
     let fx = r.effect;
-    Step {
+    PartStep {
         answer: said,
         effect: fx,
-        state: after,
+        part: after,
     }
 }
 
-pub fn detach(s: State, words: &mut [u64; 1024], id: u64, pid: u64) -> Step
-    ensures { λ r. ⌜ outcome (answerOf (r .answer)) (effectWords (r .effect)) (world (r .state) (now (words .exit))) ≡ detachOf (world s (now (words .entry))) id pid ⌝ }
+pub fn detach(p: Part, words: &mut [u64; 1024], id: u64, pid: u64) -> PartStep
+    ensures { λ r. ⌜ ((s : State) (n : ℕ) (h : Counts) → Stands s n p → outcome (answerOf (r .answer)) (effectWords (r .effect)) (world (leaves s n (r .part) h) (now (words .exit))) ≡ detachOf (world (found s p h) (now (words .entry))) id pid) ⌝ }
 {
-    let r = close::detach(s, words, id, pid);
+    let r = close::detach(p, words, id, pid);
     let answer = r.answer;
-    let after = r.state;
+    let after = r.part;
     let said = send_words(answer);
     let fx = r.effect;
-    Step {
+    PartStep {
         answer: said,
         effect: fx,
-        state: after,
+        part: after,
     }
 }

@@ -12,7 +12,7 @@ call-words-requires : tie.Need-call-words-requires
 call-words-requires c κs = search needs
 
 returns : tie.Need-returns
-returns c = told (c .before .call-words .ensures) refl (c .before .before .before .call .ensures)
+returns c = λ s st. told (c .before .call-words .ensures) refl (c .before .before .before .before .before .before .call .ensures s st)
 
 pub call-spec : {M : Type 1} → statement M
 call-spec = tie.close (tie.spec call-requires call-words-requires returns)

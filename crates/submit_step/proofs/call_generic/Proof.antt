@@ -12,7 +12,7 @@ generic-words-requires : tie.Need-generic-words-requires
 generic-words-requires c κs = search needs
 
 returns : tie.Need-returns
-returns c = told (c .before .generic-words .ensures) refl (c .before .before .before .call-generic .ensures)
+returns c = λ s h st. told (c .before .generic-words .ensures) refl (c .before .before .before .call-generic .ensures s h st)
 
 pub call-generic-spec : {M : Type 1} → statement M
 call-generic-spec = tie.close (tie.spec call-generic-requires generic-words-requires returns)

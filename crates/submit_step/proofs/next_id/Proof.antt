@@ -14,7 +14,7 @@ none-requires : tie.Need-none-requires
 none-requires c κs = search needs
 
 returns : tie.Need-returns
-returns c = λ ws. told (c .before .next-id-words .ensures) (c .none .ensures) (c .before .before .before .next-id .ensures ws)
+returns c = λ s h ws st. told (c .before .next-id-words .ensures) (c .none .ensures) (c .before .before .before .next-id .ensures s h ws st)
 
 pub next-id-spec : {M : Type 1} → statement M
 next-id-spec = tie.close (tie.spec next-id-requires next-id-words-requires none-requires returns)

@@ -12,7 +12,7 @@ fmap-words-requires : tie.Need-fmap-words-requires
 fmap-words-requires c κs = search needs
 
 returns : tie.Need-returns
-returns c = told (c .before .fmap-words .ensures) refl (c .before .before .before .request-fmap .ensures)
+returns c = λ s h st. told (c .before .fmap-words .ensures) refl (c .before .before .before .request-fmap .ensures s h st)
 
 pub request-fmap-spec : {M : Type 1} → statement M
 request-fmap-spec = tie.close (tie.spec request-fmap-requires fmap-words-requires returns)

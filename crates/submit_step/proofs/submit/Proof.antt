@@ -12,7 +12,7 @@ submit-words-requires : tie.Need-submit-words-requires
 submit-words-requires c κs = search needs
 
 returns : tie.Need-returns
-returns c = told (c .before .submit-words .ensures) refl (c .before .before .before .submit .ensures)
+returns c = λ s st. told (c .before .submit-words .ensures) refl (c .before .before .before .before .before .before .submit .ensures s st)
 
 pub submit-spec : {M : Type 1} → statement M
 submit-spec = tie.close (tie.spec submit-requires submit-words-requires returns)

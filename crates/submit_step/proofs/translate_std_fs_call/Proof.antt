@@ -12,7 +12,7 @@ std-fs-words-requires : tie.Need-std-fs-words-requires
 std-fs-words-requires c κs = search needs
 
 returns : tie.Need-returns
-returns c = told (c .before .std-fs-words .ensures) refl (c .before .before .before .translate-std-fs-call .ensures)
+returns c = λ s h st. told (c .before .std-fs-words .ensures) refl (c .before .before .before .translate-std-fs-call .ensures s h st)
 
 pub translate-std-fs-call-spec : {M : Type 1} → statement M
 translate-std-fs-call-spec =
