@@ -1,11 +1,14 @@
-// The wake and the driver's events, answered in numbers.
+// The wake and the driver's events, answered in numbers: on a part, but for the write, whose entries name slots of their own. Hold
+// counts are lent where an event takes or gives holds.
 use answer_words::AnswerWords;
-use answer_words::Step;
+use answer_words::PartStep;
 use call_fd::CallFdreadAnswer;
 use call_fd::CallFdwriteAnswer;
 use effect::Effect;
 use fd_list::List;
+use holds::Holds;
 use ids::Tag;
+use part::Part;
 use provide_mmap::ProvideMmapAnswer;
 use slot::Reply;
 use state::State;
@@ -14,10 +17,14 @@ use wake_decision::WakeAnswer;
 use write::WriteAnswer;
 ghost use mathlib.Core.Path.{_≡_};
 ghost use mathlib.Core.List.{List as Words};
-ghost use Prim.Native.Nat.{ℕ};
+ghost use Prim.Native.Nat.{ℕ, _%_};
 ghost use lib.ListN.{length};
 ghost use lib.Seq.{sets};
 ghost use Rattle.fd_list.specs.declared.List.{List as Fds};
+ghost use Rattle.holds.specs.declared.Holds.{Holds as Counts};
+ghost use Rattle.holds.specs.Holds.{holdsWith};
+ghost use Rattle.state.specs.declared.State.{State as Whole};
+ghost use Rattle.part.specs.Part.{Stands, found, leaves};
 ghost use Rattle.slot.specs.declared.Reply.{Reply as SlotReply};
 ghost use Rattle.answer_words.specs.Words.{answerOf, repliedOf};
 ghost use Rattle.effect.specs.Effect.{effectWords};
@@ -31,23 +38,21 @@ ghost use Rattle.events.specs.Outcome.{outcome, answered};
 ghost use Rattle.events.specs.Wake.{wakeOf};
 ghost use Rattle.events.specs.Read.{readOf};
 ghost use Rattle.events.specs.Complete.{writeOf};
-ghost use Rattle.events.specs.Descriptors.{moveOf, obtainCallOf};
+ghost use Rattle.events.specs.Descriptors.{requestOf, moveOf, obtainCallOf};
 ghost use Rattle.events.specs.Supply.{supplyOf};
 
 // A reply (answer kind 4) stands beside the answer, with its list.
-#[repr(C)]
 pub struct Woken {
     pub answer: AnswerWords,
     pub reply: Reply,
     pub fds: List,
     pub effect: Effect,
-    pub state: State,
+    pub part: Part,
 }
 
-#[repr(C)]
 pub struct Received {
     pub answer: AnswerWords,
-    pub state: State,
+    pub part: Part,
 }
 
 // So many of the lent words hold effects, three to each.
@@ -138,7 +143,8 @@ fn provide_mmap_words(a: ProvideMmapAnswer) -> AnswerWords
 }
 
 pub fn wake(
-    s: State,
+    p: Part,
+    outside: &mut [u16; 64],
     words: &mut [u64; 1024],
     tag: Tag,
     caller: u32,
@@ -146,36 +152,36 @@ pub fn wake(
     base: u64,
     count: u64,
 ) -> Woken
-    ensures { λ r. ⌜ outcome (repliedOf (r .answer) (r .reply) (r .fds)) (effectWords (r .effect)) (world (r .state) (now (words .exit))) ≡ wakeOf (world s (now (words .entry))) (tag .0) caller killed base count ⌝ }
+    ensures { λ r. ⌜ ((s : Whole) (all : Words ℕ) → length (now (outside .entry)) ≡ 64 → Stands s (tag .0 % 64) p → outcome (repliedOf (r .answer) (r .reply) (r .fds)) (effectWords (r .effect)) (world (leaves s (tag .0 % 64) (r .part) (holdsWith all (now (outside .exit)))) (now (words .exit))) ≡ wakeOf (world (found s p (holdsWith all (now (outside .entry)))) (now (words .entry))) (tag .0) caller killed base count) ⌝ }
 {
-    let r = call_inner::wake(s, words, tag, caller, killed, base, count);
+    let r = call_inner::wake(p, words, tag, caller, killed, base, count);
     let answer = r.answer;
     let reply = r.reply;
     let fds = r.fds;
     let fx = r.effect;
-    let after = r.state;
+    let after = r.part;
+    let out = r.out;
+    counts::raise_all(outside, out);
     let said = wake_words(answer);
     Woken {
         answer: said,
         reply: reply,
         fds: fds,
         effect: fx,
-        state: after,
+        part: after,
     }
 }
 
-pub fn read(s: State, words: &[u64; 1024], out: &mut [u8], flags: u32) -> Received
-    ensures { λ r. ⌜ answerOf (r .answer) ≡ readOf (world s (now (words .entry))) (length (now (out .entry))) flags .answer ⌝ }
-    ensures { λ r. ⌜ world (r .state) (now (words .entry)) ≡ readOf (world s (now (words .entry))) (length (now (out .entry))) flags .world ⌝ }
-    ensures { λ r. ⌜ now (out .exit) ≡ sets (now (out .entry)) 0 (readOf (world s (now (words .entry))) (length (now (out .entry))) flags .bytes) ⌝ }
+pub fn read(p: Part, words: &[u64; 1024], out: &mut [u8], flags: u32) -> Received
+    ensures { λ r. ⌜ ((s : Whole) (n : ℕ) (h : Counts) → Stands s n p → (answerOf (r .answer) ≡ readOf (world (found s p h) (now (words .entry))) (length (now (out .entry))) flags .answer) × ((world (leaves s n (r .part) h) (now (words .entry)) ≡ readOf (world (found s p h) (now (words .entry))) (length (now (out .entry))) flags .world) × (now (out .exit) ≡ sets (now (out .entry)) 0 (readOf (world (found s p h) (now (words .entry))) (length (now (out .entry))) flags .bytes)))) ⌝ }
 {
-    let r = read::read(s, words, out, flags);
+    let r = read::read(p, words, out, flags);
     let answer = r.answer;
-    let after = r.state;
+    let after = r.part;
     let said = receive_words(answer);
     Received {
         answer: said,
-        state: after,
+        part: after,
     }
 }
 
@@ -196,47 +202,80 @@ pub fn write(s: State, fx: &mut [u64], bytes: &[u8]) -> Completed
     }
 }
 
-pub fn call_fdwrite(s: State, metadata: &[u64], fds: &[u64]) -> Step
-    ensures { λ r. ⌜ ((ws : Words ℕ) → outcome (answerOf (r .answer)) (effectWords (r .effect)) (world (r .state) ws) ≡ moveOf (world s ws) (now (metadata .entry)) (now (fds .entry))) ⌝ }
+pub fn call_fdwrite(
+    p: Part,
+    all: &mut [u16; 64],
+    outside: &mut [u16; 64],
+    metadata: &[u64],
+    fds: &[u64],
+) -> PartStep
+    ensures { λ r. ⌜ ((s : Whole) (ws : Words ℕ) → Stands s (requestOf (now (metadata .entry)) % 64) p → outcome (answerOf (r .answer)) (effectWords (r .effect)) (world (leaves s (requestOf (now (metadata .entry)) % 64) (r .part) (holdsWith (now (all .exit)) (now (outside .exit)))) ws) ≡ moveOf (world (found s p (holdsWith (now (all .entry)) (now (outside .entry)))) ws) (now (metadata .entry)) (now (fds .entry))) ⌝ }
 {
-    let r = call_fd::call_fdwrite(s, metadata, fds);
+    let a = *all;
+    let o = *outside;
+    let h = Holds {
+        holds: a,
+        outside: o,
+    };
+    let r = call_fd::call_fdwrite(p, h, metadata, fds);
     let answer = r.answer;
-    let after = r.state;
+    let after = r.part;
+    let left = r.holds;
+    let b = left.holds;
+    let u = left.outside;
+    *all = b;
+    *outside = u;
     let said = call_fdwrite_words(answer);
     let fx = effect::none();
-    Step {
+    PartStep {
         answer: said,
         effect: fx,
-        state: after,
+        part: after,
     }
 }
 
-pub fn call_fdread(s: State, metadata: &[u64]) -> Step
-    ensures { λ r. ⌜ ((ws : Words ℕ) → outcome (answerOf (r .answer)) (effectWords (r .effect)) (world (r .state) ws) ≡ obtainCallOf (world s ws) (now (metadata .entry))) ⌝ }
+pub fn call_fdread(
+    p: Part,
+    all: &mut [u16; 64],
+    outside: &mut [u16; 64],
+    metadata: &[u64],
+) -> PartStep
+    ensures { λ r. ⌜ ((s : Whole) (ws : Words ℕ) → Stands s (requestOf (now (metadata .entry)) % 64) p → outcome (answerOf (r .answer)) (effectWords (r .effect)) (world (leaves s (requestOf (now (metadata .entry)) % 64) (r .part) (holdsWith (now (all .exit)) (now (outside .exit)))) ws) ≡ obtainCallOf (world (found s p (holdsWith (now (all .entry)) (now (outside .entry)))) ws) (now (metadata .entry))) ⌝ }
 {
-    let r = call_fd::call_fdread(s, metadata);
+    let a = *all;
+    let o = *outside;
+    let h = Holds {
+        holds: a,
+        outside: o,
+    };
+    let r = call_fd::call_fdread(p, h, metadata);
     let answer = r.answer;
-    let after = r.state;
+    let after = r.part;
+    let left = r.holds;
+    let b = left.holds;
+    let u = left.outside;
+    *all = b;
+    *outside = u;
     let said = call_fdread_words(answer);
     let fx = effect::none();
-    Step {
+    PartStep {
         answer: said,
         effect: fx,
-        state: after,
+        part: after,
     }
 }
 
-pub fn provide_mmap(s: State, tag: Tag, offset: u64, base: u64, count: u64) -> Step
-    ensures { λ r. ⌜ ((ws : Words ℕ) → outcome (answerOf (r .answer)) (effectWords (r .effect)) (world (r .state) ws) ≡ supplyOf (world s ws) (tag .0) offset base count) ⌝ }
+pub fn provide_mmap(p: Part, tag: Tag, offset: u64, base: u64, count: u64) -> PartStep
+    ensures { λ r. ⌜ ((s : Whole) (h : Counts) (ws : Words ℕ) → Stands s (tag .0 % 64) p → outcome (answerOf (r .answer)) (effectWords (r .effect)) (world (leaves s (tag .0 % 64) (r .part) h) ws) ≡ supplyOf (world (found s p h) ws) (tag .0) offset base count) ⌝ }
 {
-    let r = provide_mmap::provide_mmap(s, tag, offset, base, count);
+    let r = provide_mmap::provide_mmap(p, tag, offset, base, count);
     let answer = r.answer;
-    let after = r.state;
+    let after = r.part;
     let said = provide_mmap_words(answer);
     let fx = effect::none();
-    Step {
+    PartStep {
         answer: said,
         effect: fx,
-        state: after,
+        part: after,
     }
 }

@@ -14,7 +14,7 @@ none-requires : tie.Need-none-requires
 none-requires c κs = search needs
 
 returns : tie.Need-returns
-returns c = λ ws. told (c .before .call-fdread-words .ensures) (c .none .ensures) (c .before .before .before .call-fdread .ensures ws)
+returns c = λ s ws st. told (c .before .call-fdread-words .ensures) (c .none .ensures) (c .before .before .before .before .before .before .call-fdread .ensures s ws st)
 
 pub call-fdread-spec : {M : Type 1} → statement M
 call-fdread-spec =

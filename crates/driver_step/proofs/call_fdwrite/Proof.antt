@@ -14,7 +14,7 @@ none-requires : tie.Need-none-requires
 none-requires c κs = search needs
 
 returns : tie.Need-returns
-returns c = λ ws. told (c .before .call-fdwrite-words .ensures) (c .none .ensures) (c .before .before .before .call-fdwrite .ensures ws)
+returns c = λ s ws st. told (c .before .call-fdwrite-words .ensures) (c .none .ensures) (c .before .before .before .before .before .before .call-fdwrite .ensures s ws st)
 
 pub call-fdwrite-spec : {M : Type 1} → statement M
 call-fdwrite-spec =

@@ -14,7 +14,7 @@ none-requires : tie.Need-none-requires
 none-requires c κs = search needs
 
 returns : tie.Need-returns
-returns c = λ ws. told (c .before .provide-mmap-words .ensures) (c .none .ensures) (c .before .before .before .provide-mmap .ensures ws)
+returns c = λ s h ws st. told (c .before .provide-mmap-words .ensures) (c .none .ensures) (c .before .before .before .provide-mmap .ensures s h ws st)
 
 pub provide-mmap-spec : {M : Type 1} → statement M
 provide-mmap-spec =

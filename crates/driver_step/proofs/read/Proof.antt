@@ -14,7 +14,7 @@ same-length : tie.Need-same-length
 same-length c = search needs
 
 returns : tie.Need-returns
-returns c = let c4 = c .before .before .before .before in (c .receive-words .ensures ∙ c4 .read .ensures .0, c4 .read .ensures .1)
+returns c = λ s n h st. let g = c .before .before .before .before .read .ensures s n h st in (c .receive-words .ensures ∙ g .0, g .1)
 
 pub read-spec : {M : Type 1} → statement M
 read-spec = tie.close (tie.spec read-requires receive-words-requires same-length returns)
