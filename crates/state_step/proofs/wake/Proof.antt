@@ -1,0 +1,42 @@
+-- `state_step::wake` meets its contract. Assumes nothing.
+use borrow.Author.Needs.{needs}
+use Rattle.state_step.proofs.wake.Statement.{statement}
+use Rattle.state_step.proofs.wake.Tie as tie
+use mathlib.Core.Path.{refl}
+
+mul-v : tie.Need-mul-v
+mul-v c = search needs
+
+element-copy-out-v : tie.Need-element-copy-out-v
+element-copy-out-v c = search needs
+
+element-copy-out-next : tie.Need-element-copy-out-next
+element-copy-out-next c = search needs
+
+wake-part-requires : tie.Need-wake-part-requires
+wake-part-requires c κs = search needs
+
+mul-w : tie.Need-mul-w
+mul-w c = search needs
+
+element-set-from-w : tie.Need-element-set-from-w
+element-set-from-w c = search needs
+
+element-write-t : tie.Need-element-write-t
+element-write-t c = search needs
+
+returns : tie.Need-returns
+returns c = let a = c .before .before .before .before .before .before .before .before .before .before .before .before .before .before .before .before .before .before .args in c .before .before .before .before .before .before .before .before .before .wake-part .ensures (a .s) (refl, refl, refl)
+
+pub wake-spec : {M : Type 1} → statement M
+wake-spec =
+    tie.close
+    (tie.spec
+    mul-v
+    element-copy-out-v
+    element-copy-out-next
+    wake-part-requires
+    mul-w
+    element-set-from-w
+    element-write-t
+    returns)

@@ -1,0 +1,218 @@
+// The events on a whole state, by value: each finds its part, and the part that it leaves is stored.
+use answer_words::AnswerWords;
+use answer_words::Step;
+use effect::Effect;
+use fd_list::List;
+use holds::Holds;
+use ids::Tag;
+use part::Part;
+use record::Record;
+use slot::Reply;
+use state::State;
+ghost use mathlib.Core.Path.{_≡_};
+ghost use lib.ListN.{length};
+ghost use Prim.Native.Nat.{_%_};
+ghost use lib.Seq.{sets};
+ghost use Rattle.state.specs.declared.State.{State as Whole};
+ghost use Rattle.part.specs.Part.{Stands, found, leaves};
+ghost use Rattle.answer_words.specs.Words.{answerOf, repliedOf};
+ghost use Rattle.effect.specs.Effect.{effectWords};
+ghost use Rattle.part_step.specs.PartStep.{partEvent};
+ghost use Rattle.events.specs.World.{world};
+ghost use Rattle.events.specs.Outcome.{outcome};
+ghost use Rattle.events.specs.Event.{step};
+ghost use Rattle.events.specs.Wake.{wakeOf};
+ghost use Rattle.events.specs.Read.{readOf};
+
+// A reply (answer kind 4) stands beside the answer, with its list.
+#[repr(C)]
+pub struct Woken {
+    pub answer: AnswerWords,
+    pub reply: Reply,
+    pub fds: List,
+    pub effect: Effect,
+    pub state: State,
+}
+
+#[repr(C)]
+pub struct Received {
+    pub answer: AnswerWords,
+    pub state: State,
+}
+
+// The events of at most one effect that look at one slot, but the wake.
+pub fn one_effect(
+    s: State,
+    words: &mut [u64; 1024],
+    r: Record,
+    first: &[u64],
+    second: &[u64],
+) -> Step
+    ensures { λ o. ⌜ outcome (answerOf (o .answer)) (effectWords (o .effect)) (world (o .state) (now (words .exit))) ≡ step (world s (now (words .entry))) (partEvent (r .kind) r (now (first .entry)) (now (second .entry))) ⌝ }
+{
+    let mut t = s.table;
+    let mut d = s.driver;
+    let head = t.head;
+    let n = part_step::place(r, first, head);
+    let v = t.slots[n];
+    let next = t.next[n];
+    let q = d.queue;
+    let held = t.holds;
+    let mut all = held.holds;
+    let mut outside = held.outside;
+    let p = Part {
+        slot: v,
+        next: next,
+        head: head,
+        queue: q,
+        scheme: d.scheme,
+    };
+    let o = part_step::one_effect(p, &mut all, &mut outside, words, r, first, second);
+    let answer = o.answer;
+    let fx = o.effect;
+    let u = o.part;
+    let w = u.slot;
+    let left = u.queue;
+    let holds = Holds {
+        holds: all,
+        outside: outside,
+    };
+    t.slots[n] = w;
+    t.next[n] = u.next;
+    t.head = u.head;
+    t.holds = holds;
+    d.queue = left;
+    Step {
+        answer: answer,
+        effect: fx,
+        state: State {
+            driver: d,
+            table: t,
+        },
+    }
+}
+
+// What a wake leaves beside its hold counts.
+struct WokenPart {
+    woken: driver_step::Woken,
+    holds: Holds,
+}
+
+// Nothing but what is known of the counts: there are 64.
+fn known(h: Holds)
+    ensures { λ r. ⌜ length (h .outside) ≡ 64 ⌝ }
+{
+}
+
+fn wake_part(
+    p: Part,
+    h: Holds,
+    words: &mut [u64; 1024],
+    tag: Tag,
+    caller: u32,
+    killed: u64,
+    base: u64,
+    count: u64,
+) -> WokenPart
+    ensures { λ r. ⌜ ((s : Whole) → Stands s (tag .0 % 64) p → outcome (repliedOf (r .woken .answer) (r .woken .reply) (r .woken .fds)) (effectWords (r .woken .effect)) (world (leaves s (tag .0 % 64) (r .woken .part) (r .holds)) (now (words .exit))) ≡ wakeOf (world (found s p h) (now (words .entry))) (tag .0) caller killed base count) ⌝ }
+{
+    known(h);
+    let all = h.holds;
+    let mut outside = h.outside;
+    let woken = driver_step::wake(p, &mut outside, words, tag, caller, killed, base, count);
+    WokenPart {
+        woken: woken,
+        holds: Holds {
+            holds: all,
+            outside: outside,
+        },
+    }
+}
+
+pub fn wake(
+    s: State,
+    words: &mut [u64; 1024],
+    tag: Tag,
+    caller: u32,
+    killed: u64,
+    base: u64,
+    count: u64,
+) -> Woken
+    ensures { λ r. ⌜ outcome (repliedOf (r .answer) (r .reply) (r .fds)) (effectWords (r .effect)) (world (r .state) (now (words .exit))) ≡ wakeOf (world s (now (words .entry))) (tag .0) caller killed base count ⌝ }
+{
+    let mut t = s.table;
+    let mut d = s.driver;
+    let n = (tag.0 % 64) as usize;
+    let v = t.slots[n];
+    let next = t.next[n];
+    let q = d.queue;
+    let held = t.holds;
+    let p = Part {
+        slot: v,
+        next: next,
+        head: t.head,
+        queue: q,
+        scheme: d.scheme,
+    };
+    let r = wake_part(p, held, words, tag, caller, killed, base, count);
+    let holds = r.holds;
+    let o = r.woken;
+    let answer = o.answer;
+    let reply = o.reply;
+    let fds = o.fds;
+    let fx = o.effect;
+    let u = o.part;
+    let w = u.slot;
+    let left = u.queue;
+    t.slots[n] = w;
+    t.next[n] = u.next;
+    t.head = u.head;
+    t.holds = holds;
+    d.queue = left;
+    Woken {
+        answer: answer,
+        reply: reply,
+        fds: fds,
+        effect: fx,
+        state: State {
+            driver: d,
+            table: t,
+        },
+    }
+}
+
+// The words of the queue stay as they are; of the lent bytes those beyond the stored ones keep what they held.
+pub fn read(s: State, words: &[u64; 1024], out: &mut [u8], flags: u32) -> Received
+    ensures { λ r. ⌜ answerOf (r .answer) ≡ readOf (world s (now (words .entry))) (length (now (out .entry))) flags .answer ⌝ }
+    ensures { λ r. ⌜ world (r .state) (now (words .entry)) ≡ readOf (world s (now (words .entry))) (length (now (out .entry))) flags .world ⌝ }
+    ensures { λ r. ⌜ now (out .exit) ≡ sets (now (out .entry)) 0 (readOf (world s (now (words .entry))) (length (now (out .entry))) flags .bytes) ⌝ }
+{
+    let mut t = s.table;
+    let mut d = s.driver;
+    let v = t.slots[0];
+    let next = t.next[0];
+    let q = d.queue;
+    let p = Part {
+        slot: v,
+        next: next,
+        head: t.head,
+        queue: q,
+        scheme: d.scheme,
+    };
+    let o = driver_step::read(p, words, out, flags);
+    let answer = o.answer;
+    let u = o.part;
+    let w = u.slot;
+    let left = u.queue;
+    t.slots[0] = w;
+    t.next[0] = u.next;
+    t.head = u.head;
+    d.queue = left;
+    Received {
+        answer: answer,
+        state: State {
+            driver: d,
+            table: t,
+        },
+    }
+}
