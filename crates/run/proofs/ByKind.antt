@@ -1,56 +1,54 @@
 -- One event of a run, by its kind. Assumes nothing.
 use Prim.Native.Nat.{ℕ, zero, suc, min, _+_, _*_, _<_, _≤_}
-use mathlib.Core.Path.{_≡_, refl, sym, ap, _∙_, subst}
-use mathlib.Core.Bool.{Bool, false, cond}
+use mathlib.Core.Path.{_≡_, refl, sym, ap, ap₂, _∙_, subst}
+use mathlib.Core.Bool.{Bool, true, false, cond, _||_, _&&_}
 use mathlib.Core.List.{List, []}
 use native.Mathlib.Omega.{arith}
 use lib.ListN.{length, take, drop}
 use lib.Seq.{sets}
-use borrow.Author.Tests.{eq-eqb}
-use Rattle.events.specs.World.{World}
+use lib.Dec.{eqb, ltb, leb}
+use borrow.Author.Tests.{eq-eqb, eqb-true, ltb-true, ltb-false, leb-true}
+use Rattle.holds.specs.declared.Holds.{Holds}
+use Rattle.state.specs.declared.State.{State}
+use Rattle.part.specs.declared.Part.{Part}
+use Rattle.part.specs.Part.{Stands, leaves}
+use Rattle.part_step.specs.PartStep.{placeOf, partEvent}
+use Rattle.events.specs.World.{World, world}
 use Rattle.events.specs.Outcome.{Outcome}
 use Rattle.events.specs.Event.{Event, step}
 use Rattle.events.specs.Exactly.{isWrite}
-use Rattle.outcome_bytes.specs.Output.{outcomeBytes}
 use Rattle.record.specs.declared.Record.{Record}
-use Rattle.record.specs.Record.{recordOf, firstAt, secondAt, tailAt, tailOf, nextOf, wordsAt, eventNamed, eventOf, eventAt, supplyOf}
+use Rattle.record.specs.Record.{recordOf, firstAt, secondAt, tailAt, tailOf, sizeOf, isEvent, nextOf, wordsAt, eventNamed, eventOf, eventAt}
 use Rattle.record.proofs.Laws.{all-there}
 use Rattle.run_room.specs.Room.{roomOf}
-use Rattle.run.specs.Run.{wakeIn, readIn, writeIn, listIn, storedBy}
+use Rattle.run.specs.Run.{isWhole, Told, writeIn, listIn, storedBy}
 
 module _ (r : Record) (xs ys bs : List ℕ) (lent : ℕ) where
   pub as-kind : (o : Outcome) (w : World) (n k : ℕ) → n ≡ k → o ≡ step w (eventNamed k r xs ys bs lent) → o ≡ step w (eventNamed n r xs ys bs lent)
   as-kind o w n k e p = subst (λ (j : ℕ). o ≡ step w (eventNamed j r xs ys bs lent)) (sym e) p
 
-  -- a kind that is no other's is map supply's
-  last :
-      (n : ℕ) → (n ≡ 1 → ⊥) → (n ≡ 2 → ⊥) → (n ≡ 3 → ⊥) → (n ≡ 4 → ⊥) → (n ≡ 5 → ⊥) → (n ≡ 6 → ⊥) → (n ≡ 7 → ⊥) → (n ≡ 8 → ⊥) → (n ≡ 9 → ⊥) → (n ≡ 10 → ⊥) → (n ≡ 11 → ⊥) → (n ≡ 12 → ⊥) → (n ≡ 13 → ⊥) → (n ≡ 14 → ⊥) → (n ≡ 15 → ⊥) → (n ≡ 16 → ⊥) → (n ≡ 17 → ⊥) → (n ≡ 18 → ⊥)
-      → eventNamed n r xs ys bs lent ≡ supplyOf (r .words)
-  last zero a1 a2 a3 a4 a5 a6 a7 a8 a9 a10 a11 a12 a13 a14 a15 a16 a17 a18 = refl
-  last (suc zero) a1 a2 a3 a4 a5 a6 a7 a8 a9 a10 a11 a12 a13 a14 a15 a16 a17 a18 = absurd (a1 refl)
-  last (suc (suc zero)) a1 a2 a3 a4 a5 a6 a7 a8 a9 a10 a11 a12 a13 a14 a15 a16 a17 a18 = absurd (a2 refl)
-  last (suc (suc (suc zero))) a1 a2 a3 a4 a5 a6 a7 a8 a9 a10 a11 a12 a13 a14 a15 a16 a17 a18 = absurd (a3 refl)
-  last (suc (suc (suc (suc zero)))) a1 a2 a3 a4 a5 a6 a7 a8 a9 a10 a11 a12 a13 a14 a15 a16 a17 a18 = absurd (a4 refl)
-  last (suc (suc (suc (suc (suc zero))))) a1 a2 a3 a4 a5 a6 a7 a8 a9 a10 a11 a12 a13 a14 a15 a16 a17 a18 = absurd (a5 refl)
-  last (suc (suc (suc (suc (suc (suc zero)))))) a1 a2 a3 a4 a5 a6 a7 a8 a9 a10 a11 a12 a13 a14 a15 a16 a17 a18 = absurd (a6 refl)
-  last (suc (suc (suc (suc (suc (suc (suc zero))))))) a1 a2 a3 a4 a5 a6 a7 a8 a9 a10 a11 a12 a13 a14 a15 a16 a17 a18 = absurd (a7 refl)
-  last (suc (suc (suc (suc (suc (suc (suc (suc zero)))))))) a1 a2 a3 a4 a5 a6 a7 a8 a9 a10 a11 a12 a13 a14 a15 a16 a17 a18 = absurd (a8 refl)
-  last (suc (suc (suc (suc (suc (suc (suc (suc (suc zero))))))))) a1 a2 a3 a4 a5 a6 a7 a8 a9 a10 a11 a12 a13 a14 a15 a16 a17 a18 = absurd (a9 refl)
-  last (suc (suc (suc (suc (suc (suc (suc (suc (suc (suc zero)))))))))) a1 a2 a3 a4 a5 a6 a7 a8 a9 a10 a11 a12 a13 a14 a15 a16 a17 a18 = absurd (a10 refl)
-  last (suc (suc (suc (suc (suc (suc (suc (suc (suc (suc (suc zero))))))))))) a1 a2 a3 a4 a5 a6 a7 a8 a9 a10 a11 a12 a13 a14 a15 a16 a17 a18 = absurd (a11 refl)
-  last (suc (suc (suc (suc (suc (suc (suc (suc (suc (suc (suc (suc zero)))))))))))) a1 a2 a3 a4 a5 a6 a7 a8 a9 a10 a11 a12 a13 a14 a15 a16 a17 a18 = absurd (a12 refl)
-  last (suc (suc (suc (suc (suc (suc (suc (suc (suc (suc (suc (suc (suc zero))))))))))))) a1 a2 a3 a4 a5 a6 a7 a8 a9 a10 a11 a12 a13 a14 a15 a16 a17 a18 = absurd (a13 refl)
-  last (suc (suc (suc (suc (suc (suc (suc (suc (suc (suc (suc (suc (suc (suc zero)))))))))))))) a1 a2 a3 a4 a5 a6 a7 a8 a9 a10 a11 a12 a13 a14 a15 a16 a17 a18 = absurd (a14 refl)
-  last (suc (suc (suc (suc (suc (suc (suc (suc (suc (suc (suc (suc (suc (suc (suc zero))))))))))))))) a1 a2 a3 a4 a5 a6 a7 a8 a9 a10 a11 a12 a13 a14 a15 a16 a17 a18 = absurd (a15 refl)
-  last (suc (suc (suc (suc (suc (suc (suc (suc (suc (suc (suc (suc (suc (suc (suc (suc zero)))))))))))))))) a1 a2 a3 a4 a5 a6 a7 a8 a9 a10 a11 a12 a13 a14 a15 a16 a17 a18 = absurd (a16 refl)
-  last (suc (suc (suc (suc (suc (suc (suc (suc (suc (suc (suc (suc (suc (suc (suc (suc (suc zero))))))))))))))))) a1 a2 a3 a4 a5 a6 a7 a8 a9 a10 a11 a12 a13 a14 a15 a16 a17 a18 = absurd (a17 refl)
-  last (suc (suc (suc (suc (suc (suc (suc (suc (suc (suc (suc (suc (suc (suc (suc (suc (suc (suc zero)))))))))))))))))) a1 a2 a3 a4 a5 a6 a7 a8 a9 a10 a11 a12 a13 a14 a15 a16 a17 a18 = absurd (a18 refl)
-  last (suc (suc (suc (suc (suc (suc (suc (suc (suc (suc (suc (suc (suc (suc (suc (suc (suc (suc (suc n))))))))))))))))))) a1 a2 a3 a4 a5 a6 a7 a8 a9 a10 a11 a12 a13 a14 a15 a16 a17 a18 = refl
-
-  pub as-last :
-      (o : Outcome) (w : World) (n : ℕ) → (n ≡ 1 → ⊥) → (n ≡ 2 → ⊥) → (n ≡ 3 → ⊥) → (n ≡ 4 → ⊥) → (n ≡ 5 → ⊥) → (n ≡ 6 → ⊥) → (n ≡ 7 → ⊥) → (n ≡ 8 → ⊥) → (n ≡ 9 → ⊥) → (n ≡ 10 → ⊥) → (n ≡ 11 → ⊥) → (n ≡ 12 → ⊥) → (n ≡ 13 → ⊥) → (n ≡ 14 → ⊥) → (n ≡ 15 → ⊥) → (n ≡ 16 → ⊥) → (n ≡ 17 → ⊥) → (n ≡ 18 → ⊥)
-      → o ≡ step w (supplyOf (r .words)) → o ≡ step w (eventNamed n r xs ys bs lent)
-  as-last o w n a1 a2 a3 a4 a5 a6 a7 a8 a9 a10 a11 a12 a13 a14 a15 a16 a17 a18 p = p ∙ ap (step w) (sym (last n a1 a2 a3 a4 a5 a6 a7 a8 a9 a10 a11 a12 a13 a14 a15 a16 a17 a18))
+  -- an event that looks at one slot, and is no wake and no read
+  pub parts : (n : ℕ) → 6 ≤ n → (n ≡ 14 → ⊥) → (n ≡ 15 → ⊥) → (n ≡ 16 → ⊥) → partEvent n r xs ys ≡ eventNamed n r xs ys bs lent
+  parts zero low a b c = absurd (omega (arith, low))
+  parts (suc zero) low a b c = absurd (omega (arith, low))
+  parts (suc (suc zero)) low a b c = absurd (omega (arith, low))
+  parts (suc (suc (suc zero))) low a b c = absurd (omega (arith, low))
+  parts (suc (suc (suc (suc zero)))) low a b c = absurd (omega (arith, low))
+  parts (suc (suc (suc (suc (suc zero))))) low a b c = absurd (omega (arith, low))
+  parts (suc (suc (suc (suc (suc (suc zero)))))) low a b c = refl
+  parts (suc (suc (suc (suc (suc (suc (suc zero))))))) low a b c = refl
+  parts (suc (suc (suc (suc (suc (suc (suc (suc zero)))))))) low a b c = refl
+  parts (suc (suc (suc (suc (suc (suc (suc (suc (suc zero))))))))) low a b c = refl
+  parts (suc (suc (suc (suc (suc (suc (suc (suc (suc (suc zero)))))))))) low a b c = refl
+  parts (suc (suc (suc (suc (suc (suc (suc (suc (suc (suc (suc zero))))))))))) low a b c = refl
+  parts (suc (suc (suc (suc (suc (suc (suc (suc (suc (suc (suc (suc zero)))))))))))) low a b c = refl
+  parts (suc (suc (suc (suc (suc (suc (suc (suc (suc (suc (suc (suc (suc zero))))))))))))) low a b c = refl
+  parts (suc (suc (suc (suc (suc (suc (suc (suc (suc (suc (suc (suc (suc (suc zero)))))))))))))) low a b c = absurd (a refl)
+  parts (suc (suc (suc (suc (suc (suc (suc (suc (suc (suc (suc (suc (suc (suc (suc zero))))))))))))))) low a b c = absurd (b refl)
+  parts (suc (suc (suc (suc (suc (suc (suc (suc (suc (suc (suc (suc (suc (suc (suc (suc zero)))))))))))))))) low a b c = absurd (c refl)
+  parts (suc (suc (suc (suc (suc (suc (suc (suc (suc (suc (suc (suc (suc (suc (suc (suc (suc zero))))))))))))))))) low a b c = refl
+  parts (suc (suc (suc (suc (suc (suc (suc (suc (suc (suc (suc (suc (suc (suc (suc (suc (suc (suc zero)))))))))))))))))) low a b c = refl
+  parts (suc (suc (suc (suc (suc (suc (suc (suc (suc (suc (suc (suc (suc (suc (suc (suc (suc (suc (suc n))))))))))))))))))) low a b c = refl
 
   -- no kind but 16 is a write
   not-write : (n : ℕ) → (n ≡ 16 → ⊥) → isWrite (eventNamed n r xs ys bs lent) ≡ false
@@ -75,16 +73,67 @@ module _ (r : Record) (xs ys bs : List ℕ) (lent : ℕ) where
   not-write (suc (suc (suc (suc (suc (suc (suc (suc (suc (suc (suc (suc (suc (suc (suc (suc (suc (suc zero)))))))))))))))))) a = refl
   not-write (suc (suc (suc (suc (suc (suc (suc (suc (suc (suc (suc (suc (suc (suc (suc (suc (suc (suc (suc n))))))))))))))))))) a = refl
 
--- what a turn promises, of an event
-module _ (w u : World) (l n fx fx' : List ℕ) (k room : ℕ) where
-  abbrev pub Three : Event → Type 0
-  Three e = (u ≡ step w e .world) × ((n ≡ sets l 0 (outcomeBytes (step w e))) × (k ≡ length (outcomeBytes (step w e))))
+-- the last of the host's kinds
+pub five : (n : ℕ) → 0 < n → n < 6 → (n ≡ 1 → ⊥) → (n ≡ 2 → ⊥) → (n ≡ 3 → ⊥) → (n ≡ 4 → ⊥) → n ≡ 5
+five zero low high a b c d = absurd (omega (arith, low))
+five (suc zero) low high a b c d = absurd (a refl)
+five (suc (suc zero)) low high a b c d = absurd (b refl)
+five (suc (suc (suc zero))) low high a b c d = absurd (c refl)
+five (suc (suc (suc (suc zero)))) low high a b c d = absurd (d refl)
+five (suc (suc (suc (suc (suc zero))))) low high a b c d = refl
+five (suc (suc (suc (suc (suc (suc n)))))) low high a b c d = absurd (omega (arith, high))
 
-  abbrev pub Turn : Event → Type 0
-  Turn e = (u ≡ step w e .world) × ((n ≡ sets l 0 (outcomeBytes (step w e))) × ((k ≡ length (outcomeBytes (step w e))) × ((fx' ≡ sets fx 0 (storedBy w e)) × (k ≤ room))))
+-- which kinds look at more than one slot
+module _ (n : ℕ) where
+  whole-by : (x y : Bool) → ltb n 6 ≡ x → eqb n 16 ≡ y → x || y ≡ true → (n ≡ 16 → ⊥) → n < 6
+  whole-by true y ex ey e a = ltb-true n 6 ex
+  whole-by false true ex ey e a = absurd (a (eqb-true n 16 ey))
+  whole-by false false ex ey e a = absurd (omega (arith, ap {B = ℕ} (λ (b : Bool). cond b 1 0) e))
 
-  pub with-words : (e e' : Event) → e ≡ e' → Three e → fx' ≡ sets fx 0 (storedBy w e) → k ≤ room → Turn e'
-  with-words e e' p t f m = subst Turn p (t .0, (t .1 .0, (t .1 .1, (f, m))))
+  pub whole-low : isWhole n ≡ true → (n ≡ 16 → ⊥) → n < 6
+  whole-low e a = whole-by (ltb n 6) (eqb n 16) refl refl e a
+
+  part-by : (x y : Bool) → ltb n 6 ≡ x → eqb n 16 ≡ y → x || y ≡ false → (6 ≤ n) × (n ≡ 16 → ⊥)
+  part-by true y ex ey e = absurd (omega (arith, ap {B = ℕ} (λ (b : Bool). cond b 1 0) e))
+  part-by false true ex ey e = absurd (omega (arith, ap {B = ℕ} (λ (b : Bool). cond b 1 0) e))
+  part-by false false ex ey e = (ltb-false n 6 ex, λ q. omega (arith, ap {B = ℕ} (λ (b : Bool). cond b 1 0) (sym (eq-eqb n 16 q) ∙ ey)))
+
+  pub part-high : isWhole n ≡ false → (6 ≤ n) × (n ≡ 16 → ⊥)
+  part-high e = part-by (ltb n 6) (eqb n 16) refl refl e
+
+pub whole-is : (n : ℕ) (x y : Bool) → ltb n 6 ≡ x → eqb n 16 ≡ y → x || y ≡ isWhole n
+whole-is n x y ex ey = ap₂ (λ (a b : Bool). a || b) (sym ex) (sym ey)
+
+-- what is told of an event at its slot
+module _ (s : State) (p u : Part) (g : Holds) (w : World) (ws out out' : List ℕ) (used : ℕ) (r : Record) (xs ys bs : List ℕ) (lent : ℕ) where
+  abbrev At : ℕ → Event → Type 0
+  At n e = Stands s n p → Told w (world (leaves s n u g) ws) e out out' used
+
+  pub as-turn : (k n : ℕ) → k ≡ n → At (placeOf n r xs (p .head)) (eventNamed n r xs ys bs lent) → At (placeOf k r xs (p .head)) (eventNamed k r xs ys bs lent)
+  as-turn k n e f = subst (λ (m : ℕ). At (placeOf m r xs (p .head)) (eventNamed m r xs ys bs lent)) (sym e) f
+
+  pub as-part : (k n : ℕ) (e : Event) → partEvent k r xs ys ≡ e → At n (partEvent k r xs ys) → At n e
+  as-part k n e q f = subst (At n) q f
+
+pub told-of : (w u : World) (e e' : Event) (out out' : List ℕ) (used : ℕ) → e ≡ e' → Told w u e out out' used → Told w u e' out out' used
+told-of w u e e' out out' used q t = subst (λ (x : Event). Told w u x out out' used) q t
+
+pub stored-of : (w : World) (e e' : Event) (fx fx' : List ℕ) → e ≡ e' → fx' ≡ sets fx 0 (storedBy w e) → fx' ≡ sets fx 0 (storedBy w e')
+stored-of w e e' fx fx' q t = subst (λ (x : Event). fx' ≡ sets fx 0 (storedBy w x)) q t
+
+-- a kind is there
+both : (a b : Bool) → a && b ≡ true → a ≡ true
+both true b e = refl
+both false b e = absurd (omega (arith, ap {B = ℕ} (λ (x : Bool). cond x 1 0) e))
+
+counts : (b : Bool) (n : ℕ) → 0 < cond b n 0 → b ≡ true
+counts true n h = refl
+counts false n h = absurd (omega (arith, h))
+
+pub kind-there : (bs : List ℕ) (r : Record) → r ≡ recordOf bs → 0 < nextOf bs → 0 < r .kind
+kind-there bs r e h =
+    subst (λ (x : Record). 0 < x .kind) (sym e)
+    (omega (arith, leb-true 1 (recordOf bs .kind) (both (leb 1 (recordOf bs .kind)) _ (counts (isEvent (recordOf bs) (length bs)) (sizeOf (recordOf bs)) h))))
 
 -- the event of a record at the start of bytes
 module _ (rec : List ℕ) (lent : ℕ) (r : Record) (is : r ≡ recordOf rec) where
@@ -97,12 +146,6 @@ module _ (rec : List ℕ) (lent : ℕ) (r : Record) (is : r ≡ recordOf rec) wh
       p
       ∙ ap (λ (j : ℕ). eventNamed j r (wordsAt rec (firstAt r) (r .first)) (wordsAt rec (secondAt r) (r .second)) (take (tailOf r) (drop (tailAt r) rec)) lent) (sym ek)
       ∙ ap at-record is
-
-  pub wake-is : r .kind ≡ 14 → wakeIn r ≡ eventAt lent rec
-  wake-is e = by-kind 14 (wakeIn r) e refl
-
-  pub read-is : r .kind ≡ 15 → readIn r ≡ eventAt lent rec
-  read-is e = by-kind 15 (readIn r) e refl
 
   pub write-is : r .kind ≡ 16 → writeIn r rec lent ≡ eventAt lent rec
   write-is e = by-kind 16 (writeIn r rec lent) e refl
@@ -120,17 +163,16 @@ pub tail-there : (bs : List ℕ) (r : Record) → r ≡ recordOf bs → 0 < next
 tail-there bs r e h = subst (λ (x : Record). tailAt x + tailOf x ≤ length bs) (sym e) (all-there bs h)
 
 -- the room that a turn may take
-module _ (bs : List ℕ) (r : Record) (k : ℕ) (is : r ≡ recordOf bs) where
-  in-room : k ≤ roomOf r → k ≤ roomOf (recordOf bs)
-  in-room h = subst (λ (x : Record). k ≤ roomOf x) is h
+module _ (r : Record) (k : ℕ) where
+  pub room-other : k ≤ 192 → k ≤ roomOf r
+  room-other h = omega (arith, h)
 
-  pub room-other : k ≤ 192 → k ≤ roomOf (recordOf bs)
-  room-other h = in-room (omega (arith, h))
+  pub room-write : k ≤ 192 + 27 * tailOf r → k ≤ roomOf r
+  room-write h = omega (arith, h)
 
-  pub room-write : k ≤ 192 + 27 * tailOf r → k ≤ roomOf (recordOf bs)
-  room-write h = in-room (omega (arith, h))
-
-  pub room-read : r .kind ≡ 15 → k ≤ 192 + min (r .words .0) 8192 → k ≤ roomOf (recordOf bs)
+  pub room-read : r .kind ≡ 15 → k ≤ 192 + min (r .words .0) 8192 → k ≤ roomOf r
   room-read e h =
-      in-room
-      (subst (λ (b : Bool). k ≤ 192 + cond b (min (r .words .0) 8192) 0 + 27 * tailOf r) (sym (eq-eqb (r .kind) 15 e)) (let z : k ≤ 192 + min (r .words .0) 8192 + 27 * tailOf r = omega (arith, h) in z))
+      subst (λ (b : Bool). k ≤ 192 + cond b (min (r .words .0) 8192) 0 + 27 * tailOf r) (sym (eq-eqb (r .kind) 15 e)) (let z : k ≤ 192 + min (r .words .0) 8192 + 27 * tailOf r = omega (arith, h) in z)
+
+pub room-of : (bs : List ℕ) (r : Record) (k : ℕ) → r ≡ recordOf bs → k ≤ roomOf r → k ≤ roomOf (recordOf bs)
+room-of bs r k is h = subst (λ (x : Record). k ≤ roomOf x) is h

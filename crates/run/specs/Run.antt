@@ -1,8 +1,9 @@
 -- A run as bytes: decoded to events (crate record), run as `Run` of crate events has it, and told in bytes (crate outcome_bytes).
 use Prim.Native.Nat.{ℕ, _-_, min}
-use mathlib.Core.Bool.{cond}
+use mathlib.Core.Path.{_≡_}
+use mathlib.Core.Bool.{Bool, cond, _||_}
 use mathlib.Core.List.{List, [], _∷_, _++_}
-use lib.Dec.{eqb, leb}
+use lib.Dec.{eqb, leb, ltb}
 use lib.ListN.{length, take, drop, replicate}
 use lib.Seq.{sets}
 use Rattle.events.specs.World.{World}
@@ -37,6 +38,14 @@ readIn r = read (r .words .0) (r .number)
 
 abbrev pub writeIn : Record → List ℕ → ℕ → Event
 writeIn r bs lent = write (min (r .words .0) lent) (take (tailOf r) (drop (tailAt r) bs))
+
+-- the host's events and the write look at more than one slot
+abbrev pub isWhole : ℕ → Bool
+isWhole kind = ltb kind 6 || eqb kind 16
+
+-- what a turn leaves, told of the world that it found: the world, the output from its start on, and how much of it was used
+abbrev pub Told : World → World → Event → List ℕ → List ℕ → ℕ → Type 0
+Told w u e out out' used = (u ≡ step w e .world) × ((out' ≡ sets out 0 (outcomeBytes (step w e))) × (used ≡ length (outcomeBytes (step w e))))
 
 -- the other events, with their lists
 abbrev pub listIn : ℕ → Record → List ℕ → List ℕ → ℕ → Event

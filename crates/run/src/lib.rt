@@ -1,26 +1,36 @@
 // A run as one function: events as bytes in, what each answered and the state at the end as bytes out.
 use answer_words::Step;
+use handles::Handles;
+use holds::Holds;
 use ids::Tag;
+use part::Part;
 use record::Record;
-use schemev2::Args;
+use state::Driver;
 use state::State;
+use table::Table;
+use wait_queue::WaitQueue;
 ghost use mathlib.Core.Path.{_≡_};
 ghost use mathlib.Core.List.{List};
-ghost use Prim.Native.Nat.{ℕ, _+_, _-_, _*_, _≤_, _<_, min};
-ghost use mathlib.Core.Bool.{cond};
+ghost use Prim.Native.Nat.{ℕ, _+_, _-_, _*_, _%_, _≤_, _<_, min};
+ghost use mathlib.Core.Bool.{true, false, cond};
 ghost use lib.Dec.{eqb};
-ghost use lib.ListN.{length};
+ghost use lib.ListN.{length, take};
 ghost use lib.Seq.{sets};
 ghost use Rattle.answer_words.specs.Words.{answerOf};
 ghost use Rattle.effect.specs.Effect.{effectWords};
+ghost use Rattle.holds.specs.declared.Holds.{Holds as Counts};
+ghost use Rattle.holds.specs.Holds.{holdsWith};
+ghost use Rattle.state.specs.declared.State.{State as World};
+ghost use Rattle.part.specs.Part.{Stands, found, leaves};
+ghost use Rattle.part_step.specs.PartStep.{placeOf, partEvent};
 ghost use Rattle.events.specs.World.{world};
 ghost use Rattle.events.specs.Outcome.{outcome};
 ghost use Rattle.events.specs.Event.{step};
 ghost use Rattle.events.specs.Whole.{Whole};
 ghost use Rattle.outcome_bytes.specs.Output.{outcomeBytes};
-ghost use Rattle.record.specs.Record.{recordOf, tailAt, tailOf, nextOf, eventNamed, eventAt};
+ghost use Rattle.record.specs.Record.{recordOf, firstAt, secondAt, tailAt, tailOf, wordsAt, nextOf, eventNamed, eventAt};
 ghost use Rattle.run_room.specs.Room.{roomOf, needed};
-ghost use Rattle.run.specs.Run.{wakeIn, readIn, writeIn, listIn, storedBy, runOf, outputOf, lentAfter, wholeEnd, endOf, outAfter, fxAfter};
+ghost use Rattle.run.specs.Run.{isWhole, Told, wakeIn, readIn, writeIn, storedBy, runOf, outputOf, lentAfter, wholeEnd, endOf, outAfter, fxAfter};
 
 // The run's own answer: 0, 204 or 205, the place of the record that is no event, and how many bytes were written.
 #[repr(C)]
@@ -31,109 +41,138 @@ pub struct RunEnd {
 }
 
 struct Turned {
+    part: Part,
+    used: usize,
+}
+
+struct WholeTurned {
     state: State,
     used: usize,
 }
 
-// The events of at most one effect but the wake; a kind that is none is not asked for.
-fn one_effect(
-    kind: u8,
-    s: State,
+fn wake_turn(
+    p: Part,
+    outside: &mut [u16; 64],
     words: &mut [u64; 1024],
     r: Record,
-    first: &[u64],
-    second: &[u64],
-) -> Step
-    requires { ⌜ ((kind ≡ 14 → ⊥) × ((kind ≡ 15 → ⊥) × (kind ≡ 16 → ⊥))) ⌝ }
-    ensures { λ o. ⌜ ((bs : List ℕ) (lent : ℕ) → outcome (answerOf (o .answer)) (effectWords (o .effect)) (world (o .state) (now (words .exit))) ≡ step (world s (now (words .entry))) (eventNamed kind r (now (first .entry)) (now (second .entry)) bs lent)) ⌝ }
-{
-    let a = r.words;
-    let c = r.number;
-    match kind {
-        1 => host_step::open(s, a.0),
-        2 => host_step::copy(s, a.0),
-        3 => host_step::drop(s, a.0),
-        4 => host_step::put(s, a.0, a.1),
-        5 => host_step::ended(s, c),
-        6 => submit_step::next_id(s, c),
-        7 => submit_step::submit(
-            s,
-            words,
-            Tag(a.0),
-            c,
-            a.1,
-            r.flags,
-            Args(a.2, a.3, a.4, a.5, a.6, a.7),
-            a.8,
-            first,
-        ),
-        8 => submit_step::call(
-            s,
-            words,
-            c,
-            a.0,
-            Args(a.1, a.2, a.3, a.4, a.5, a.6),
-            r.uid,
-            r.gid,
-            a.7,
-            first,
-        ),
-        9 => submit_step::call_generic(s, words, c, a.0, first, a.1, a.2, second),
-        10 => submit_step::translate_std_fs_call(s, words, c, a.0, first, a.1, a.2, second),
-        11 => submit_step::request_fmap(s, words, c, a.0, a.1, a.2, r.uid, r.gid, a.3),
-        12 => submit_step::close(s, words, a.0),
-        13 => submit_step::detach(s, words, a.0, a.1),
-        17 => driver_step::call_fdwrite(s, first, second),
-        18 => driver_step::call_fdread(s, first),
-        _ => driver_step::provide_mmap(s, Tag(a.0), a.1, a.2, a.3),
-    }
-}
-
-// So many bytes are unread.
-fn unread_bytes(s: State) -> usize
-    ensures { λ r. ⌜ r ≡ s .driver .queue .len * 64 ⌝ }
-{
-    let d = s.driver;
-    let q = d.queue;
-    q.len as usize * 64
-}
-
-fn wake_turn(s: State, words: &mut [u64; 1024], r: Record, out: &mut [u8]) -> Turned
-    ensures { λ o. ⌜ world (o .state) (now (words .exit)) ≡ step (world s (now (words .entry))) (wakeIn r) .world ⌝ }
-    ensures { λ o. ⌜ now (out .exit) ≡ sets (now (out .entry)) 0 (outcomeBytes (step (world s (now (words .entry))) (wakeIn r))) ⌝ }
-    ensures { λ o. ⌜ o .used ≡ length (outcomeBytes (step (world s (now (words .entry))) (wakeIn r))) ⌝ }
+    out: &mut [u8],
+) -> Turned
+    ensures { λ o. ⌜ ((s : World) (all : List ℕ) → length (now (outside .entry)) ≡ 64 → Stands s (r .words .0 % 64) p → Told (world (found s p (holdsWith all (now (outside .entry)))) (now (words .entry))) (world (leaves s (r .words .0 % 64) (o .part) (holdsWith all (now (outside .exit)))) (now (words .exit))) (wakeIn r) (now (out .entry)) (now (out .exit)) (o .used)) ⌝ }
     ensures { λ o. ⌜ o .used ≤ 192 ⌝ }
 {
     let a = r.words;
-    let o = driver_step::wake(s, words, Tag(a.0), r.number, a.1, a.2, a.3);
+    let o = driver_step::wake(p, outside, words, Tag(a.0), r.number, a.1, a.2, a.3);
     let answer = o.answer;
     let reply = o.reply;
     let fds = o.fds;
     let fx = o.effect;
-    let after = o.state;
+    let after = o.part;
     let used = outcome_bytes::put_woken(out, answer, reply, fds, fx);
     Turned {
-        state: after,
+        part: after,
         used: used,
     }
 }
 
 // Into the first of the bytes lent: no more than 8,192 are ever unread.
-fn read_turn(s: State, words: &[u64; 1024], r: Record, buf: &mut [u8], out: &mut [u8]) -> Turned
-    requires { ⌜ Whole (world s (now words)) × (8192 ≤ length (now buf)) ⌝ }
-    ensures { λ o. ⌜ world (o .state) (now (words .entry)) ≡ step (world s (now (words .entry))) (readIn r) .world ⌝ }
-    ensures { λ o. ⌜ now (out .exit) ≡ sets (now (out .entry)) 0 (outcomeBytes (step (world s (now (words .entry))) (readIn r))) ⌝ }
-    ensures { λ o. ⌜ o .used ≡ length (outcomeBytes (step (world s (now (words .entry))) (readIn r))) ⌝ }
+fn read_turn(p: Part, words: &[u64; 1024], r: Record, buf: &mut [u8], out: &mut [u8]) -> Turned
+    requires { ⌜ 8192 ≤ length (now buf) ⌝ }
+    ensures { λ o. ⌜ ((s : World) (n : ℕ) (h : Counts) → Whole (world (found s p h) (now (words .entry))) → Stands s n p → Told (world (found s p h) (now (words .entry))) (world (leaves s n (o .part) h) (now (words .entry))) (readIn r) (now (out .entry)) (now (out .exit)) (o .used)) ⌝ }
     ensures { λ o. ⌜ o .used ≤ 192 + min (r .words .0) 8192 ⌝ }
 {
     let a = r.words;
+    let q = p.queue;
     let n = run_room::least(a.0, 8192);
-    let k = run_room::least(n as u64, unread_bytes(s));
-    let o = driver_step::read(s, words, &mut buf[..n], r.number);
+    let k = run_room::least(n as u64, q.len as usize * 64);
+    let o = driver_step::read(p, words, &mut buf[..n], r.number);
     let answer = o.answer;
-    let after = o.state;
+    let after = o.part;
     let used = lent_bytes::put_received(out, answer, &buf[..k]);
     Turned {
+        part: after,
+        used: used,
+    }
+}
+
+// An event of at most one effect but the wake, with its lists.
+fn list_turn(
+    p: Part,
+    all: &mut [u16; 64],
+    outside: &mut [u16; 64],
+    words: &mut [u64; 1024],
+    r: Record,
+    first: &[u64],
+    second: &[u64],
+    out: &mut [u8],
+) -> Turned
+    ensures { λ o. ⌜ ((s : World) → Stands s (placeOf (r .kind) r (now (first .entry)) (p .head)) p → Told (world (found s p (holdsWith (now (all .entry)) (now (outside .entry)))) (now (words .entry))) (world (leaves s (placeOf (r .kind) r (now (first .entry)) (p .head)) (o .part) (holdsWith (now (all .exit)) (now (outside .exit)))) (now (words .exit))) (partEvent (r .kind) r (now (first .entry)) (now (second .entry))) (now (out .entry)) (now (out .exit)) (o .used)) ⌝ }
+    ensures { λ o. ⌜ o .used ≤ 192 ⌝ }
+{
+    let o = part_step::one_effect(p, all, outside, words, r, first, second);
+    let answer = o.answer;
+    let fx = o.effect;
+    let after = o.part;
+    let used = outcome_bytes::put_step(out, answer, fx);
+    Turned {
+        part: after,
+        used: used,
+    }
+}
+
+// An event on its part. Its lists stand in the first of the words lent for them.
+fn turn(
+    p: Part,
+    all: &mut [u16; 64],
+    outside: &mut [u16; 64],
+    words: &mut [u64; 1024],
+    r: Record,
+    buf: &mut [u8],
+    first: &[u64],
+    second: &[u64],
+    out: &mut [u8],
+) -> Turned
+    requires { ⌜ (isWhole (r .kind) ≡ false) × ((8192 ≤ length (now buf)) × ((255 ≤ length (now first)) × (255 ≤ length (now second)))) ⌝ }
+    ensures { λ o. ⌜ ((s : World) (bs : List ℕ) (lent : ℕ) → Whole (world (found s p (holdsWith (now (all .entry)) (now (outside .entry)))) (now (words .entry))) → length (now (outside .entry)) ≡ 64 → Stands s (placeOf (r .kind) r (take (r .first) (now (first .entry))) (p .head)) p → Told (world (found s p (holdsWith (now (all .entry)) (now (outside .entry)))) (now (words .entry))) (world (leaves s (placeOf (r .kind) r (take (r .first) (now (first .entry))) (p .head)) (o .part) (holdsWith (now (all .exit)) (now (outside .exit)))) (now (words .exit))) (eventNamed (r .kind) r (take (r .first) (now (first .entry))) (take (r .second) (now (second .entry))) bs lent) (now (out .entry)) (now (out .exit)) (o .used)) ⌝ }
+    ensures { λ o. ⌜ o .used ≤ roomOf r ⌝ }
+{
+    let kind = r.kind;
+    if kind == 14 {
+        return wake_turn(p, outside, words, r, out);
+    }
+    if kind == 15 {
+        return read_turn(p, words, r, buf, out);
+    }
+    let n = r.first as usize;
+    let m = r.second as usize;
+    list_turn(p, all, outside, words, r, &first[..n], &second[..m], out)
+}
+
+// The host's events; a kind that is none is not asked for.
+fn host_event(kind: u8, s: State, r: Record) -> Step
+    requires { ⌜ (0 < kind) × (kind < 6) ⌝ }
+    ensures { λ o. ⌜ ((xs ys bs ws : List ℕ) (lent : ℕ) → outcome (answerOf (o .answer)) (effectWords (o .effect)) (world (o .state) ws) ≡ step (world s ws) (eventNamed kind r xs ys bs lent)) ⌝ }
+{
+    let a = r.words;
+    match kind {
+        1 => host_step::open(s, a.0),
+        2 => host_step::copy(s, a.0),
+        3 => host_step::drop(s, a.0),
+        4 => host_step::put(s, a.0, a.1),
+        _ => host_step::ended(s, r.number),
+    }
+}
+
+fn host_turn(kind: u8, s: State, r: Record, out: &mut [u8]) -> WholeTurned
+    requires { ⌜ (0 < kind) × (kind < 6) ⌝ }
+    ensures { λ o. ⌜ ((xs ys bs ws : List ℕ) (lent : ℕ) → Told (world s ws) (world (o .state) ws) (eventNamed kind r xs ys bs lent) (now (out .entry)) (now (out .exit)) (o .used)) ⌝ }
+    ensures { λ o. ⌜ o .used ≤ 192 ⌝ }
+{
+    let o = host_event(kind, s, r);
+    let answer = o.answer;
+    let fx = o.effect;
+    let after = o.state;
+    let used = outcome_bytes::put_step(out, answer, fx);
+    WholeTurned {
         state: after,
         used: used,
     }
@@ -147,7 +186,7 @@ fn write_turn(
     r: Record,
     fx: &mut [u64],
     out: &mut [u8],
-) -> Turned
+) -> WholeTurned
     requires { ⌜ Whole (world s (now words)) × (tailAt r + tailOf r ≤ length (now rec)) ⌝ }
     ensures { λ o. ⌜ world (o .state) (now (words .entry)) ≡ step (world s (now (words .entry))) (writeIn r (now (rec .entry)) (length (now (fx .entry)))) .world ⌝ }
     ensures { λ o. ⌜ now (out .exit) ≡ sets (now (out .entry)) 0 (outcomeBytes (step (world s (now (words .entry))) (writeIn r (now (rec .entry)) (length (now (fx .entry)))))) ⌝ }
@@ -164,72 +203,54 @@ fn write_turn(
     let answer = o.answer;
     let after = o.state;
     let used = lent_bytes::put_completed(out, answer, &fx[..m]);
-    Turned {
+    WholeTurned {
         state: after,
         used: used,
     }
 }
 
-// An event of at most one effect but the wake, with its lists.
-fn list_turn(
-    kind: u8,
+// An event on the whole state: the host's, or a write. It leaves the queue's words as they are.
+fn whole_turn(
     s: State,
-    words: &mut [u64; 1024],
+    words: &[u64; 1024],
     rec: &[u8],
     r: Record,
-    first: &mut [u64],
-    second: &mut [u64],
+    fx: &mut [u64],
     out: &mut [u8],
-) -> Turned
-    requires { ⌜ ((kind ≡ 14 → ⊥) × ((kind ≡ 15 → ⊥) × (kind ≡ 16 → ⊥))) × ((255 ≤ length (now first)) × (255 ≤ length (now second))) ⌝ }
-    ensures { λ o. ⌜ ((bs : List ℕ) (lent : ℕ) → (world (o .state) (now (words .exit)) ≡ step (world s (now (words .entry))) (listIn kind r (now (rec .entry)) bs lent) .world) × ((now (out .exit) ≡ sets (now (out .entry)) 0 (outcomeBytes (step (world s (now (words .entry))) (listIn kind r (now (rec .entry)) bs lent)))) × (o .used ≡ length (outcomeBytes (step (world s (now (words .entry))) (listIn kind r (now (rec .entry)) bs lent)))))) ⌝ }
-    ensures { λ o. ⌜ o .used ≤ 192 ⌝ }
+) -> WholeTurned
+    requires { ⌜ Whole (world s (now words)) × ((0 < nextOf (now rec)) × ((r ≡ recordOf (now rec)) × (isWhole (r .kind) ≡ true))) ⌝ }
+    ensures { λ o. ⌜ Told (world s (now (words .entry))) (world (o .state) (now (words .entry))) (eventAt (length (now (fx .entry))) (now (rec .entry))) (now (out .entry)) (now (out .exit)) (o .used) ⌝ }
+    ensures { λ o. ⌜ now (fx .exit) ≡ sets (now (fx .entry)) 0 (storedBy (world s (now (words .entry))) (eventAt (length (now (fx .entry))) (now (rec .entry)))) ⌝ }
+    ensures { λ o. ⌜ o .used ≤ roomOf (recordOf (now (rec .entry))) ⌝ }
+{
+    let kind = r.kind;
+    if kind == 16 {
+        return write_turn(s, words, rec, r, fx, out);
+    }
+    host_turn(kind, s, r, out)
+}
+
+// The lists of a record, into the words lent for them, and the slot that its event looks at.
+fn find(rec: &[u8], r: Record, head: u8, first: &mut [u64], second: &mut [u64]) -> usize
+    requires { ⌜ (255 ≤ length (now first)) × (255 ≤ length (now second)) ⌝ }
+    ensures { λ o. ⌜ (o ≡ placeOf (r .kind) r (wordsAt (now (rec .entry)) (firstAt r) (r .first)) head) × (o < 64) ⌝ }
+    ensures { λ o. ⌜ now (first .exit) ≡ sets (now (first .entry)) 0 (wordsAt (now (rec .entry)) (firstAt r) (r .first)) ⌝ }
+    ensures { λ o. ⌜ now (second .exit) ≡ sets (now (second .entry)) 0 (wordsAt (now (rec .entry)) (secondAt r) (r .second)) ⌝ }
 {
     record::first_list(rec, r, first);
     record::second_list(rec, r, second);
     let n = r.first as usize;
-    let m = r.second as usize;
-    let o = one_effect(kind, s, words, r, &first[..n], &second[..m]);
-    let answer = o.answer;
-    let fx = o.effect;
-    let after = o.state;
-    let used = outcome_bytes::put_step(out, answer, fx);
-    Turned {
-        state: after,
-        used: used,
-    }
+    part_step::place(r, &first[..n], head)
 }
 
-// The event at the start of `rec`.
-fn turn(
-    s: State,
-    words: &mut [u64; 1024],
-    rec: &[u8],
-    fx: &mut [u64],
-    buf: &mut [u8],
-    first: &mut [u64],
-    second: &mut [u64],
-    out: &mut [u8],
-) -> Turned
-    requires { ⌜ Whole (world s (now words)) × ((0 < nextOf (now rec)) × ((8192 ≤ length (now buf)) × ((255 ≤ length (now first)) × (255 ≤ length (now second))))) ⌝ }
-    ensures { λ o. ⌜ world (o .state) (now (words .exit)) ≡ step (world s (now (words .entry))) (eventAt (length (now (fx .entry))) (now (rec .entry))) .world ⌝ }
-    ensures { λ o. ⌜ now (out .exit) ≡ sets (now (out .entry)) 0 (outcomeBytes (step (world s (now (words .entry))) (eventAt (length (now (fx .entry))) (now (rec .entry))))) ⌝ }
-    ensures { λ o. ⌜ o .used ≡ length (outcomeBytes (step (world s (now (words .entry))) (eventAt (length (now (fx .entry))) (now (rec .entry))))) ⌝ }
-    ensures { λ o. ⌜ now (fx .exit) ≡ sets (now (fx .entry)) 0 (storedBy (world s (now (words .entry))) (eventAt (length (now (fx .entry))) (now (rec .entry)))) ⌝ }
-    ensures { λ o. ⌜ o .used ≤ roomOf (recordOf (now (rec .entry))) ⌝ }
+// The host's events and the write look at more than one slot.
+fn is_whole(kind: u8) -> bool
+    ensures { λ r. ⌜ r ≡ isWhole kind ⌝ }
 {
-    let r = record::record_at(rec);
-    let kind = r.kind;
-    if kind == 14 {
-        return wake_turn(s, words, r, out);
+    if kind < 6 {
+        return true;
     }
-    if kind == 15 {
-        return read_turn(s, words, r, buf, out);
-    }
-    if kind == 16 {
-        return write_turn(s, words, rec, r, fx, out);
-    }
-    list_turn(kind, s, words, rec, r, first, second, out)
+    kind == 16
 }
 
 // 205 for a record that is no event.
@@ -253,27 +274,100 @@ fn run_all(scheme: u64, events: &[u8], out: &mut [u8], fx: &mut [u64]) -> RunEnd
     let mut buf = [0; 8192];
     let mut first = [0; 255];
     let mut second = [0; 255];
-    let mut s = state::fresh(scheme);
+    let fresh = table::fresh();
+    let mut slots = fresh.slots;
+    let mut next = fresh.next;
+    let mut head = fresh.head;
+    let mut all = [0; 64];
+    let mut outside = [0; 64];
+    let mut handles = Handles { at: [0; 64] };
+    let mut queue = WaitQueue { first: 0, len: 0 };
     let mut at = 0;
     let mut j = 0;
     let mut size = record_next::next(events);
     while size != 0 {
+        let r = record::record_at(&events[at..]);
+        if is_whole(r.kind) {
+            let s = State {
+                driver: Driver {
+                    scheme: scheme,
+                    handles: handles,
+                    queue: queue,
+                },
+                table: Table {
+                    slots: slots,
+                    next: next,
+                    head: head,
+                    holds: Holds {
+                        holds: all,
+                        outside: outside,
+                    },
+                },
+            };
+            let t = whole_turn(s, &words, &events[at..], r, fx, &mut out[j..]);
+            let after = t.state;
+            let table = after.table;
+            let driver = after.driver;
+            let holds = table.holds;
+            slots = table.slots;
+            next = table.next;
+            head = table.head;
+            all = holds.holds;
+            outside = holds.outside;
+            handles = driver.handles;
+            queue = driver.queue;
+            j += t.used;
+            at += size;
+            size = record_next::next(&events[at..]);
+            continue;
+        }
+        let n = find(&events[at..], r, head, &mut first, &mut second);
+        let v = slots[n];
+        let p = Part {
+            slot: v,
+            next: next[n],
+            head: head,
+            queue: queue,
+            scheme: scheme,
+        };
         let t = turn(
-            s,
+            p,
+            &mut all,
+            &mut outside,
             &mut words,
-            &events[at..],
-            fx,
+            r,
             &mut buf,
-            &mut first,
-            &mut second,
+            &first,
+            &second,
             &mut out[j..],
         );
-        let after = t.state;
-        s = after;
+        let u = t.part;
+        let w = u.slot;
+        let longer = u.queue;
+        slots[n] = w;
+        next[n] = u.next;
+        head = u.head;
+        queue = longer;
         j += t.used;
         at += size;
         size = record_next::next(&events[at..]);
     }
+    let s = State {
+        driver: Driver {
+            scheme: scheme,
+            handles: handles,
+            queue: queue,
+        },
+        table: Table {
+            slots: slots,
+            next: next,
+            head: head,
+            holds: Holds {
+                holds: all,
+                outside: outside,
+            },
+        },
+    };
     state_bytes::put_state(&mut out[j..], s);
     RunEnd {
         number: number_at(at, events.len()),

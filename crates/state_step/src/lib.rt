@@ -101,8 +101,7 @@ struct WokenPart {
 // Nothing but what is known of the counts: there are 64.
 fn known(h: Holds)
     ensures { λ r. ⌜ length (h .outside) ≡ 64 ⌝ }
-{
-}
+{}
 
 fn wake_part(
     p: Part,

@@ -2,14 +2,13 @@
 use borrow.Author.Needs.{needs}
 use Rattle.run.proofs.turn.Statement.{statement}
 use Rattle.run.proofs.turn.Tie as tie
-use mathlib.Core.Path.{refl}
-use lib.ListN.{length, take, drop}
-use Rattle.events.specs.World.{world}
-use Rattle.record.specs.Record.{tailAt, tailOf}
-use Rattle.run.proofs.ByKind.{with-words, wake-is, read-is, write-is, list-is, list-stores, tail-there, room-other, room-read, room-write}
-
-record-at-requires : tie.Need-record-at-requires
-record-at-requires c κs = search needs
+use Prim.Native.Nat.{_%_, _<_}
+use native.Mathlib.Omega.{arith}
+use lib.ListN.{take}
+use Rattle.holds.specs.Holds.{holdsWith}
+use Rattle.part_step.specs.PartStep.{placeOf}
+use Rattle.run.proofs.Turns.{front-length}
+use Rattle.run.proofs.ByKind.{as-turn, as-part, parts, part-high, room-other, room-read}
 
 wake-turn-requires : tie.Need-wake-turn-requires
 wake-turn-requires c κs = search needs
@@ -18,7 +17,7 @@ same-length : tie.Need-same-length
 same-length c = search needs
 
 returns : tie.Need-returns
-returns c = let c2 = c .before .before in let c5 = c2 .before .before .before in let c6 = c5 .before in let c13 = c6 .before .before .before .before .before .before .before in with-words (world (c13 .args .s) (c13 .args .words .now)) _ (c13 .args .out .now) _ (c13 .args .fx .now) _ _ _ _ _ (wake-is (c13 .args .rec .now) (length (c13 .args .fx .now)) (c6 .record-at .result) (c6 .record-at .ensures) (c5 .if1 .taken)) (c2 .wake-turn .ensures .0, (c2 .wake-turn .ensures .1 .0, c2 .wake-turn .ensures .1 .1 .0)) refl (room-other (c13 .args .rec .now) (c6 .record-at .result) _ (c6 .record-at .ensures) (c2 .wake-turn .ensures .1 .1 .1))
+returns c = let a = c .before .before .before .before .before .before .before .before .before .before .before .args in (λ s bs lent whole long. as-turn s (a .p) (c .before .before .wake-turn .result .part) _ _ _ _ _ _ (a .r) (take (a .r .first) (a .first .now)) (take (a .r .second) (a .second .now)) bs lent (a .r .kind) 14 (c .before .before .before .before .before .before .if1 .taken) (c .before .before .wake-turn .ensures .0 s (a .all .now) long), room-other (a .r) _ (c .before .before .wake-turn .ensures .1))
 
 read-turn-requires : tie.Need-read-turn-requires
 read-turn-requires c κs = search needs
@@ -30,40 +29,33 @@ same-length-3 : tie.Need-same-length-3
 same-length-3 c = search needs
 
 returns-2 : tie.Need-returns-2
-returns-2 c = let c4 = c .before .before .before .before in let c8 = c4 .before .before .before .before in let c10 = c8 .before .before in let c17 = c10 .before .before .before .before .before .before .before in with-words (world (c17 .args .s) (c17 .args .words .now)) _ (c17 .args .out .now) _ (c17 .args .fx .now) _ _ _ _ _ (read-is (c17 .args .rec .now) (length (c17 .args .fx .now)) (c10 .record-at .result) (c10 .record-at .ensures) (c8 .if2 .taken)) (c4 .read-turn .ensures .0, (c4 .read-turn .ensures .1 .0, c4 .read-turn .ensures .1 .1 .0)) refl (room-read (c17 .args .rec .now) (c10 .record-at .result) _ (c10 .record-at .ensures) (c8 .if2 .taken) (c4 .read-turn .ensures .1 .1 .1))
+returns-2 c = let a = c .before .before .before .before .before .before .before .before .before .before .before .before .before .before .args in (λ s bs lent whole long. as-turn s (a .p) (c .before .before .before .before .read-turn .result .part) _ _ _ _ _ _ (a .r) (take (a .r .first) (a .first .now)) (take (a .r .second) (a .second .now)) bs lent (a .r .kind) 15 (c .before .before .before .before .before .before .before .before .if2 .taken) (c .before .before .before .before .read-turn .ensures .0 s (a .r .words .0 % 64) (holdsWith (a .all .now) (a .outside .now)) whole), room-read (a .r) _ (c .before .before .before .before .before .before .before .before .if2 .taken) (c .before .before .before .before .read-turn .ensures .1))
 
-write-turn-requires : tie.Need-write-turn-requires
-write-turn-requires c κs = let c6 = c .before .before .before .before .before .before in let c13 = c6 .before .before .before .before .before .before .before in (c13 .pre .0, tail-there (c13 .args .rec .now) (c6 .record-at .result) (c6 .record-at .ensures) (c13 .pre .1 .0))
+cast-n : tie.Need-cast-n
+cast-n c = search needs
 
-same-length-4 : tie.Need-same-length-4
-same-length-4 c = search needs
+cast-m : tie.Need-cast-m
+cast-m c = search needs
 
-same-length-5 : tie.Need-same-length-5
-same-length-5 c = search needs
+slice-aggregate-list-turn : tie.Need-slice-aggregate-list-turn
+slice-aggregate-list-turn c = let a = c .before .before .before .before .before .before .before .before .before .before .before .before .args in front-length (a .first .now) (a .r .first) (let z : a .r .first < 256 = search needs in omega (arith, z, c .before .before .before .before .before .before .before .before .before .before .before .before .pre .1 .1 .0))
 
-returns-3 : tie.Need-returns-3
-returns-3 c = let c4 = c .before .before .before .before in let c8 = c4 .before .before .before .before in let c11 = c8 .before .before .before in let c18 = c11 .before .before .before .before .before .before .before in let e = c4 .write-turn .ensures in with-words (world (c18 .args .s) (c18 .args .words .now)) _ (c18 .args .out .now) _ (c18 .args .fx .now) _ _ _ _ _ (write-is (c18 .args .rec .now) (length (c18 .args .fx .now)) (c11 .record-at .result) (c11 .record-at .ensures) (c8 .if3 .taken)) (e .0, (e .1 .0, e .1 .1 .0)) (e .1 .1 .1 .0) (room-write (c18 .args .rec .now) (c11 .record-at .result) _ (c11 .record-at .ensures) (e .1 .1 .1 .1))
+slice-aggregate-list-turn-2 : tie.Need-slice-aggregate-list-turn-2
+slice-aggregate-list-turn-2 c = let a = c .before .before .before .before .before .before .before .before .before .before .before .before .before .args in front-length (a .second .now) (a .r .second) (let z : a .r .second < 256 = search needs in omega (arith, z, c .before .before .before .before .before .before .before .before .before .before .before .before .before .pre .1 .1 .1))
 
 list-turn-requires : tie.Need-list-turn-requires
 list-turn-requires c κs = search needs
 
-same-length-6 : tie.Need-same-length-6
-same-length-6 c = search needs
+same-length-4 : tie.Need-same-length-4
+same-length-4 c = search needs
 
-same-length-7 : tie.Need-same-length-7
-same-length-7 c = search needs
-
-same-length-8 : tie.Need-same-length-8
-same-length-8 c = search needs
-
-returns-4 : tie.Need-returns-4
-returns-4 c = let c6 = c .before .before .before .before .before .before in let c11 = c6 .before .before .before .before .before in let c14 = c11 .before .before .before in let c21 = c14 .before .before .before .before .before .before .before in let r = c14 .record-at .result in with-words (world (c21 .args .s) (c21 .args .words .now)) _ (c21 .args .out .now) _ (c21 .args .fx .now) _ _ _ _ _ (list-is (c21 .args .rec .now) (length (c21 .args .fx .now)) (c14 .record-at .result) (c14 .record-at .ensures)) (c6 .list-turn .ensures .0 (take (tailOf r) (drop (tailAt r) (c21 .args .rec .now))) (length (c21 .args .fx .now))) (list-stores (c21 .args .rec .now) (length (c21 .args .fx .now)) (c14 .record-at .result) (c14 .record-at .ensures) (world (c21 .args .s) (c21 .args .words .now)) (c21 .args .fx .now) (c11 .if3 .left)) (room-other (c21 .args .rec .now) (c14 .record-at .result) _ (c14 .record-at .ensures) (c6 .list-turn .ensures .1))
+returns-3 : tie.Need-returns-3
+returns-3 c = let a = c .before .before .before .before .before .before .before .before .before .before .before .before .before .before .before .before .before .args in let g = part-high (a .r .kind) (c .before .before .before .before .before .before .before .before .before .before .before .before .before .before .before .before .before .pre .0) in (λ s bs lent whole long. as-part s (a .p) (c .before .before .list-turn .result .part) _ _ _ _ _ _ (a .r) (take (a .r .first) (a .first .now)) (take (a .r .second) (a .second .now)) bs lent (a .r .kind) (placeOf (a .r .kind) (a .r) (take (a .r .first) (a .first .now)) (a .p .head)) _ (parts (a .r) (take (a .r .first) (a .first .now)) (take (a .r .second) (a .second .now)) bs lent (a .r .kind) (g .0) (c .before .before .before .before .before .before .before .before .before .before .before .before .if1 .left) (c .before .before .before .before .before .before .before .before .before .before .before .if2 .left) (g .1)) (c .before .before .list-turn .ensures .0 s), room-other (a .r) _ (c .before .before .list-turn .ensures .1))
 
 pub turn-spec : {M : Type 1} → statement M
 turn-spec =
     tie.close
     (tie.spec
-    record-at-requires
     wake-turn-requires
     same-length
     returns
@@ -71,12 +63,10 @@ turn-spec =
     same-length-2
     same-length-3
     returns-2
-    write-turn-requires
-    same-length-4
-    same-length-5
-    returns-3
+    cast-n
+    cast-m
+    slice-aggregate-list-turn
+    slice-aggregate-list-turn-2
     list-turn-requires
-    same-length-6
-    same-length-7
-    same-length-8
-    returns-4)
+    same-length-4
+    returns-3)

@@ -15,7 +15,7 @@ same-length : tie.Need-same-length
 same-length c = search needs
 
 returns : tie.Need-returns
-returns c = let c2 = c .before .before in let c9 = c2 .before .before .before .before .before .before .before in let c13 = c9 .before .before .before .before in let t = (turned (c13 .args .out .now) _ _ _ _ _ _ _ _ (c9 .wake .ensures) refl refl refl refl (c2 .put-woken .ensures .0, c2 .put-woken .ensures .1 .0)) in (t .0, (t .1 .0, (t .1 .1, c2 .put-woken .ensures .1 .1)))
+returns c = let a = c .before .before .before .before .before .before .before .before .before .before .before .before .before .before .args in (λ s all long st. turned (a .out .now) _ _ _ _ _ _ _ _ (c .before .before .before .before .before .before .before .before .before .wake .ensures s all long st) refl refl refl refl (c .before .before .put-woken .ensures .0, c .before .before .put-woken .ensures .1 .0), c .before .before .put-woken .ensures .1 .1)
 
 pub wake-turn-spec : {M : Type 1} → statement M
 wake-turn-spec = tie.close (tie.spec wake-requires put-woken-requires same-length returns)
