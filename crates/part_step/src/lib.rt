@@ -1,12 +1,13 @@
 // The events of at most one effect that look at one slot, but the wake: which slot a record names, and the event on its part.
 use answer_words::PartStep;
+use holds::Holds;
 use ids::Tag;
 use part::Part;
 use record::Record;
 use schemev2::Args;
 ghost use mathlib.Core.Path.{_≡_};
 ghost use Prim.Native.Nat.{_<_};
-ghost use lib.ListN.{getD};
+ghost use lib.ListN.{getD, length};
 ghost use Rattle.answer_words.specs.Words.{answerOf};
 ghost use Rattle.effect.specs.Effect.{effectWords};
 ghost use Rattle.holds.specs.Holds.{holdsWith};
@@ -16,6 +17,11 @@ ghost use Rattle.events.specs.World.{world};
 ghost use Rattle.events.specs.Outcome.{outcome};
 ghost use Rattle.events.specs.Event.{step};
 ghost use Rattle.part_step.specs.PartStep.{namedOf, placeOf, partEvent};
+
+// Nothing but what is known of hold counts: there are 64.
+pub fn known(h: Holds)
+    ensures { λ r. ⌜ length (h .outside) ≡ 64 ⌝ }
+{}
 
 // The slot that a tag names.
 fn place_of(tag: u64) -> usize

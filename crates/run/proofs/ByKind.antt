@@ -158,6 +158,20 @@ module _ (rec : List ℕ) (lent : ℕ) (r : Record) (is : r ≡ recordOf rec) wh
       ap (λ (b : Bool). sets fx 0 (cond b (step w (listIn (r .kind) r rec (take (tailOf r) (drop (tailAt r) rec)) lent) .effects) []))
       (sym (not-write r (wordsAt rec (firstAt r) (r .first)) (wordsAt rec (secondAt r) (r .second)) (take (tailOf r) (drop (tailAt r) rec)) lent (r .kind) a))
 
+  -- what is told of an event at its slot, of the event that the bytes hold
+  module _ (s : State) (p u : Part) (g : Holds) (w : World) (ws out out' : List ℕ) (used n : ℕ) (xs ys : List ℕ) where
+    abbrev Here : ℕ → List ℕ → List ℕ → Type 0
+    Here m vs us = Stands s m p → Told w (world (leaves s m u g) ws) (eventNamed (r .kind) r vs us (take (tailOf r) (drop (tailAt r) rec)) lent) out out' used
+
+    pub found-is :
+        xs ≡ wordsAt rec (firstAt r) (r .first) → ys ≡ wordsAt rec (secondAt r) (r .second) → n ≡ placeOf (r .kind) r (wordsAt rec (firstAt r) (r .first)) (p .head)
+        → Here (placeOf (r .kind) r xs (p .head)) xs ys → Stands s n p → Told w (world (leaves s n u g) ws) (eventAt lent rec) out out' used
+    found-is ex ey en f st =
+        told-of w (world (leaves s n u g) ws) _ _ out out' used list-is
+        (subst (λ (m : ℕ). Here m (wordsAt rec (firstAt r) (r .first)) (wordsAt rec (secondAt r) (r .second))) (sym en)
+        (subst (λ (us : List ℕ). Here (placeOf (r .kind) r (wordsAt rec (firstAt r) (r .first)) (p .head)) (wordsAt rec (firstAt r) (r .first)) us) ey
+        (subst (λ (vs : List ℕ). Here (placeOf (r .kind) r vs (p .head)) vs ys) ex f)) st)
+
 -- an event's bytes are all there
 pub tail-there : (bs : List ℕ) (r : Record) → r ≡ recordOf bs → 0 < nextOf bs → tailAt r + tailOf r ≤ length bs
 tail-there bs r e h = subst (λ (x : Record). tailAt x + tailOf x ≤ length bs) (sym e) (all-there bs h)

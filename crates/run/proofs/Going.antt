@@ -18,6 +18,11 @@ use Rattle.events.proofs.Whole.{whole-run}
 use Rattle.outcome_bytes.specs.Output.{outcomeBytes}
 use Rattle.state_bytes.specs.StateBytes.{stateBytes}
 use Rattle.record.specs.Record.{recordOf, nextOf, eventAt, Decoded, stops, before, decoded}
+use Rattle.handles.specs.declared.Handles.{Handles}
+use Rattle.slot.specs.declared.Slot.{Slot}
+use Rattle.table.specs.declared.Table.{Table}
+use Rattle.table.specs.Table.{freshTable}
+use Rattle.wait_queue.specs.declared.WaitQueue.{WaitQueue}
 use Rattle.record.proofs.Laws.{some, next-there, walk-ends, walk-goes-on}
 use Rattle.run_room.specs.Room.{roomOf, needed}
 use Rattle.run.specs.Run.{runOf, storedBy, toldOf, lentAfter, outputOf, wholeEnd}
@@ -57,6 +62,17 @@ after es d = record { events = es ++ d .events; left = d .left }
 
 abbrev zeros : List ℕ
 zeros = replicate 1024 0
+
+-- the state that the run holds, in its parts
+abbrev pub stateOf : ℕ → List Slot → List ℕ → ℕ → List ℕ → List ℕ → Handles → WaitQueue → State
+stateOf scheme slots next head all outside handles queue =
+    record {
+      driver = record { scheme = scheme; handles = handles; queue = queue };
+      table = record { slots = slots; next = next; head = head; holds = record { holds = all; outside = outside } };
+    }
+
+pub fresh-is : (scheme : ℕ) (t : Table) → t ≡ freshTable → stateOf scheme (t .slots) (t .next) (t .head) (replicate 64 0) (replicate 64 0) (record { at = replicate 64 0 }) (record { first = 0; len = 0 }) ≡ freshState scheme
+fresh-is scheme t e = ap (λ (x : Table). stateOf scheme (x .slots) (x .next) (x .head) (replicate 64 0) (replicate 64 0) (record { at = replicate 64 0 }) (record { first = 0; len = 0 })) e
 
 pub record Going (scheme : ℕ) (ev out₀ fx₀ out fx words : List ℕ) (s : State) (at j size : ℕ) : Type 0 where
   pub done : List Event

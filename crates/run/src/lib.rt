@@ -234,8 +234,8 @@ fn whole_turn(
 fn find(rec: &[u8], r: Record, head: u8, first: &mut [u64], second: &mut [u64]) -> usize
     requires { ⌜ (255 ≤ length (now first)) × (255 ≤ length (now second)) ⌝ }
     ensures { λ o. ⌜ (o ≡ placeOf (r .kind) r (wordsAt (now (rec .entry)) (firstAt r) (r .first)) head) × (o < 64) ⌝ }
-    ensures { λ o. ⌜ now (first .exit) ≡ sets (now (first .entry)) 0 (wordsAt (now (rec .entry)) (firstAt r) (r .first)) ⌝ }
-    ensures { λ o. ⌜ now (second .exit) ≡ sets (now (second .entry)) 0 (wordsAt (now (rec .entry)) (secondAt r) (r .second)) ⌝ }
+    ensures { λ o. ⌜ (length (now (first .exit)) ≡ length (now (first .entry))) × (take (r .first) (now (first .exit)) ≡ wordsAt (now (rec .entry)) (firstAt r) (r .first)) ⌝ }
+    ensures { λ o. ⌜ (length (now (second .exit)) ≡ length (now (second .entry))) × (take (r .second) (now (second .exit)) ≡ wordsAt (now (rec .entry)) (secondAt r) (r .second)) ⌝ }
 {
     record::first_list(rec, r, first);
     record::second_list(rec, r, second);
@@ -275,6 +275,7 @@ fn run_all(scheme: u64, events: &[u8], out: &mut [u8], fx: &mut [u64]) -> RunEnd
     let mut first = [0; 255];
     let mut second = [0; 255];
     let fresh = table::fresh();
+    let mut own = scheme;
     let mut slots = fresh.slots;
     let mut next = fresh.next;
     let mut head = fresh.head;
@@ -290,7 +291,7 @@ fn run_all(scheme: u64, events: &[u8], out: &mut [u8], fx: &mut [u64]) -> RunEnd
         if is_whole(r.kind) {
             let s = State {
                 driver: Driver {
-                    scheme: scheme,
+                    scheme: own,
                     handles: handles,
                     queue: queue,
                 },
@@ -309,6 +310,7 @@ fn run_all(scheme: u64, events: &[u8], out: &mut [u8], fx: &mut [u64]) -> RunEnd
             let table = after.table;
             let driver = after.driver;
             let holds = table.holds;
+            own = driver.scheme;
             slots = table.slots;
             next = table.next;
             head = table.head;
@@ -323,12 +325,17 @@ fn run_all(scheme: u64, events: &[u8], out: &mut [u8], fx: &mut [u64]) -> RunEnd
         }
         let n = find(&events[at..], r, head, &mut first, &mut second);
         let v = slots[n];
+        let held = Holds {
+            holds: all,
+            outside: outside,
+        };
+        part_step::known(held);
         let p = Part {
             slot: v,
             next: next[n],
             head: head,
             queue: queue,
-            scheme: scheme,
+            scheme: own,
         };
         let t = turn(
             p,
@@ -354,7 +361,7 @@ fn run_all(scheme: u64, events: &[u8], out: &mut [u8], fx: &mut [u64]) -> RunEnd
     }
     let s = State {
         driver: Driver {
-            scheme: scheme,
+            scheme: own,
             handles: handles,
             queue: queue,
         },

@@ -98,11 +98,6 @@ struct WokenPart {
     holds: Holds,
 }
 
-// Nothing but what is known of the counts: there are 64.
-fn known(h: Holds)
-    ensures { λ r. ⌜ length (h .outside) ≡ 64 ⌝ }
-{}
-
 fn wake_part(
     p: Part,
     h: Holds,
@@ -115,7 +110,7 @@ fn wake_part(
 ) -> WokenPart
     ensures { λ r. ⌜ ((s : Whole) → Stands s (tag .0 % 64) p → outcome (repliedOf (r .woken .answer) (r .woken .reply) (r .woken .fds)) (effectWords (r .woken .effect)) (world (leaves s (tag .0 % 64) (r .woken .part) (r .holds)) (now (words .exit))) ≡ wakeOf (world (found s p h) (now (words .entry))) (tag .0) caller killed base count) ⌝ }
 {
-    known(h);
+    part_step::known(h);
     let all = h.holds;
     let mut outside = h.outside;
     let woken = driver_step::wake(p, &mut outside, words, tag, caller, killed, base, count);
