@@ -4,20 +4,22 @@
 use answer_words::AnswerWords;
 use answer_words::Step;
 use driver_step::Completed;
-use driver_step::Received;
-use driver_step::Woken;
 use error::Error;
 use error::Result;
 use fd_list::List;
 use ids::Tag;
 use reading_step::OpenedWords;
 use reading_step::Regular;
+use record::Nine;
+use record::Record;
 use run::RunEnd;
 use schemev2::Args;
 use schemev2::Cqe;
 use schemev2::Sqe;
 use slot::Reply;
 use state::State;
+use state_step::Received;
+use state_step::Woken;
 use status::Status;
 ghost use mathlib.Core.Path.{_≡_};
 ghost use mathlib.Core.List.{List as Words};
@@ -82,10 +84,22 @@ pub extern "C" fn tilgurap_ended(s: State, caller: u32) -> Step
 }
 
 #[no_mangle]
-pub extern "C" fn tilgurap_next_id(s: State, caller: u32) -> Step
-    ensures { λ r. ⌜ ((ws : Words ℕ) → outcome (answerOf (r .answer)) (effectWords (r .effect)) (world (r .state) ws) ≡ reserveOf (world s ws) caller) ⌝ }
+pub extern "C" fn tilgurap_next_id(s: State, words: &mut [u64; 1024], caller: u32) -> Step
+    ensures { λ r. ⌜ outcome (answerOf (r .answer)) (effectWords (r .effect)) (world (r .state) (now (words .exit))) ≡ reserveOf (world s (now (words .entry))) caller ⌝ }
 {
-    submit_step::next_id(s, caller)
+    let r = Record {
+        kind: 6,
+        first: 0,
+        second: 0,
+        flags: 0,
+        number: caller,
+        uid: 0,
+        gid: 0,
+        words: Nine(0, 0, 0, 0, 0, 0, 0, 0, 0),
+    };
+    let none = [0; 1];
+    let nothing = [0; 1];
+    state_step::one_effect(s, words, r, &none[..0], &nothing[..0])
 }
 
 #[no_mangle]
@@ -102,7 +116,28 @@ pub extern "C" fn tilgurap_submit(
 ) -> Step
     ensures { λ r. ⌜ outcome (answerOf (r .answer)) (effectWords (r .effect)) (world (r .state) (now (words .exit))) ≡ submitOf (world s (now (words .entry))) (tag .0) caller opcode flags args pid (now (fds .entry)) ⌝ }
 {
-    submit_step::submit(s, words, tag, caller, opcode, flags, args, pid, fds)
+    let r = Record {
+        kind: 7,
+        first: 0,
+        second: 0,
+        flags: flags,
+        number: caller,
+        uid: 0,
+        gid: 0,
+        words: Nine(
+            tag.0,
+            opcode,
+            args.0,
+            args.1,
+            args.2,
+            args.3,
+            args.4,
+            args.5,
+            pid,
+        ),
+    };
+    let none = [0; 1];
+    state_step::one_effect(s, words, r, fds, &none[..0])
 }
 
 #[no_mangle]
@@ -119,7 +154,28 @@ pub extern "C" fn tilgurap_call(
 ) -> Step
     ensures { λ r. ⌜ outcome (answerOf (r .answer)) (effectWords (r .effect)) (world (r .state) (now (words .exit))) ≡ callOf (world s (now (words .entry))) caller opcode args uid gid pid (now (fds .entry)) ⌝ }
 {
-    submit_step::call(s, words, caller, opcode, args, uid, gid, pid, fds)
+    let r = Record {
+        kind: 8,
+        first: 0,
+        second: 0,
+        flags: 0,
+        number: caller,
+        uid: uid,
+        gid: gid,
+        words: Nine(
+            opcode,
+            args.0,
+            args.1,
+            args.2,
+            args.3,
+            args.4,
+            args.5,
+            pid,
+            0,
+        ),
+    };
+    let none = [0; 1];
+    state_step::one_effect(s, words, r, fds, &none[..0])
 }
 
 #[no_mangle]
@@ -135,7 +191,17 @@ pub extern "C" fn tilgurap_call_generic(
 ) -> Step
     ensures { λ r. ⌜ outcome (answerOf (r .answer)) (effectWords (r .effect)) (world (r .state) (now (words .exit))) ≡ genericOf (world s (now (words .entry))) caller pid (now (fds .entry)) base len (now (metadata .entry)) ⌝ }
 {
-    submit_step::call_generic(s, words, caller, pid, fds, base, len, metadata)
+    let r = Record {
+        kind: 9,
+        first: 0,
+        second: 0,
+        flags: 0,
+        number: caller,
+        uid: 0,
+        gid: 0,
+        words: Nine(pid, base, len, 0, 0, 0, 0, 0, 0),
+    };
+    state_step::one_effect(s, words, r, fds, metadata)
 }
 
 #[no_mangle]
@@ -151,7 +217,17 @@ pub extern "C" fn tilgurap_translate_std_fs_call(
 ) -> Step
     ensures { λ r. ⌜ outcome (answerOf (r .answer)) (effectWords (r .effect)) (world (r .state) (now (words .exit))) ≡ stdfsOf (world s (now (words .entry))) caller pid (now (fds .entry)) base len (now (metadata .entry)) ⌝ }
 {
-    submit_step::translate_std_fs_call(s, words, caller, pid, fds, base, len, metadata)
+    let r = Record {
+        kind: 10,
+        first: 0,
+        second: 0,
+        flags: 0,
+        number: caller,
+        uid: 0,
+        gid: 0,
+        words: Nine(pid, base, len, 0, 0, 0, 0, 0, 0),
+    };
+    state_step::one_effect(s, words, r, fds, metadata)
 }
 
 #[no_mangle]
@@ -168,21 +244,57 @@ pub extern "C" fn tilgurap_request_fmap(
 ) -> Step
     ensures { λ r. ⌜ outcome (answerOf (r .answer)) (effectWords (r .effect)) (world (r .state) (now (words .exit))) ≡ fmapOf (world s (now (words .entry))) caller id pages flags uid gid pid ⌝ }
 {
-    submit_step::request_fmap(s, words, caller, id, pages, flags, uid, gid, pid)
+    let r = Record {
+        kind: 11,
+        first: 0,
+        second: 0,
+        flags: 0,
+        number: caller,
+        uid: uid,
+        gid: gid,
+        words: Nine(id, pages, flags, pid, 0, 0, 0, 0, 0),
+    };
+    let none = [0; 1];
+    let nothing = [0; 1];
+    state_step::one_effect(s, words, r, &none[..0], &nothing[..0])
 }
 
 #[no_mangle]
 pub extern "C" fn tilgurap_close(s: State, words: &mut [u64; 1024], id: u64) -> Step
     ensures { λ r. ⌜ outcome (answerOf (r .answer)) (effectWords (r .effect)) (world (r .state) (now (words .exit))) ≡ closeOf (world s (now (words .entry))) id ⌝ }
 {
-    submit_step::close(s, words, id)
+    let r = Record {
+        kind: 12,
+        first: 0,
+        second: 0,
+        flags: 0,
+        number: 0,
+        uid: 0,
+        gid: 0,
+        words: Nine(id, 0, 0, 0, 0, 0, 0, 0, 0),
+    };
+    let none = [0; 1];
+    let nothing = [0; 1];
+    state_step::one_effect(s, words, r, &none[..0], &nothing[..0])
 }
 
 #[no_mangle]
 pub extern "C" fn tilgurap_detach(s: State, words: &mut [u64; 1024], id: u64, pid: u64) -> Step
     ensures { λ r. ⌜ outcome (answerOf (r .answer)) (effectWords (r .effect)) (world (r .state) (now (words .exit))) ≡ detachOf (world s (now (words .entry))) id pid ⌝ }
 {
-    submit_step::detach(s, words, id, pid)
+    let r = Record {
+        kind: 13,
+        first: 0,
+        second: 0,
+        flags: 0,
+        number: 0,
+        uid: 0,
+        gid: 0,
+        words: Nine(id, pid, 0, 0, 0, 0, 0, 0, 0),
+    };
+    let none = [0; 1];
+    let nothing = [0; 1];
+    state_step::one_effect(s, words, r, &none[..0], &nothing[..0])
 }
 
 #[no_mangle]
@@ -197,7 +309,7 @@ pub extern "C" fn tilgurap_wake(
 ) -> Woken
     ensures { λ r. ⌜ outcome (repliedOf (r .answer) (r .reply) (r .fds)) (effectWords (r .effect)) (world (r .state) (now (words .exit))) ≡ wakeOf (world s (now (words .entry))) (tag .0) caller killed base count ⌝ }
 {
-    driver_step::wake(s, words, tag, caller, killed, base, count)
+    state_step::wake(s, words, tag, caller, killed, base, count)
 }
 
 #[no_mangle]
@@ -211,7 +323,7 @@ pub extern "C" fn tilgurap_read(
     ensures { λ r. ⌜ world (r .state) (now (words .entry)) ≡ readOf (world s (now (words .entry))) (length (now (out .entry))) flags .world ⌝ }
     ensures { λ r. ⌜ now (out .exit) ≡ sets (now (out .entry)) 0 (readOf (world s (now (words .entry))) (length (now (out .entry))) flags .bytes) ⌝ }
 {
-    driver_step::read(s, words, out, flags)
+    state_step::read(s, words, out, flags)
 }
 
 #[no_mangle]
@@ -225,30 +337,69 @@ pub extern "C" fn tilgurap_write(s: State, fx: &mut [u64], bytes: &[u8]) -> Comp
 }
 
 #[no_mangle]
-pub extern "C" fn tilgurap_call_fdwrite(s: State, metadata: &[u64], fds: &[u64]) -> Step
-    ensures { λ r. ⌜ ((ws : Words ℕ) → outcome (answerOf (r .answer)) (effectWords (r .effect)) (world (r .state) ws) ≡ moveOf (world s ws) (now (metadata .entry)) (now (fds .entry))) ⌝ }
+pub extern "C" fn tilgurap_call_fdwrite(
+    s: State,
+    words: &mut [u64; 1024],
+    metadata: &[u64],
+    fds: &[u64],
+) -> Step
+    ensures { λ r. ⌜ outcome (answerOf (r .answer)) (effectWords (r .effect)) (world (r .state) (now (words .exit))) ≡ moveOf (world s (now (words .entry))) (now (metadata .entry)) (now (fds .entry)) ⌝ }
 {
-    driver_step::call_fdwrite(s, metadata, fds)
+    let r = Record {
+        kind: 17,
+        first: 0,
+        second: 0,
+        flags: 0,
+        number: 0,
+        uid: 0,
+        gid: 0,
+        words: Nine(0, 0, 0, 0, 0, 0, 0, 0, 0),
+    };
+    state_step::one_effect(s, words, r, metadata, fds)
 }
 
 #[no_mangle]
-pub extern "C" fn tilgurap_call_fdread(s: State, metadata: &[u64]) -> Step
-    ensures { λ r. ⌜ ((ws : Words ℕ) → outcome (answerOf (r .answer)) (effectWords (r .effect)) (world (r .state) ws) ≡ obtainCallOf (world s ws) (now (metadata .entry))) ⌝ }
+pub extern "C" fn tilgurap_call_fdread(s: State, words: &mut [u64; 1024], metadata: &[u64]) -> Step
+    ensures { λ r. ⌜ outcome (answerOf (r .answer)) (effectWords (r .effect)) (world (r .state) (now (words .exit))) ≡ obtainCallOf (world s (now (words .entry))) (now (metadata .entry)) ⌝ }
 {
-    driver_step::call_fdread(s, metadata)
+    let r = Record {
+        kind: 18,
+        first: 0,
+        second: 0,
+        flags: 0,
+        number: 0,
+        uid: 0,
+        gid: 0,
+        words: Nine(0, 0, 0, 0, 0, 0, 0, 0, 0),
+    };
+    let none = [0; 1];
+    state_step::one_effect(s, words, r, metadata, &none[..0])
 }
 
 #[no_mangle]
 pub extern "C" fn tilgurap_provide_mmap(
     s: State,
+    words: &mut [u64; 1024],
     tag: Tag,
     offset: u64,
     base: u64,
     count: u64,
 ) -> Step
-    ensures { λ r. ⌜ ((ws : Words ℕ) → outcome (answerOf (r .answer)) (effectWords (r .effect)) (world (r .state) ws) ≡ supplyOf (world s ws) (tag .0) offset base count) ⌝ }
+    ensures { λ r. ⌜ outcome (answerOf (r .answer)) (effectWords (r .effect)) (world (r .state) (now (words .exit))) ≡ supplyOf (world s (now (words .entry))) (tag .0) offset base count ⌝ }
 {
-    driver_step::provide_mmap(s, tag, offset, base, count)
+    let r = Record {
+        kind: 19,
+        first: 0,
+        second: 0,
+        flags: 0,
+        number: 0,
+        uid: 0,
+        gid: 0,
+        words: Nine(tag.0, offset, base, count, 0, 0, 0, 0, 0),
+    };
+    let none = [0; 1];
+    let nothing = [0; 1];
+    state_step::one_effect(s, words, r, &none[..0], &nothing[..0])
 }
 
 #[no_mangle]

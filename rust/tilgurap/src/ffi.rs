@@ -211,7 +211,7 @@ unsafe extern "C" {
     pub fn tilgurap_drop(s: State, description: u64) -> Step;
     pub fn tilgurap_put(s: State, description: u64, handle: u64) -> Step;
     pub fn tilgurap_ended(s: State, caller: u32) -> Step;
-    pub fn tilgurap_next_id(s: State, caller: u32) -> Step;
+    pub fn tilgurap_next_id(s: State, words: *mut Words, caller: u32) -> Step;
     pub fn tilgurap_submit(
         s: State,
         words: *mut Words,
@@ -298,13 +298,26 @@ unsafe extern "C" {
     ) -> Completed;
     pub fn tilgurap_call_fdwrite(
         s: State,
+        words: *mut Words,
         metadata: *const u64,
         metadata_len: usize,
         fds: *const u64,
         fds_len: usize,
     ) -> Step;
-    pub fn tilgurap_call_fdread(s: State, metadata: *const u64, metadata_len: usize) -> Step;
-    pub fn tilgurap_provide_mmap(s: State, tag: Tag, offset: u64, base: u64, count: u64) -> Step;
+    pub fn tilgurap_call_fdread(
+        s: State,
+        words: *mut Words,
+        metadata: *const u64,
+        metadata_len: usize,
+    ) -> Step;
+    pub fn tilgurap_provide_mmap(
+        s: State,
+        words: *mut Words,
+        tag: Tag,
+        offset: u64,
+        base: u64,
+        count: u64,
+    ) -> Step;
     pub fn tilgurap_into_regular(reply: Reply, fds: List) -> AnswerWords;
     pub fn tilgurap_read_call_generic(reply: Reply, fds: List) -> Regular;
     pub fn tilgurap_kopenat(reply: Reply, fds: List) -> OpenedWords;

@@ -95,8 +95,9 @@ impl Steps {
     }
 
     pub fn reserve(&mut self, c: u32) -> Stepped {
-        // SAFETY: numbers alone.
-        let step = unsafe { ffi::tilgurap_next_id(*self.state, c) };
+        let words = &raw mut *self.words;
+        // SAFETY: the words are the layer's own.
+        let step = unsafe { ffi::tilgurap_next_id(*self.state, words, c) };
         self.stepped(step)
     }
 
@@ -232,24 +233,28 @@ impl Steps {
     }
 
     pub fn move_list(&mut self, meta: &[u64], list: &[u64]) -> Stepped {
+        let words = &raw mut *self.words;
         let (metadata, fds) = (meta.as_ptr(), list.as_ptr());
-        // SAFETY: each pointer comes from the slice whose length goes with it.
+        // SAFETY: the words are the layer's own; each pointer comes from the slice whose length goes with it.
         let step = unsafe {
-            ffi::tilgurap_call_fdwrite(*self.state, metadata, meta.len(), fds, list.len())
+            ffi::tilgurap_call_fdwrite(*self.state, words, metadata, meta.len(), fds, list.len())
         };
         self.stepped(step)
     }
 
     pub fn obtain(&mut self, meta: &[u64]) -> Stepped {
-        // SAFETY: the pointer goes with its length.
-        let step = unsafe { ffi::tilgurap_call_fdread(*self.state, meta.as_ptr(), meta.len()) };
+        let words = &raw mut *self.words;
+        let (metadata, len) = (meta.as_ptr(), meta.len());
+        // SAFETY: the words are the layer's own; the pointer goes with its length.
+        let step = unsafe { ffi::tilgurap_call_fdread(*self.state, words, metadata, len) };
         self.stepped(step)
     }
 
     pub fn supply(&mut self, tag: u64, offset: u64, base: u64, count: u64) -> Stepped {
-        let tag = ffi::Tag(tag);
-        // SAFETY: numbers alone.
-        let step = unsafe { ffi::tilgurap_provide_mmap(*self.state, tag, offset, base, count) };
+        let (words, tag) = (&raw mut *self.words, ffi::Tag(tag));
+        // SAFETY: the words are the layer's own.
+        let step =
+            unsafe { ffi::tilgurap_provide_mmap(*self.state, words, tag, offset, base, count) };
         self.stepped(step)
     }
 
