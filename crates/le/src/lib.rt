@@ -44,5 +44,11 @@ pub fn word(s: &[u8], k: usize) -> u64
     if s.len() <= k {
         return 0;
     }
+    if 8 <= s.len() - k {
+        let m = k + 4;
+        let low = weigh4(s[k], s[k + 1], s[k + 2], s[k + 3]);
+        let high = weigh4(s[m], s[m + 1], s[m + 2], s[m + 3]);
+        return weigh2(low, high);
+    }
     weigh2(half(s, k), half(s, k + 4))
 }

@@ -12,7 +12,7 @@ use lib.Seq.{sets}
 use borrow.Author.Tests.{eq-eqb, ne-eqb, eqb-false, leb-true}
 use Rattle.word_put.proofs.Stores.{sets-then}
 use Rattle.record.specs.declared.Record.{Record}
-use Rattle.record.specs.Record.{each, isEvent, nextOf, recordOf, sizeOf, firstTable, secondTable, flagTable, numberTable, userTable, walk}
+use Rattle.record.specs.Record.{each, isEvent, nextOf, recordOf, briefOf, sizeOf, firstTable, secondTable, flagTable, numberTable, userTable, walk}
 
 pub each-length : (f : ℕ → ℕ) (n : ℕ) → length (each f n) ≡ n
 each-length f zero = refl
@@ -27,7 +27,7 @@ grown l out f i x e p =
     ∙ ap (λ (k : ℕ). sets l 0 (each f k)) (sym (add-one i))
 
 -- the size of the next event, by the test
-pub next-is : (bs : List ℕ) (r : Record) (b : Bool) → r ≡ recordOf bs → b ≡ isEvent r (length bs) → cond b (sizeOf r) 0 ≡ nextOf bs
+pub next-is : (bs : List ℕ) (r : Record) (b : Bool) → r ≡ briefOf bs → b ≡ isEvent r (length bs) → cond b (sizeOf r) 0 ≡ nextOf bs
 next-is bs r b er eb = ap (λ (x : Bool). cond x (sizeOf r) 0) eb ∙ ap (λ (y : Record). cond (isEvent y (length bs)) (sizeOf y) 0) er
 
 -- the next event's bytes are all there

@@ -40,6 +40,20 @@ recordOf bs =
       words = nineOf bs;
     }
 
+-- the same with its first word alone, which is all that tells whether it is an event, its size and its room
+abbrev pub briefOf : List ℕ → Record
+briefOf bs =
+    record {
+      kind = byte bs 0;
+      first = byte bs 1;
+      second = byte bs 2;
+      flags = byte bs 3;
+      number = half bs 4;
+      uid = half bs 8;
+      gid = half bs 12;
+      words = record { 0 = word bs 16; 1 = 0; 2 = 0; 3 = 0; 4 = 0; 5 = 0; 6 = 0; 7 = 0; 8 = 0 };
+    }
+
 -- by kind: how many words, and the most that each field may hold
 abbrev pub wordTable : List ℕ
 wordTable = 0 ∷ 1 ∷ 1 ∷ 1 ∷ 2 ∷ 0 ∷ 0 ∷ 9 ∷ 8 ∷ 3 ∷ 3 ∷ 4 ∷ 1 ∷ 2 ∷ 4 ∷ 1 ∷ 1 ∷ 0 ∷ 0 ∷ 4 ∷ []

@@ -2,7 +2,7 @@
 ghost use mathlib.Core.Path.{_≡_};
 ghost use Prim.Native.Nat.{_≤_};
 ghost use lib.Seq.{sets};
-ghost use Rattle.record.specs.Record.{nineOf, recordOf, tailOf, firstAt, secondAt, tailAt, sizeOf, wordsAt};
+ghost use Rattle.record.specs.Record.{nineOf, recordOf, briefOf, tailOf, firstAt, secondAt, tailAt, sizeOf, wordsAt};
 
 pub struct Nine(
     pub u64,
@@ -60,6 +60,22 @@ pub fn record_at(s: &[u8]) -> Record
         uid: le::half(s, 8),
         gid: le::half(s, 12),
         words: words,
+    }
+}
+
+// The record at the start of a slice with its first word alone.
+pub fn brief_at(s: &[u8]) -> Record
+    ensures { λ r. ⌜ r ≡ briefOf (now (s .entry)) ⌝ }
+{
+    Record {
+        kind: le::byte(s, 0),
+        first: le::byte(s, 1),
+        second: le::byte(s, 2),
+        flags: le::byte(s, 3),
+        number: le::half(s, 4),
+        uid: le::half(s, 8),
+        gid: le::half(s, 12),
+        words: Nine(le::word(s, 16), 0, 0, 0, 0, 0, 0, 0, 0),
     }
 }
 

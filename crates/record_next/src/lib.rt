@@ -133,7 +133,7 @@ fn is_event(r: Record, left: usize) -> bool
 pub fn next(s: &[u8]) -> usize
     ensures { λ r. ⌜ r ≡ nextOf (now (s .entry)) ⌝ }
 {
-    let r = record::record_at(s);
+    let r = record::brief_at(s);
     if is_event(r, s.len()) {
         return record::size(r);
     }

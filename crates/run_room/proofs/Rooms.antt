@@ -9,7 +9,7 @@ use lib.ListN.{length, drop, length-drop}
 use lib.Seq.{drop-drop}
 use borrow.Author.Tests.{eq-eqb, ne-eqb, le-leb, lt-leb, leb-true, leb-false}
 use Rattle.record.specs.declared.Record.{Record}
-use Rattle.record.specs.Record.{recordOf, tailOf, nextOf, walk}
+use Rattle.record.specs.Record.{recordOf, briefOf, tailOf, nextOf, walk}
 use Rattle.record.proofs.Laws.{next-there, walk-ends, walk-goes-on}
 use Rattle.run_room.specs.Room.{roomOf, needed}
 
@@ -54,7 +54,7 @@ module _ (bs : List ℕ) (most left at k size : ℕ) (so : Spent bs most left at
   pub spent-ends : size ≡ 0 → true ≡ leb (needed bs) most
   spent-ends z = sym (so ∙ le-leb (needed (drop at bs)) (left + 1608) (omega (arith, needed-ends (drop at bs) (sym es ∙ z))))
 
-  module _ (more : size ≡ 0 → ⊥) (r : Record) (er : r ≡ recordOf (drop at bs)) (ek : k ≡ roomOf r) where
+  module _ (more : size ≡ 0 → ⊥) (r : Record) (er : r ≡ briefOf (drop at bs)) (ek : k ≡ roomOf r) where
     on : needed (drop at bs) ≡ k + needed (drop (at + size) bs)
     on =
         needed-goes-on (drop at bs) (λ z. more (es ∙ z))

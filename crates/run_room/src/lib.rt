@@ -38,7 +38,7 @@ pub fn has_room(events: &[u8], most: usize) -> bool
     let mut at = 0;
     let mut size = record_next::next(events);
     while size != 0 {
-        let r = record::record_at(&events[at..]);
+        let r = record::brief_at(&events[at..]);
         let k = room(r);
         if left < k {
             return false;

@@ -5,7 +5,7 @@ use Prim.Native.Nat.{_+_, _-_, _≤_}
 use mathlib.Core.Path.{_≡_, ap, _∙_}
 use native.Mathlib.Omega.{arith}
 use lib.ListN.{length, drop}
-use Rattle.record.specs.Record.{recordOf, nextOf}
+use Rattle.record.specs.Record.{briefOf, nextOf}
 use Rattle.record.proofs.Laws.{some}
 use Rattle.run_room.proofs.Rooms.{Spent, too-short, spent-start, spent-short, spent-on, spent-ends, spent-place}
 use Rattle.word_put.proofs.Stores.{part-is}
@@ -29,20 +29,20 @@ loop-holds : tie.Need-loop-holds Inv-loop μ-loop
 loop-holds c = (omega arith, c .next .ensures, spent-start (c .before .before .before .args .events .now) (c .before .before .before .args .most) (c .before .if1 .left))
 
 -- src/lib.rt:266:35
-sub-record-at : tie.Need-sub-record-at Inv-loop μ-loop
-sub-record-at c = omega (arith, c .before .loop .inv .0)
+sub-brief-at : tie.Need-sub-brief-at Inv-loop μ-loop
+sub-brief-at c = omega (arith, c .before .loop .inv .0)
 
 -- src/lib.rt:266:35
-part-record-at-start : tie.Need-part-record-at-start Inv-loop μ-loop
-part-record-at-start c = omega (arith, c .before .loop .inv .0)
+part-brief-at-start : tie.Need-part-brief-at-start Inv-loop μ-loop
+part-brief-at-start c = omega (arith, c .before .loop .inv .0)
 
 -- src/lib.rt:266:35
-part-record-at-end : tie.Need-part-record-at-end Inv-loop μ-loop
-part-record-at-end c = omega arith
+part-brief-at-end : tie.Need-part-brief-at-end Inv-loop μ-loop
+part-brief-at-end c = omega arith
 
 -- src/lib.rt:266:13
-record-at-requires : tie.Need-record-at-requires Inv-loop μ-loop
-record-at-requires c κs = search needs
+brief-at-requires : tie.Need-brief-at-requires Inv-loop μ-loop
+brief-at-requires c κs = search needs
 
 -- src/lib.rt:267:13
 room-requires : tie.Need-room-requires Inv-loop μ-loop
@@ -50,7 +50,7 @@ room-requires c κs = search needs
 
 -- src/lib.rt:269:13
 returns-2 : tie.Need-returns-2 Inv-loop μ-loop
-returns-2 c = let c1 = c .before in let c2 = c1 .before in let c4 = c2 .before .before in let c5 = c4 .before in let c9 = c5 .before .before .before .before in spent-short (c9 .args .events .now) (c9 .args .most) (c5 .loop .left) (c5 .loop .at) (c1 .room .result) (c5 .loop .size) (c5 .loop .inv .2) (c5 .loop .inv .1) (c4 .loop-test .taken) (c2 .record-at .result) (c2 .record-at .ensures ∙ ap recordOf (part-is (c9 .args .events .now) (c5 .loop .at))) (c1 .room .ensures .0) (c .if2 .taken)
+returns-2 c = let c1 = c .before in let c2 = c1 .before in let c4 = c2 .before .before in let c5 = c4 .before in let c9 = c5 .before .before .before .before in spent-short (c9 .args .events .now) (c9 .args .most) (c5 .loop .left) (c5 .loop .at) (c1 .room .result) (c5 .loop .size) (c5 .loop .inv .2) (c5 .loop .inv .1) (c4 .loop-test .taken) (c2 .brief-at .result) (c2 .brief-at .ensures ∙ ap briefOf (part-is (c9 .args .events .now) (c5 .loop .at))) (c1 .room .ensures .0) (c .if2 .taken)
 
 -- src/lib.rt:272:9
 add-at : tie.Need-add-at Inv-loop μ-loop
@@ -78,7 +78,7 @@ loop-less c = let c6 = c .before .before .before .before .before .before in let 
 
 -- src/lib.rt:265:5
 loop-again : tie.Need-loop-again Inv-loop μ-loop
-loop-again c = let c2 = c .before .before in let c3 = c2 .before in let c4 = c3 .before in let c6 = c4 .before .before in let c7 = c6 .before in let c11 = c7 .before .before .before .before in (spent-place (c11 .args .events .now) (c11 .args .most) (c7 .loop .left) (c7 .loop .at) 0 (c7 .loop .size) (c7 .loop .inv .2) (c7 .loop .inv .1) (c7 .loop .inv .0), c .next2 .ensures ∙ ap nextOf (part-is (c11 .args .events .now) (c7 .loop .at + c7 .loop .size)), spent-on (c11 .args .events .now) (c11 .args .most) (c7 .loop .left) (c7 .loop .at) (c3 .room .result) (c7 .loop .size) (c7 .loop .inv .2) (c7 .loop .inv .1) (c6 .loop-test .taken) (c4 .record-at .result) (c4 .record-at .ensures ∙ ap recordOf (part-is (c11 .args .events .now) (c7 .loop .at))) (c3 .room .ensures .0) (c2 .if2 .left))
+loop-again c = let c2 = c .before .before in let c3 = c2 .before in let c4 = c3 .before in let c6 = c4 .before .before in let c7 = c6 .before in let c11 = c7 .before .before .before .before in (spent-place (c11 .args .events .now) (c11 .args .most) (c7 .loop .left) (c7 .loop .at) 0 (c7 .loop .size) (c7 .loop .inv .2) (c7 .loop .inv .1) (c7 .loop .inv .0), c .next2 .ensures ∙ ap nextOf (part-is (c11 .args .events .now) (c7 .loop .at + c7 .loop .size)), spent-on (c11 .args .events .now) (c11 .args .most) (c7 .loop .left) (c7 .loop .at) (c3 .room .result) (c7 .loop .size) (c7 .loop .inv .2) (c7 .loop .inv .1) (c6 .loop-test .taken) (c4 .brief-at .result) (c4 .brief-at .ensures ∙ ap briefOf (part-is (c11 .args .events .now) (c7 .loop .at))) (c3 .room .ensures .0) (c2 .if2 .left))
 
 -- src/lib.rt:256:1
 returns-3 : tie.Need-returns-3 Inv-loop μ-loop
@@ -93,10 +93,10 @@ has-room-spec =
     returns
     next-requires
     loop-holds
-    sub-record-at
-    part-record-at-start
-    part-record-at-end
-    record-at-requires
+    sub-brief-at
+    part-brief-at-start
+    part-brief-at-end
+    brief-at-requires
     room-requires
     returns-2
     add-at
