@@ -13,15 +13,12 @@ use Rattle.ids.specs.declared.DescriptionFound.{DescriptionFound}
 use Rattle.ids.specs.declared.DescriptionFound.the-variants as found
 use Rattle.ids.specs.Ids.{descriptionIf, descriptionOf}
 use Rattle.fd_list.specs.Lists.{desc}
-use Rattle.counts.specs.Counts.{less, lessAll, moreAll, last, lasts}
+use Rattle.counts.specs.Counts.{lessAll, moreAll, lasts}
 use Rattle.closes.specs.Closes.{only, closes}
 use Rattle.holds.specs.declared.Holds.{Holds}
-use Rattle.holds.specs.Holds.{holdsWith, dropOneOf, discardedOf, droppedOf, outsideOf, unheld, heldIf, heldOf}
+use Rattle.holds.specs.Holds.{holdsWith, discardedOf, droppedOf, outsideOf, unheld, heldIf, heldOf}
 
 module _ (h : Holds) where
-  pub single-is : (d : ℕ) (b : Bool) (a : List ℕ) → b ≡ last (h .holds) d → a ≡ less (h .holds) d → record { last = b; holds = holdsWith a (h .outside) } ≡ dropOneOf h d
-  single-is d b a q e = rw (q, e) refl
-
   pub dropped-is : (ds : List ℕ) (t u : Bool) (k : ℕ) (a : List ℕ) → t ≡ u → k ≡ length (only t (lasts (h .holds) ds)) → a ≡ lessAll (h .holds) ds → record { count = k; holds = holdsWith a (h .outside) } ≡ droppedOf h ds u
   dropped-is ds t u k a p q e = rw (q, e, p) refl
 

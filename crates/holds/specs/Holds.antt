@@ -7,17 +7,13 @@ use lib.ListN.{getD, length}
 use Rattle.ids.specs.declared.DescriptionFound.{DescriptionFound}
 use Rattle.ids.specs.declared.DescriptionFound.the-variants as found
 use Rattle.fd_list.specs.Lists.{desc}
-use Rattle.counts.specs.Counts.{less, lessAll, moreAll, last, lasts}
+use Rattle.counts.specs.Counts.{lessAll, moreAll, lasts}
 use Rattle.closes.specs.Closes.{only}
 use Rattle.holds.specs.declared.Holds.{Holds}
-use Rattle.holds.specs.declared.Single.{Single}
 use Rattle.holds.specs.declared.Dropped.{Dropped}
 
 abbrev pub holdsWith : List ℕ → List ℕ → Holds
 holdsWith a o = record { holds = a; outside = o }
-
-abbrev pub dropOneOf : Holds → ℕ → Single
-dropOneOf h d = record { last = last (h .holds) d; holds = holdsWith (less (h .holds) d) (h .outside) }
 
 abbrev pub discardedOf : Holds → List ℕ → Holds
 discardedOf h ds = holdsWith (lessAll (h .holds) ds) (h .outside)

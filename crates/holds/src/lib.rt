@@ -1,4 +1,4 @@
-// The hold counts of the 64 descriptions: one hold or a list of holds dropped, and a list given back to the host.
+// The hold counts of the 64 descriptions: a list of holds dropped, and a list given back to the host.
 use closes::Reason;
 use fd_list::List;
 use ids::Description;
@@ -10,7 +10,7 @@ ghost use lib.Seq.{sets};
 ghost use Rattle.closes.specs.Closes.{closing, only, closes};
 ghost use Rattle.counts.specs.Counts.{lasts};
 ghost use Rattle.fd_list.specs.Lists.{numbers};
-ghost use Rattle.holds.specs.Holds.{dropOneOf, droppedOf, discardedOf, outsideOf, heldOf};
+ghost use Rattle.holds.specs.Holds.{droppedOf, discardedOf, outsideOf, heldOf};
 
 // For each description all its holds, and how many of them are outside.
 #[repr(C)]
@@ -19,34 +19,11 @@ pub struct Holds {
     pub outside: [u16; 64],
 }
 
-// Whether the hold dropped was the last.
-#[repr(C)]
-pub struct Single {
-    pub last: bool,
-    pub holds: Holds,
-}
-
 // How many closes follow.
 #[repr(C)]
 pub struct Dropped {
     pub count: usize,
     pub holds: Holds,
-}
-
-// One hold dropped.
-pub fn drop_one(h: Holds, d: Description) -> Single
-    ensures { λ r. ⌜ r ≡ dropOneOf h (d .0) ⌝ }
-{
-    let mut a = h.holds;
-    let gone = counts::lower(&mut a, d);
-    let o = h.outside;
-    Single {
-        last: gone,
-        holds: Holds {
-            holds: a,
-            outside: o,
-        },
-    }
 }
 
 // A list's holds dropped. The closes that follow are stored from word `at`, in list order.

@@ -13,8 +13,7 @@ use Rattle.ids.specs.Ids.{slotOf}
 use Rattle.slot.specs.declared.Slot.{Slot}
 use Rattle.slot.specs.Slots.{vacantSlot}
 use Rattle.table.specs.declared.Table.{Table}
-use Rattle.table.specs.declared.Given.{Given}
-use Rattle.table.specs.Table.{noSlot, slotAt, stored, putAt, vacated, vacateAt, giveIf, giveOf}
+use Rattle.table.specs.Table.{noSlot, slotAt, stored, putAt, vacated, vacateAt}
 
 module _ (t : Table) (n : Tag) (k : SlotNo) (is : k ≡ slotOf n) where
   beyond : 64 ≤ k .0 → ltb (n .0) 64 ≡ false
@@ -49,6 +48,3 @@ module _ (t : Table) (n : Tag) (k : SlotNo) (is : k ≡ slotOf n) where
   vacate-in x e h =
       ap (λ (v : Slot). record { slots = set (t .slots) (k .0) v; next = set (t .next) (k .0) (t .head); head = k .0; holds = t .holds }) e
       ∙ ap (vacated t) (same h) ∙ sym (ap (λ (b : Bool). cond b (vacated t (n .0)) t) (within h))
-
-pub give-is : (t : Table) (v : Slot) (b : Bool) → leb 64 (t .head) ≡ b → giveIf b t v ≡ giveOf t v
-give-is t v b e = ap (λ (x : Bool). giveIf x t v) (sym e)

@@ -4,17 +4,12 @@
 use mathlib.Core.Bool.{Bool, true, false, cond}
 use mathlib.Core.List.{List, [], _∷_}
 use Prim.Native.Nat.{ℕ, zero, suc}
-use lib.Dec.{leb, ltb}
+use lib.Dec.{ltb}
 use lib.ListN.{getD, set, replicate}
-use Rattle.answer.specs.Answer.{Answer, success, refused}
 use Rattle.holds.specs.declared.Holds.{Holds}
-use Rattle.ids.specs.declared.SlotNo.{SlotNo}
 use Rattle.slot.specs.declared.Slot.{Slot}
 use Rattle.slot.specs.Slots.{vacantSlot, noSpan, noReply}
 use Rattle.table.specs.declared.Table.{Table}
-use Rattle.table.specs.declared.GiveAnswer.{GiveAnswer}
-use Rattle.table.specs.declared.GiveAnswer.the-variants.{At, Full}
-use Rattle.table.specs.declared.Given.{Given}
 
 -- n numbers from k on
 abbrev pub rising : ℕ → ℕ → List ℕ
@@ -47,17 +42,6 @@ putAt t n v = cond (ltb n 64) (stored t n v) t
 -- the first of the chain becomes v and leaves it
 abbrev pub givenOut : Table → Slot → Table
 givenOut t v = record { slots = set (t .slots) (t .head) v; next = t .next; head = getD (t .next) (t .head) 0; holds = t .holds }
-
-abbrev pub giveAnswer : GiveAnswer → Answer
-giveAnswer (At n) = success (n .0 ∷ [])
-giveAnswer Full = refused 202
-
-abbrev pub giveIf : Bool → Table → Slot → Given
-giveIf true t v = record { answer = Full; table = t }
-giveIf false t v = record { answer = At (record { 0 = t .head }); table = givenOut t v }
-
-abbrev pub giveOf : Table → Slot → Given
-giveOf t v = giveIf (leb 64 (t .head)) t v
 
 -- vacant, and first in the chain
 abbrev pub vacated : Table → ℕ → Table

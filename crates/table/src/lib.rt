@@ -1,12 +1,9 @@
 // The slots with the chain of vacated ones, as the slab crate keeps them (last vacated first, unused slots rising from 0),
 // and the hold counts.
 use holds::Holds;
-use ids::SlotNo;
-use ids::Tag;
 use slot::Slot;
 ghost use mathlib.Core.Path.{_≡_};
-ghost use Rattle.answer.specs.Answer.{numberOf};
-ghost use Rattle.table.specs.Table.{freshTable, slotAt, putAt, giveOf, vacateAt, giveAnswer};
+ghost use Rattle.table.specs.Table.{freshTable};
 
 // `head` is the first vacant slot, `next` the one after each; a number over 63 ends the chain.
 #[repr(C)]
@@ -98,89 +95,4 @@ pub fn fresh() -> Table
             outside: [0; 64],
         },
     }
-}
-
-// What stands at a tag.
-pub fn slot_at(t: Table, tag: Tag) -> Slot
-    ensures { λ r. ⌜ r ≡ slotAt t (tag .0) ⌝ }
-{
-    let n = ids::slot_of(tag);
-    let at = n.0 as usize;
-    if 64 <= at {
-        return slot::vacant();
-    }
-    t.slots[at]
-}
-
-// A slot stored at a tag.
-pub fn put_slot(t: Table, tag: Tag, v: Slot) -> Table
-    ensures { λ r. ⌜ r ≡ putAt t (tag .0) v ⌝ }
-{
-    let n = ids::slot_of(tag);
-    let at = n.0 as usize;
-    if 64 <= at {
-        return t;
-    }
-    let mut u = t;
-    u.slots[at] = v;
-    u
-}
-
-pub enum GiveAnswer {
-    At(SlotNo),
-    Full,
-}
-
-impl GiveAnswer {
-    pub fn number(self) -> u64
-        ensures { λ r. ⌜ r ≡ numberOf (giveAnswer self) ⌝ }
-    {
-        match self {
-            GiveAnswer::At(_) => 0,
-            GiveAnswer::Full => 202,
-        }
-    }
-}
-
-pub struct Given {
-    pub answer: GiveAnswer,
-    pub table: Table,
-}
-
-// The first vacant slot becomes v.
-pub fn give_out(t: Table, v: Slot) -> Given
-    ensures { λ r. ⌜ r ≡ giveOf t v ⌝ }
-{
-    let n = t.head;
-    if 64 <= n {
-        return Given {
-            answer: GiveAnswer::Full,
-            table: t,
-        };
-    }
-    let at = n as usize;
-    let mut u = t;
-    u.slots[at] = v;
-    u.head = t.next[at];
-    Given {
-        answer: GiveAnswer::At(SlotNo(n)),
-        table: u,
-    }
-}
-
-// The slot at a tag becomes vacant and the first to be given out again.
-pub fn vacate(t: Table, tag: Tag) -> Table
-    ensures { λ r. ⌜ r ≡ vacateAt t (tag .0) ⌝ }
-{
-    let n = ids::slot_of(tag);
-    let at = n.0 as usize;
-    if 64 <= at {
-        return t;
-    }
-    let v = slot::vacant();
-    let mut u = t;
-    u.slots[at] = v;
-    u.next[at] = t.head;
-    u.head = n.0;
-    u
 }
