@@ -27,15 +27,27 @@ pub fn put4(out: &mut [u8], at: usize, x: u64)
     put1(out, at + 3, (x / 0x100_0000 % 256) as u8);
 }
 
-// The eight bytes of a number from a place on.
+// The eight bytes of a number from a place on; where all have room, in one look.
 pub fn put8(out: &mut [u8], at: usize, x: u64)
     ensures { λ r. ⌜ now (out .exit) ≡ sets (now (out .entry)) at (bytes8 x) ⌝ }
 {
     if out.len() <= at {
         return;
     }
+    let high = x / 0x1_0000_0000;
+    if 8 <= out.len() - at {
+        out[at] = (x % 256) as u8;
+        out[at + 1] = (x / 0x100 % 256) as u8;
+        out[at + 2] = (x / 0x1_0000 % 256) as u8;
+        out[at + 3] = (x / 0x100_0000 % 256) as u8;
+        out[at + 4] = (high % 256) as u8;
+        out[at + 5] = (high / 0x100 % 256) as u8;
+        out[at + 6] = (high / 0x1_0000 % 256) as u8;
+        out[at + 7] = (high / 0x100_0000 % 256) as u8;
+        return;
+    }
     put4(out, at, x);
-    put4(out, at + 4, x / 0x1_0000_0000);
+    put4(out, at + 4, high);
 }
 
 // Two numbers of eight bytes.

@@ -22,7 +22,21 @@ fn put_words(out: &mut [u8], at: usize, ws: &[u64])
     }
 }
 
-fn put_bytes(out: &mut [u8], at: usize, bs: &[u8])
+// The bytes where all have room.
+fn put_all(out: &mut [u8], at: usize, bs: &[u8])
+    requires { ⌜ at + length (now bs) ≤ length (now out) ⌝ }
+    ensures { λ r. ⌜ now (out .exit) ≡ sets (now (out .entry)) at (now (bs .entry)) ⌝ }
+{
+    let n = bs.len();
+    let mut i = 0;
+    while i < n {
+        out[at + i] = bs[i];
+        i += 1;
+    }
+}
+
+// The bytes, as many as have room.
+fn put_some(out: &mut [u8], at: usize, bs: &[u8])
     requires { ⌜ at ≤ 0x4000_0000_0000_0000 ⌝ }
     ensures { λ r. ⌜ now (out .exit) ≡ sets (now (out .entry)) at (now (bs .entry)) ⌝ }
 {
@@ -32,6 +46,17 @@ fn put_bytes(out: &mut [u8], at: usize, bs: &[u8])
         le_put::put1(out, at + i, bs[i]);
         i += 1;
     }
+}
+
+fn put_bytes(out: &mut [u8], at: usize, bs: &[u8])
+    requires { ⌜ at ≤ 0x4000_0000_0000_0000 ⌝ }
+    ensures { λ r. ⌜ now (out .exit) ≡ sets (now (out .entry)) at (now (bs .entry)) ⌝ }
+{
+    if at + bs.len() <= out.len() {
+        put_all(out, at, bs);
+        return;
+    }
+    put_some(out, at, bs);
 }
 
 // A read, with the bytes that it stored.

@@ -10,9 +10,10 @@ use lib.Dec.{eqb, leb}
 use lib.ListN.{length, set, getD, drop, length-append, length-drop}
 use lib.Seq.{sets}
 use borrow.Author.Tests.{eq-eqb, ne-eqb, eqb-false, leb-true}
+use Rattle.le.specs.Le.{byte, half}
 use Rattle.word_put.proofs.Stores.{sets-then}
 use Rattle.record.specs.declared.Record.{Record}
-use Rattle.record.specs.Record.{each, isEvent, nextOf, recordOf, briefOf, sizeOf, firstTable, secondTable, flagTable, numberTable, userTable, walk}
+use Rattle.record.specs.Record.{each, isEvent, nextOf, nineOf, recordOf, sizeOf, firstTable, secondTable, flagTable, numberTable, userTable, walk}
 
 pub each-length : (f : ℕ → ℕ) (n : ℕ) → length (each f n) ≡ n
 each-length f zero = refl
@@ -26,9 +27,16 @@ grown l out f i x e p =
     ∙ sets-then (each f i) (f i ∷ []) l 0
     ∙ ap (λ (k : ℕ). sets l 0 (each f k)) (sym (add-one i))
 
+-- a record by its first bytes, each read by itself
+pub head-is :
+    (bs : List ℕ) (k f s g n u d : ℕ) → k ≡ byte bs 0 → f ≡ byte bs 1 → s ≡ byte bs 2 → g ≡ byte bs 3 → n ≡ half bs 4 → u ≡ half bs 8 → d ≡ half bs 12
+    → _≡_ {A = Record} (record { kind = k; first = f; second = s; flags = g; number = n; uid = u; gid = d; words = nineOf bs }) (recordOf bs)
+head-is bs k f s g n u d ek ef es eg en eu ed =
+    λ i. record { kind = ek i; first = ef i; second = es i; flags = eg i; number = en i; uid = eu i; gid = ed i; words = nineOf bs }
+
 -- the size of the next event, by the test
-pub next-is : (bs : List ℕ) (r : Record) (b : Bool) → r ≡ briefOf bs → b ≡ isEvent r (length bs) → cond b (sizeOf r) 0 ≡ nextOf bs
-next-is bs r b er eb = ap (λ (x : Bool). cond x (sizeOf r) 0) eb ∙ ap (λ (y : Record). cond (isEvent y (length bs)) (sizeOf y) 0) er
+pub next-is : (bs : List ℕ) (b : Bool) → b ≡ isEvent (recordOf bs) (length bs) → cond b (sizeOf (recordOf bs)) 0 ≡ nextOf bs
+next-is bs b eb = ap (λ (x : Bool). cond x (sizeOf (recordOf bs)) 0) eb
 
 -- the next event's bytes are all there
 right : (a b : Bool) → a && b ≡ true → b ≡ true

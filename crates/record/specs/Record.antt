@@ -40,20 +40,6 @@ recordOf bs =
       words = nineOf bs;
     }
 
--- the same with its first word alone, which is all that tells whether it is an event, its size and its room
-abbrev pub briefOf : List ℕ → Record
-briefOf bs =
-    record {
-      kind = byte bs 0;
-      first = byte bs 1;
-      second = byte bs 2;
-      flags = byte bs 3;
-      number = half bs 4;
-      uid = half bs 8;
-      gid = half bs 12;
-      words = record { 0 = word bs 16; 1 = 0; 2 = 0; 3 = 0; 4 = 0; 5 = 0; 6 = 0; 7 = 0; 8 = 0 };
-    }
-
 -- by kind: how many words, and the most that each field may hold
 abbrev pub wordTable : List ℕ
 wordTable = 0 ∷ 1 ∷ 1 ∷ 1 ∷ 2 ∷ 0 ∷ 0 ∷ 9 ∷ 8 ∷ 3 ∷ 3 ∷ 4 ∷ 1 ∷ 2 ∷ 4 ∷ 1 ∷ 1 ∷ 0 ∷ 0 ∷ 4 ∷ []
@@ -77,18 +63,27 @@ abbrev pub userTable : List ℕ
 userTable = 0 ∷ 0 ∷ 0 ∷ 0 ∷ 0 ∷ 0 ∷ 0 ∷ 0 ∷ most ∷ 0 ∷ 0 ∷ most ∷ 0 ∷ 0 ∷ 0 ∷ 0 ∷ 0 ∷ 0 ∷ 0 ∷ 0 ∷ []
 
 -- how many bytes a write has
+abbrev pub tailBy : ℕ → ℕ → ℕ
+tailBy kind number = cond (eqb kind 16) number 0
+
 abbrev pub tailOf : Record → ℕ
-tailOf r = cond (eqb (r .kind) 16) (r .number) 0
+tailOf r = tailBy (r .kind) (r .number)
 
 -- where the lists, then the bytes begin, and where the record ends
+abbrev pub firstBy : ℕ → ℕ
+firstBy kind = 16 + 8 * getD wordTable kind 0
+
 abbrev pub firstAt : Record → ℕ
-firstAt r = 16 + 8 * getD wordTable (r .kind) 0
+firstAt r = firstBy (r .kind)
 
 abbrev pub secondAt : Record → ℕ
 secondAt r = firstAt r + 8 * r .first
 
 abbrev pub tailAt : Record → ℕ
 tailAt r = secondAt r + 8 * r .second
+
+abbrev pub sizeBy : ℕ → ℕ → ℕ → ℕ → ℕ
+sizeBy kind first second number = firstBy kind + 8 * first + 8 * second + tailBy kind number
 
 abbrev pub sizeOf : Record → ℕ
 sizeOf r = tailAt r + tailOf r

@@ -2,7 +2,7 @@
 ghost use mathlib.Core.Path.{_≡_};
 ghost use Prim.Native.Nat.{_≤_};
 ghost use lib.Seq.{sets};
-ghost use Rattle.record.specs.Record.{nineOf, recordOf, briefOf, tailOf, firstAt, secondAt, tailAt, sizeOf, wordsAt};
+ghost use Rattle.record.specs.Record.{nineOf, recordOf, tailBy, tailOf, firstBy, firstAt, secondAt, tailAt, sizeBy, wordsAt};
 
 pub struct Nine(
     pub u64,
@@ -26,9 +26,6 @@ pub struct Record {
     pub gid: u32,
     pub words: Nine,
 }
-
-// How many words, by kind.
-const WORDS: [u8; 20] = [0, 1, 1, 1, 2, 0, 0, 9, 8, 3, 3, 4, 1, 2, 4, 1, 1, 0, 0, 4];
 
 fn read_words(s: &[u8]) -> Nine
     ensures { λ r. ⌜ r ≡ nineOf (now (s .entry)) ⌝ }
@@ -63,66 +60,75 @@ pub fn record_at(s: &[u8]) -> Record
     }
 }
 
-// The record at the start of a slice with its first word alone.
-pub fn brief_at(s: &[u8]) -> Record
-    ensures { λ r. ⌜ r ≡ briefOf (now (s .entry)) ⌝ }
-{
-    Record {
-        kind: le::byte(s, 0),
-        first: le::byte(s, 1),
-        second: le::byte(s, 2),
-        flags: le::byte(s, 3),
-        number: le::half(s, 4),
-        uid: le::half(s, 8),
-        gid: le::half(s, 12),
-        words: Nine(le::word(s, 16), 0, 0, 0, 0, 0, 0, 0, 0),
-    }
-}
-
 fn wide(x: u8) -> usize
     ensures { λ r. ⌜ (r ≡ x) × (r ≤ 255) ⌝ }
 {
     x as usize
 }
 
-// Where its lists begin.
-fn first_at(r: Record) -> usize
-    ensures { λ o. ⌜ (o ≡ firstAt r) × (o ≤ 2056) ⌝ }
+// Where the lists begin: behind so many words, by kind.
+fn first_by(kind: u8) -> usize
+    ensures { λ o. ⌜ (o ≡ firstBy kind) × (o ≤ 88) ⌝ }
 {
-    let k = r.kind as usize;
-    if 20 <= k {
-        return 16;
+    match kind {
+        1 => 24,
+        2 => 24,
+        3 => 24,
+        4 => 32,
+        7 => 88,
+        8 => 80,
+        9 => 40,
+        10 => 40,
+        11 => 48,
+        12 => 24,
+        13 => 32,
+        14 => 48,
+        15 => 24,
+        16 => 24,
+        19 => 48,
+        _ => 16,
     }
-    16 + 8 * wide(WORDS[k])
+}
+
+fn first_at(r: Record) -> usize
+    ensures { λ o. ⌜ (o ≡ firstAt r) × (o ≤ 88) ⌝ }
+{
+    first_by(r.kind)
 }
 
 fn second_at(r: Record) -> usize
-    ensures { λ o. ⌜ (o ≡ secondAt r) × (o ≤ 4096) ⌝ }
+    ensures { λ o. ⌜ (o ≡ secondAt r) × (o ≤ 2128) ⌝ }
 {
-    first_at(r) + 8 * wide(r.first)
+    first_by(r.kind) + 8 * wide(r.first)
 }
 
 // Where its bytes begin, and how many there are.
 pub fn tail_at(r: Record) -> usize
-    ensures { λ o. ⌜ (o ≡ tailAt r) × (o ≤ 6136) ⌝ }
+    ensures { λ o. ⌜ (o ≡ tailAt r) × (o ≤ 4168) ⌝ }
 {
     second_at(r) + 8 * wide(r.second)
+}
+
+pub fn tail_by(kind: u8, number: u32) -> usize
+    ensures { λ o. ⌜ (o ≡ tailBy kind number) × (o ≤ 0xffff_ffff) ⌝ }
+{
+    if kind == 16 {
+        return number as usize;
+    }
+    0
 }
 
 pub fn tail(r: Record) -> usize
     ensures { λ o. ⌜ (o ≡ tailOf r) × (o ≤ 0xffff_ffff) ⌝ }
 {
-    if r.kind == 16 {
-        return r.number as usize;
-    }
-    0
+    tail_by(r.kind, r.number)
 }
 
-// All its bytes.
-pub fn size(r: Record) -> usize
-    ensures { λ o. ⌜ o ≡ sizeOf r ⌝ }
+// All its bytes, told from its first ones.
+pub fn size_by(kind: u8, first: u8, second: u8, number: u32) -> usize
+    ensures { λ o. ⌜ o ≡ sizeBy kind first second number ⌝ }
 {
-    tail_at(r) + tail(r)
+    first_by(kind) + 8 * wide(first) + 8 * wide(second) + tail_by(kind, number)
 }
 
 // So many words from a place, into those lent from the first on.

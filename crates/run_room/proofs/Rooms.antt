@@ -8,18 +8,17 @@ use lib.Dec.{eqb, leb}
 use lib.ListN.{length, drop, length-drop}
 use lib.Seq.{drop-drop}
 use borrow.Author.Tests.{eq-eqb, ne-eqb, le-leb, lt-leb, leb-true, leb-false}
-use Rattle.record.specs.declared.Record.{Record}
-use Rattle.record.specs.Record.{recordOf, briefOf, tailOf, nextOf, walk}
+use Rattle.record.specs.Record.{recordOf, tailBy, nextOf, walk}
 use Rattle.record.proofs.Laws.{next-there, walk-ends, walk-goes-on}
-use Rattle.run_room.specs.Room.{roomOf, needed}
+use Rattle.run_room.specs.Room.{roomBy, roomOf, needed}
 
-pub room-is-read : (r : Record) → r .kind ≡ 15 → 192 + min (r .words .0) 8192 + 27 * tailOf r ≡ roomOf r
-room-is-read r e = ap (λ (b : Bool). 192 + cond b (min (r .words .0) 8192) 0 + 27 * tailOf r) (sym (eq-eqb (r .kind) 15 e))
+pub room-is-read : (kind number word : ℕ) → kind ≡ 15 → 192 + min word 8192 + 27 * tailBy kind number ≡ roomBy kind number word
+room-is-read kind number word e = ap (λ (b : Bool). 192 + cond b (min word 8192) 0 + 27 * tailBy kind number) (sym (eq-eqb kind 15 e))
 
-pub room-is-other : (r : Record) → (r .kind ≡ 15 → ⊥) → 192 + 27 * tailOf r ≡ roomOf r
-room-is-other r e =
-    (let z : 192 + 27 * tailOf r ≡ 192 + 0 + 27 * tailOf r = omega arith in z)
-    ∙ ap (λ (b : Bool). 192 + cond b (min (r .words .0) 8192) 0 + 27 * tailOf r) (sym (ne-eqb (r .kind) 15 e))
+pub room-is-other : (kind number word : ℕ) → (kind ≡ 15 → ⊥) → 192 + 27 * tailBy kind number ≡ roomBy kind number word
+room-is-other kind number word e =
+    (let z : 192 + 27 * tailBy kind number ≡ 192 + 0 + 27 * tailBy kind number = omega arith in z)
+    ∙ ap (λ (b : Bool). 192 + cond b (min word 8192) 0 + 27 * tailBy kind number) (sym (ne-eqb kind 15 e))
 
 -- the state's own bytes are always needed
 least-room : (f : ℕ) (bs : List ℕ) → 1608 ≤ walk (λ rest. 1608) (λ rest n. roomOf (recordOf rest) + n) f bs
@@ -54,11 +53,11 @@ module _ (bs : List ℕ) (most left at k size : ℕ) (so : Spent bs most left at
   pub spent-ends : size ≡ 0 → true ≡ leb (needed bs) most
   spent-ends z = sym (so ∙ le-leb (needed (drop at bs)) (left + 1608) (omega (arith, needed-ends (drop at bs) (sym es ∙ z))))
 
-  module _ (more : size ≡ 0 → ⊥) (r : Record) (er : r ≡ briefOf (drop at bs)) (ek : k ≡ roomOf r) where
+  module _ (more : size ≡ 0 → ⊥) (ek : k ≡ roomOf (recordOf (drop at bs))) where
     on : needed (drop at bs) ≡ k + needed (drop (at + size) bs)
     on =
         needed-goes-on (drop at bs) (λ z. more (es ∙ z))
-        ∙ ap₂ _+_ (sym (ek ∙ ap roomOf er)) (ap needed (ap (λ (n : ℕ). drop n (drop at bs)) (sym es) ∙ drop-drop size at bs))
+        ∙ ap₂ _+_ (sym ek) (ap needed (ap (λ (n : ℕ). drop n (drop at bs)) (sym es) ∙ drop-drop size at bs))
 
     pub spent-short : left < k → false ≡ leb (needed bs) most
     spent-short h = sym (so ∙ lt-leb (needed (drop at bs)) (left + 1608) (omega (arith, h, on, needed-least (drop (at + size) bs))))

@@ -5,11 +5,14 @@ use mathlib.Core.List.{List}
 use lib.Dec.{eqb}
 use lib.ListN.{length}
 use Rattle.record.specs.declared.Record.{Record}
-use Rattle.record.specs.Record.{recordOf, tailOf, walk}
+use Rattle.record.specs.Record.{recordOf, tailBy, walk}
 
 -- the room that an event's bytes may take: a reply of 16 descriptions, the bytes of a read, 18 effects for each 16 bytes of a write
+abbrev pub roomBy : ℕ → ℕ → ℕ → ℕ
+roomBy kind number word = 192 + cond (eqb kind 15) (min word 8192) 0 + 27 * tailBy kind number
+
 abbrev pub roomOf : Record → ℕ
-roomOf r = 192 + cond (eqb (r .kind) 15) (min (r .words .0) 8192) 0 + 27 * tailOf r
+roomOf r = roomBy (r .kind) (r .number) (r .words .0)
 
 abbrev pub needed : List ℕ → ℕ
 needed bs = walk (λ rest. 1608) (λ rest n. roomOf (recordOf rest) + n) (length bs) bs

@@ -1,9 +1,9 @@
 // Whether the output that a run is given has room for all that it may write: told from the records alone, before the first event.
-use record::Record;
 ghost use mathlib.Core.Path.{_≡_};
 ghost use Prim.Native.Nat.{_≤_, min};
 ghost use lib.Dec.{leb};
-ghost use Rattle.run_room.specs.Room.{roomOf, needed};
+ghost use Rattle.record.specs.Record.{recordOf};
+ghost use Rattle.run_room.specs.Room.{roomBy, roomOf, needed};
 
 pub fn least(a: u64, b: usize) -> usize
     ensures { λ r. ⌜ r ≡ min a b ⌝ }
@@ -14,17 +14,24 @@ pub fn least(a: u64, b: usize) -> usize
     b
 }
 
-// The room that an event's bytes may take.
-fn room(r: Record) -> usize
-    ensures { λ o. ⌜ o ≡ roomOf r ⌝ }
+// The room that an event's bytes may take: a read's by its first word, a write's by its number.
+fn room(kind: u8, number: u32, word: u64) -> usize
+    ensures { λ o. ⌜ o ≡ roomBy kind number word ⌝ }
     ensures { λ o. ⌜ o ≤ 0x40_0000_0000 ⌝ }
 {
-    let n = record::tail(r);
-    if r.kind == 15 {
-        let a = r.words;
-        return 192 + least(a.0, 8192) + 27 * n;
+    let n = record::tail_by(kind, number);
+    if kind == 15 {
+        return 192 + least(word, 8192) + 27 * n;
     }
     192 + 27 * n
+}
+
+// The room of the record at the start of a slice.
+fn room_at(s: &[u8]) -> usize
+    ensures { λ o. ⌜ o ≡ roomOf (recordOf (now (s .entry))) ⌝ }
+    ensures { λ o. ⌜ o ≤ 0x40_0000_0000 ⌝ }
+{
+    room(le::byte(s, 0), le::half(s, 4), le::word(s, 16))
 }
 
 // Whether what a run writes has room in so many bytes.
@@ -38,8 +45,7 @@ pub fn has_room(events: &[u8], most: usize) -> bool
     let mut at = 0;
     let mut size = record_next::next(events);
     while size != 0 {
-        let r = record::brief_at(&events[at..]);
-        let k = room(r);
+        let k = room_at(&events[at..]);
         if left < k {
             return false;
         }

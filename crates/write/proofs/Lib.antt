@@ -1,2 +1,3 @@
 pub mod Loop
+mod One
 pub mod Small

@@ -108,6 +108,14 @@ fit parsed.UnknownKind v h n = (refl, inr (inr (inl refl)))
 fit parsed.UnknownEventFlags v h n = (refl, inr (inr (inl refl)))
 fit parsed.UnknownObtainFlags v h n = (refl, inr (inr (inl refl)))
 
+-- a number that is not 0 refuses
+pub refused-by : (p : ParsedCqe) (v : Slot) (h : Holds) (n : Handles) (r : Handled) → r ≡ handledOf p v h n → (r .number ≡ 0 → ⊥) → refusal (r .number)
+refused-by p v h n r e z = go (subst (λ (x : Handled). Fit x (handledFx p v h n)) (sym e) (fit p v h n) .1)
+  where
+    go : (r .number ≡ 0) ⊎ refusal (r .number) → refusal (r .number)
+    go (inl q) = absurd (z q)
+    go (inr q) = q
+
 -- the slot that is looked at
 look-is : (t : Table) (n : ℕ) → lookOf (ltb n 64) (getD (t .slots) (n % 64) noSlot) ≡ slotAt t n
 look-is t n = go (ltb n 64) refl
@@ -240,13 +248,6 @@ module _ (s : State) (ws fx₀ bs : List ℕ) (n : ℕ) (fx : List ℕ) (t : Tab
             ∙ ap₂ (λ (a : World) (b : ℕ). writeOn a rest b (l .made ++ F)) state-is (sym (add-one i)))
             ∙ sym (ap (λ (x : List Cqe). writeOn w x i (l .made)) split) ∙ l .whole;
       }
-
-  pub refused-is : (r .number ≡ 0 → ⊥) → refusal (r .number)
-  refused-is z = go (fits .1)
-    where
-      go : (r .number ≡ 0) ⊎ refusal (r .number) → refusal (r .number)
-      go (inl q) = absurd (z q)
-      go (inr q) = q
 
   pub stops : (r .number ≡ 0 → ⊥) → outcome (stopped i (r .number)) (l .made ++ F) (world u ws) ≡ writeOn (world s ws) (entriesOf bs) 0 []
   stops z =

@@ -2,16 +2,22 @@
 // is carried out on the table in place, with no branch: what stays is stored as it was.
 use handle_fd::Handled;
 use handles::Handles;
+use holds::Holds;
 use ids::Tag;
+use part::Part;
+use schemev2::Cqe;
 use state::State;
 ghost use mathlib.Core.Path.{_≡_};
 ghost use mathlib.Core.List.{List};
-ghost use Prim.Native.Nat.{ℕ, _≤_, _<_};
+ghost use Prim.Native.Nat.{ℕ, _/_, _%_, _≤_, _<_};
 ghost use lib.ListN.{length};
 ghost use lib.Seq.{sets};
+ghost use Rattle.state.specs.declared.State.{State as Whole};
+ghost use Rattle.schemev2.specs.Entry.{cqeOf};
+ghost use Rattle.part.specs.Part.{Stands, found, leaves};
 ghost use Rattle.events.specs.World.{world};
 ghost use Rattle.events.specs.Complete.{stopped, writeOf};
-ghost use Rattle.write.specs.Write.{writeAnswer, refusal};
+ghost use Rattle.write.specs.Write.{writeAnswer, refusal, withHandles};
 
 pub enum WriteAnswer {
     Written(u64),
@@ -26,6 +32,15 @@ pub struct WriteStep {
     pub answer: WriteAnswer,
     pub words: usize,
     pub state: State,
+}
+
+// The same of a write of one entry, on the part at its tag.
+pub struct EntryStep {
+    pub answer: WriteAnswer,
+    pub words: usize,
+    pub part: Part,
+    pub holds: Holds,
+    pub handles: Handles,
 }
 
 // A refusal after a good entry returns the bytes so far, a first one its number.
@@ -108,5 +123,63 @@ pub fn write(s: State, fx: &mut [u64], bytes: &[u8]) -> WriteStep
             driver: d,
             table: t,
         },
+    }
+}
+
+// Nothing but what is known of hold counts: there are 64.
+fn known(h: Holds)
+    ensures { λ r. ⌜ length (h .holds) ≡ 64 ⌝ }
+{}
+
+// A write that holds the entry e alone.
+pub fn entry(p: Part, h: Holds, k: Handles, fx: &mut [u64], e: Cqe) -> EntryStep
+    ensures { λ r. ⌜ ((s : Whole) (ws bs : List ℕ) → length bs / 16 ≡ 1 → e ≡ cqeOf bs → Stands s (e .tag % 64) p → (writeAnswer (r .answer) ≡ writeOf (world (found (withHandles s k) p h) ws) (length (now (fx .entry))) bs .answer) × ((world (leaves (withHandles s (r .handles)) (e .tag % 64) (r .part) (r .holds)) ws ≡ writeOf (world (found (withHandles s k) p h) ws) (length (now (fx .entry))) bs .world) × ((now (fx .exit) ≡ sets (now (fx .entry)) 0 (writeOf (world (found (withHandles s k) p h) ws) (length (now (fx .entry))) bs .effects)) × (r .words ≡ length (writeOf (world (found (withHandles s k) p h) ws) (length (now (fx .entry))) bs .effects))))) ⌝ }
+{
+    if fx.len() < 54 {
+        return EntryStep {
+            answer: WriteAnswer::ShortWords,
+            words: 0,
+            part: p,
+            holds: h,
+            handles: k,
+        };
+    }
+    known(h);
+    let c = parse_cqe::parse_cqe(e);
+    let tag = e.tag as u64;
+    let old = p.slot;
+    let v = carry_out::look(tag, old);
+    let r = handle_parsed::handle_parsed(c, v, h, k, fx, 0);
+    let act = r.act;
+    let new = r.slot;
+    let left = r.holds;
+    let handles = r.handles;
+    let w = carry_out::slot_after(tag, act, new, old);
+    let next = carry_out::next_after(tag, act, p.next, p.head);
+    let head = carry_out::head_after(tag, act, p.head);
+    let queue = p.queue;
+    let after = Part {
+        slot: w,
+        next: next,
+        head: head,
+        queue: queue,
+        scheme: p.scheme,
+    };
+    let number = r.number;
+    if number != 0 {
+        return EntryStep {
+            answer: stop(0, number),
+            words: r.words,
+            part: after,
+            holds: left,
+            handles: handles,
+        };
+    }
+    EntryStep {
+        answer: WriteAnswer::Written(16),
+        words: r.words,
+        part: after,
+        holds: left,
+        handles: handles,
     }
 }

@@ -1,27 +1,62 @@
 -- `record_next::next` meets its contract. Assumes nothing.
+use Rattle.record.proofs.Laws.{head-is, next-is}
+use Rattle.record.specs.Record.{isEvent, nineOf, recordOf, sizeOf}
+use mathlib.Core.Path.{sym, ap, _∙_}
+use Rattle.record.proofs.Laws.{next-is}
+use Rattle.record.specs.Record.{isEvent, nineOf, recordOf, sizeOf}
+use Rattle.record.specs.declared.Record.{Record}
+use lib.ListN.{length}
+use mathlib.Core.Bool.{Bool, cond}
+use mathlib.Core.Path.{sym, ap, _∙_}
 use borrow.Author.Needs.{needs}
 use Rattle.record_next.proofs.next.Statement.{statement}
 use Rattle.record_next.proofs.next.Tie as tie
-use mathlib.Core.Path.{sym, ap, _∙_}
-use mathlib.Core.Bool.{Bool, cond}
-use Rattle.record.specs.Record.{sizeOf}
-use Rattle.record.proofs.Laws.{next-is}
 
-brief-at-requires : tie.Need-brief-at-requires
-brief-at-requires c κs = search needs
+byte-requires : tie.Need-byte-requires
+byte-requires c κs = search needs
+
+byte-requires-2 : tie.Need-byte-requires-2
+byte-requires-2 c κs = search needs
+
+byte-requires-3 : tie.Need-byte-requires-3
+byte-requires-3 c κs = search needs
+
+half-requires : tie.Need-half-requires
+half-requires c κs = search needs
+
+byte-requires-4 : tie.Need-byte-requires-4
+byte-requires-4 c κs = search needs
+
+half-requires-2 : tie.Need-half-requires-2
+half-requires-2 c κs = search needs
+
+half-requires-3 : tie.Need-half-requires-3
+half-requires-3 c κs = search needs
 
 is-event-requires : tie.Need-is-event-requires
 is-event-requires c κs = search needs
 
-size-requires : tie.Need-size-requires
-size-requires c κs = search needs
+size-by-requires : tie.Need-size-by-requires
+size-by-requires c κs = search needs
 
 returns : tie.Need-returns
-returns c = let c1 = c .before in let c2 = c1 .before in let c3 = c2 .before in let c5 = c3 .before .before in c .size .ensures ∙ sym (ap (λ (b : Bool). cond b (sizeOf (c3 .brief-at .result)) 0) (c1 .if1 .taken)) ∙ next-is (c5 .args .s .now) _ _ (c3 .brief-at .ensures) (c2 .is-event .ensures)
+returns c = let r = head-is (c .before .before .before .before .before .before .before .before .before .before .before .args .s .now) _ _ _ _ _ _ _ (c .before .before .before .before .before .before .before .before .before .byte .ensures) (c .before .before .before .before .before .before .before .before .byte2 .ensures) (c .before .before .before .before .before .before .before .byte3 .ensures) (c .before .before .before .before .before .byte4 .ensures) (c .before .before .before .before .before .before .half .ensures) (c .before .before .before .before .half2 .ensures) (c .before .before .before .half3 .ensures) in c .size-by .ensures ∙ ap sizeOf r ∙ sym (ap (λ (b : Bool). cond b (sizeOf (recordOf (c .before .before .before .before .before .before .before .before .before .before .before .args .s .now))) 0) (c .before .if1 .taken)) ∙ next-is (c .before .before .before .before .before .before .before .before .before .before .before .args .s .now) _ (c .before .before .is-event .ensures (nineOf (c .before .before .before .before .before .before .before .before .before .before .before .args .s .now)) ∙ ap (λ (x : Record). isEvent x (length (c .before .before .before .before .before .before .before .before .before .before .before .args .s .now))) r)
 
 returns-2 : tie.Need-returns-2
-returns-2 c = let c1 = c .before in let c2 = c1 .before in let c4 = c2 .before .before in sym (ap (λ (b : Bool). cond b (sizeOf (c2 .brief-at .result)) 0) (c .if1 .left)) ∙ next-is (c4 .args .s .now) _ _ (c2 .brief-at .ensures) (c1 .is-event .ensures)
+returns-2 c = let r = head-is (c .before .before .before .before .before .before .before .before .before .before .args .s .now) _ _ _ _ _ _ _ (c .before .before .before .before .before .before .before .before .byte .ensures) (c .before .before .before .before .before .before .before .byte2 .ensures) (c .before .before .before .before .before .before .byte3 .ensures) (c .before .before .before .before .byte4 .ensures) (c .before .before .before .before .before .half .ensures) (c .before .before .before .half2 .ensures) (c .before .before .half3 .ensures) in sym (ap (λ (b : Bool). cond b (sizeOf (recordOf (c .before .before .before .before .before .before .before .before .before .before .args .s .now))) 0) (c .if1 .left)) ∙ next-is (c .before .before .before .before .before .before .before .before .before .before .args .s .now) _ (c .before .is-event .ensures (nineOf (c .before .before .before .before .before .before .before .before .before .before .args .s .now)) ∙ ap (λ (x : Record). isEvent x (length (c .before .before .before .before .before .before .before .before .before .before .args .s .now))) r)
 
 pub next-spec : {M : Type 1} → statement M
 next-spec =
-    tie.close (tie.spec brief-at-requires is-event-requires size-requires returns returns-2)
+    tie.close
+    (tie.spec
+    byte-requires
+    byte-requires-2
+    byte-requires-3
+    half-requires
+    byte-requires-4
+    half-requires-2
+    half-requires-3
+    is-event-requires
+    size-by-requires
+    returns
+    returns-2)

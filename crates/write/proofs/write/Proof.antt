@@ -12,7 +12,7 @@ use Rattle.handle_fd.specs.declared.Handled.{Handled}
 use Rattle.handle_parsed.specs.Handled.{handledFx}
 use Rattle.schemev2.specs.Entry.{cqeOf}
 use Rattle.events.specs.Outcome.{Outcome}
-use Rattle.write.proofs.Loop.{Left, begins, goes-on-as, stops-as, refused-is, stops-lent, stops-words, ends, with-room, too-short, parts, four, holds-size}
+use Rattle.write.proofs.Loop.{Left, begins, goes-on-as, stops-as, refused-by, stops-lent, stops-words, ends, with-room, too-short, parts, four, holds-size}
 use Rattle.word_put.proofs.Stores.{part-is}
 
 abbrev Inv-loop : tie.InvT-loop
@@ -85,7 +85,7 @@ add-j : tie.Need-add-j Inv-loop μ-loop
 add-j c = let c10 = c .before .before .before .before .before .before .before .before .before .before in let c20 = c10 .before .before .before .before .before .before .before .before .before .before in let c21 = c20 .before in omega (arith, c21 .loop .inv .1, c21 .loop .inv .5, c10 .handle-parsed .ensures .1 .1, c20 .loop-test .taken)
 
 stop-requires : tie.Need-stop-requires Inv-loop μ-loop
-stop-requires c κs = let c11 = c .before .before .before .before .before .before .before .before .before .before .before in let c15 = c11 .before .before .before .before in let c18 = c15 .before .before .before in let c19 = c18 .before in let c21 = c19 .before .before in let c22 = c21 .before in let c28 = c22 .before .before .before .before .before .before in let a = c28 .args in let l = c22 .loop in (let ws = [] in refused-is (a .s) ws (a .fx .now) (a .bytes .now) _ (l .fx) (l .t) (l .d) (l .i) (l .j) (l .inv .4 ws) (c21 .loop-test .taken) (l .inv .3) (c19 .cqe .result) (c19 .cqe .ensures ∙ ap cqeOf (part-is (a .bytes .now) (16 * l .i))) (c11 .handle-parsed .result) (c18 .parse-cqe .result) (c18 .parse-cqe .ensures) (c15 .look .result) (c15 .look .ensures) (c11 .handle-parsed .ensures .0) _ (c11 .handle-parsed .ensures .1 .0) (c .if2 .taken), omega (arith, c21 .loop-test .taken, l .inv .5))
+stop-requires c κs = (refused-by (c .before .before .before .before .before .before .before .before .before .before .before .before .before .before .before .before .before .before .parse-cqe .result) (c .before .before .before .before .before .before .before .before .before .before .before .before .before .before .before .look .result) (c .before .before .before .before .before .before .before .before .before .before .before .before .before .before .before .before .before .before .before .before .before .before .loop .t .holds) (c .before .before .before .before .before .before .before .before .before .before .before .before .before .before .before .before .before .before .before .before .before .before .loop .d .handles) (c .before .before .before .before .before .before .before .before .before .before .before .handle-parsed .result) (c .before .before .before .before .before .before .before .before .before .before .before .handle-parsed .ensures .0) (c .if2 .taken), omega (arith, c .before .before .before .before .before .before .before .before .before .before .before .before .before .before .before .before .before .before .before .before .before .loop-test .taken, c .before .before .before .before .before .before .before .before .before .before .before .before .before .before .before .before .before .before .before .before .before .before .loop .inv .5))
 
 same-length : tie.Need-same-length Inv-loop μ-loop
 same-length c = let c12 = c .before .before .before .before .before .before .before .before .before .before .before .before in let c16 = c12 .before .before .before .before in let c19 = c16 .before .before .before in let c23 = c19 .before .before .before .before in let c29 = c23 .before .before .before .before .before .before in let a = c29 .args in let l = c23 .loop in ap length (c12 .handle-parsed .ensures .1 .0) ∙ length-sets (l .fx) (l .j) (handledFx (c19 .parse-cqe .result) (c16 .look .result) (l .t .holds) (l .d .handles)) ∙ l .inv .2

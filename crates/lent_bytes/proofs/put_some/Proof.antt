@@ -1,6 +1,6 @@
--- `lent_bytes::put_bytes` meets its contract. Assumes nothing.
-use Rattle.lent_bytes.proofs.put_bytes.Statement.{statement}
-use Rattle.lent_bytes.proofs.put_bytes.Tie as tie
+-- `lent_bytes::put_some` meets its contract. Assumes nothing.
+use Rattle.lent_bytes.proofs.put_some.Statement.{statement}
+use Rattle.lent_bytes.proofs.put_some.Tie as tie
 use borrow.Author.Needs.{needs}
 use Prim.Native.Nat.{ℕ, _-_, _≤_}
 use mathlib.Core.Path.{_≡_, refl, ap, _∙_}
@@ -44,8 +44,8 @@ same-length c = let c1 = c .before in let c4 = c1 .before .before .before in ap 
 returns : tie.Need-returns Inv-loop μ-loop
 returns c = let c1 = c .before in let c4 = c1 .before .before .before in c1 .loop .inv .1 ∙ ap (λ (b : List ℕ). sets (c4 .args .out .now) (c4 .args .at) (b)) (ap (each (λ (j : ℕ). getD (c4 .args .bs .now) j 0)) (let z : c1 .loop .i ≡ length (c4 .args .bs .now) = omega (arith, c .loop-test .left, c1 .loop .inv .0) in z) ∙ each-all (c4 .args .bs .now))
 
-pub put-bytes-spec : {M : Type 1} → statement M
-put-bytes-spec =
+pub put-some-spec : {M : Type 1} → statement M
+put-some-spec =
     tie.close
     (tie.spec
     Inv-loop
