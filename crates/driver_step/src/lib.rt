@@ -97,7 +97,7 @@ fn receive_words(a: ReceiveAnswer) -> AnswerWords
     }
 }
 
-fn write_words(a: WriteAnswer) -> AnswerWords
+pub fn write_words(a: WriteAnswer) -> AnswerWords
     ensures { λ r. ⌜ answerOf r ≡ writeAnswer a ⌝ }
 {
     match a {

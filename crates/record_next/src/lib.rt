@@ -115,7 +115,16 @@ pub fn next(s: &[u8]) -> usize
     let first = le::byte(s, 1);
     let second = le::byte(s, 2);
     let number = le::half(s, 4);
-    if is_event(kind, first, second, le::byte(s, 3), number, le::half(s, 8), le::half(s, 12), s.len()) {
+    if is_event(
+        kind,
+        first,
+        second,
+        le::byte(s, 3),
+        number,
+        le::half(s, 8),
+        le::half(s, 12),
+        s.len(),
+    ) {
         return record::size_by(kind, first, second, number);
     }
     0

@@ -25,7 +25,7 @@ use Rattle.table.specs.Table.{freshTable}
 use Rattle.wait_queue.specs.declared.WaitQueue.{WaitQueue}
 use Rattle.record.proofs.Laws.{some, next-there, walk-ends, walk-goes-on}
 use Rattle.run_room.specs.Room.{roomOf, needed}
-use Rattle.run.specs.Run.{runOf, storedBy, toldOf, lentAfter, outputOf, wholeEnd}
+use Rattle.run.specs.Run.{Told, runOf, storedBy, toldOf, lentAfter, outputOf, wholeEnd}
 use Rattle.run_room.proofs.Rooms.{needed-ends, needed-goes-on}
 use Rattle.word_put.proofs.Stores.{part-is}
 
@@ -175,6 +175,15 @@ module _ (scheme : ℕ) (ev out₀ fx₀ out fx words : List ℕ) (s : State) (a
           place = place-more;
           «next» = en;
         }
+
+  -- the same of a turn that was lent the output from j on
+  pub goes-on-told :
+      (size ≡ 0 → ⊥) → (back fx' words' : List ℕ) (s' : State) (used : ℕ) → Told (world s words) (world s' words') (eventAt (length fx) part) (take (length out - j) (drop j out)) back used
+      → fx' ≡ sets fx 0 (storedBy (world s words) (eventAt (length fx) part)) → used ≤ roomOf (recordOf part) → (size' : ℕ) → size' ≡ nextOf (take (length ev - (at + size)) (drop (at + size) ev))
+      → Going scheme ev out₀ fx₀ (take j out ++ (back ++ drop (length out - j) (drop j out))) fx' words' s' (at + size) (j + used) size'
+  goes-on-told more back fx' words' s' used t ef few size' en =
+      goes-on more _ fx' words' s' used (t .0) (behind out (outcomeBytes (step (world s words) (eventAt (length fx) part))) back j in-out (t .1 .0)) (t .1 .1) ef few size'
+      (en ∙ ap nextOf (part-is ev (at + size)))
 
   -- the end
   module _ (none : size ≡ 0) where

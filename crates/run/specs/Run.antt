@@ -1,7 +1,7 @@
 -- A run as bytes: decoded to events (crate record), run as `Run` of crate events has it, and told in bytes (crate outcome_bytes).
-use Prim.Native.Nat.{ℕ, _-_, min}
+use Prim.Native.Nat.{ℕ, _-_, _/_, min}
 use mathlib.Core.Path.{_≡_}
-use mathlib.Core.Bool.{Bool, cond, _||_}
+use mathlib.Core.Bool.{Bool, false, cond, _||_}
 use mathlib.Core.List.{List, [], _∷_, _++_}
 use lib.Dec.{eqb, leb, ltb}
 use lib.ListN.{length, take, drop, replicate}
@@ -42,6 +42,13 @@ writeIn r bs lent = write (min (r .words .0) lent) (take (tailOf r) (drop (tailA
 -- the host's events and the write look at more than one slot
 abbrev pub isWhole : ℕ → Bool
 isWhole kind = ltb kind 6 || eqb kind 16
+
+-- a close, a detach and a read look at no slot, a write of one entry at one
+abbrev pub isQueue : ℕ → Bool
+isQueue kind = eqb kind 12 || (eqb kind 13 || eqb kind 15)
+
+abbrev pub isSingle : Record → Bool
+isSingle r = cond (eqb (r .kind) 16) (eqb (r .number / 16) 1) false
 
 -- what a turn leaves, told of the world that it found: the world, the output from its start on, and how much of it was used
 abbrev pub Told : World → World → Event → List ℕ → List ℕ → ℕ → Type 0

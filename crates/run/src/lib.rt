@@ -1,36 +1,40 @@
 // A run as one function: events as bytes in, what each answered and the state at the end as bytes out.
+use answer_words::PartStep;
 use answer_words::Step;
 use handles::Handles;
 use holds::Holds;
 use ids::Tag;
 use part::Part;
 use record::Record;
+use schemev2::Cqe;
 use state::Driver;
 use state::State;
 use table::Table;
 use wait_queue::WaitQueue;
 ghost use mathlib.Core.Path.{_≡_};
 ghost use mathlib.Core.List.{List};
-ghost use Prim.Native.Nat.{ℕ, _+_, _-_, _*_, _%_, _≤_, _<_, min};
+ghost use Prim.Native.Nat.{ℕ, _+_, _-_, _*_, _/_, _%_, _≤_, _<_, min};
 ghost use mathlib.Core.Bool.{true, false, cond};
 ghost use lib.Dec.{eqb};
-ghost use lib.ListN.{length, take};
+ghost use lib.ListN.{length, take, drop};
 ghost use lib.Seq.{sets};
 ghost use Rattle.answer_words.specs.Words.{answerOf};
 ghost use Rattle.effect.specs.Effect.{effectWords};
 ghost use Rattle.holds.specs.declared.Holds.{Holds as Counts};
 ghost use Rattle.holds.specs.Holds.{holdsWith};
 ghost use Rattle.state.specs.declared.State.{State as World};
-ghost use Rattle.part.specs.Part.{Stands, found, leaves};
+ghost use Rattle.part.specs.Part.{queuedOf, Stands, found, leaves};
+ghost use Rattle.schemev2.specs.Entry.{cqeOf};
+ghost use Rattle.write.specs.Write.{stateWith};
 ghost use Rattle.part_step.specs.PartStep.{placeOf, partEvent};
 ghost use Rattle.events.specs.World.{world};
 ghost use Rattle.events.specs.Outcome.{outcome};
-ghost use Rattle.events.specs.Event.{step};
+ghost use Rattle.events.specs.Event.{step, write};
 ghost use Rattle.events.specs.Whole.{Whole};
 ghost use Rattle.outcome_bytes.specs.Output.{outcomeBytes};
 ghost use Rattle.record.specs.Record.{recordOf, firstAt, secondAt, tailAt, tailOf, wordsAt, nextOf, eventNamed, eventAt};
 ghost use Rattle.run_room.specs.Room.{roomOf, needed};
-ghost use Rattle.run.specs.Run.{isWhole, Told, wakeIn, readIn, writeIn, storedBy, runOf, outputOf, lentAfter, wholeEnd, endOf, outAfter, fxAfter};
+ghost use Rattle.run.specs.Run.{isWhole, isQueue, isSingle, Told, wakeIn, readIn, writeIn, storedBy, runOf, outputOf, lentAfter, wholeEnd, endOf, outAfter, fxAfter};
 
 // The run's own answer: 0, 204 or 205, the place of the record that is no event, and how many bytes were written.
 #[repr(C)]
@@ -42,6 +46,18 @@ pub struct RunEnd {
 
 struct Turned {
     part: Part,
+    used: usize,
+}
+
+struct QueueTurned {
+    queue: WaitQueue,
+    used: usize,
+}
+
+struct EntryTurned {
+    part: Part,
+    holds: Holds,
+    handles: Handles,
     used: usize,
 }
 
@@ -119,6 +135,93 @@ fn list_turn(
     }
 }
 
+// What the driver is told: a close, or a detach.
+fn notice(p: Part, words: &mut [u64; 1024], r: Record) -> PartStep
+    requires { ⌜ (isQueue (r .kind) ≡ true) × (r .kind ≡ 15 → ⊥) ⌝ }
+    ensures { λ o. ⌜ ((s : World) (n : ℕ) (h : Counts) (xs ys bs : List ℕ) (lent : ℕ) → Stands s n p → outcome (answerOf (o .answer)) (effectWords (o .effect)) (world (leaves s n (o .part) h) (now (words .exit))) ≡ step (world (found s p h) (now (words .entry))) (eventNamed (r .kind) r xs ys bs lent)) ⌝ }
+{
+    let a = r.words;
+    let kind = r.kind;
+    if kind == 12 {
+        return submit_step::close(p, words, a.0);
+    }
+    submit_step::detach(p, words, a.0, a.1)
+}
+
+// An event on the queue alone: a close, a detach or a read. It leaves its part's slot as it is.
+fn queue_turn(
+    p: Part,
+    words: &mut [u64; 1024],
+    r: Record,
+    buf: &mut [u8],
+    out: &mut [u8],
+) -> QueueTurned
+    requires { ⌜ (isQueue (r .kind) ≡ true) × (8192 ≤ length (now buf)) ⌝ }
+    ensures { λ o. ⌜ ((s : World) (n : ℕ) (h : Counts) (xs ys bs : List ℕ) (lent : ℕ) → Whole (world (found s p h) (now (words .entry))) → Stands s n p → Told (world (found s p h) (now (words .entry))) (world (found s (queuedOf p (o .queue)) h) (now (words .exit))) (eventNamed (r .kind) r xs ys bs lent) (now (out .entry)) (now (out .exit)) (o .used)) ⌝ }
+    ensures { λ o. ⌜ o .used ≤ roomOf r ⌝ }
+{
+    let kind = r.kind;
+    if kind == 15 {
+        let t = read_turn(p, words, r, buf, out);
+        let u = t.part;
+        let left = u.queue;
+        return QueueTurned {
+            queue: left,
+            used: t.used,
+        };
+    }
+    let o = notice(p, words, r);
+    let answer = o.answer;
+    let fx = o.effect;
+    let u = o.part;
+    let longer = u.queue;
+    let used = outcome_bytes::put_step(out, answer, fx);
+    QueueTurned {
+        queue: longer,
+        used: used,
+    }
+}
+
+// The entry of a write that has one.
+fn entry_of(rec: &[u8], r: Record) -> Cqe
+    requires { ⌜ tailAt r + tailOf r ≤ length (now rec) ⌝ }
+    ensures { λ o. ⌜ o ≡ cqeOf (take (tailOf r) (drop (tailAt r) (now (rec .entry)))) ⌝ }
+{
+    let at = record::tail_at(r);
+    let k = record::tail(r);
+    decode::cqe(&rec[at..at + k])
+}
+
+// A write of one entry, on the part at its tag; it is lent no more words than there are.
+fn entry_turn(
+    p: Part,
+    h: Holds,
+    k: Handles,
+    e: Cqe,
+    r: Record,
+    fx: &mut [u64],
+    out: &mut [u8],
+) -> EntryTurned
+    ensures { λ o. ⌜ ((s : World) (ws bs : List ℕ) → length bs / 16 ≡ 1 → e ≡ cqeOf bs → Whole (world (found (stateWith s k) p h) ws) → Stands s (e .tag % 64) p → Told (world (found (stateWith s k) p h) ws) (world (leaves (stateWith s (o .handles)) (e .tag % 64) (o .part) (o .holds)) ws) (write (min (r .words .0) (length (now (fx .entry)))) bs) (now (out .entry)) (now (out .exit)) (o .used) × ((now (fx .exit) ≡ sets (now (fx .entry)) 0 (step (world (found (stateWith s k) p h) ws) (write (min (r .words .0) (length (now (fx .entry)))) bs) .effects)) × (o .used ≤ 192 + 27 * length bs))) ⌝ }
+{
+    let a = r.words;
+    let n = run_room::least(a.0, fx.len());
+    let o = write::entry(p, h, k, &mut fx[..n], e);
+    let m = run_room::least(o.words as u64, fx.len());
+    let answer = o.answer;
+    let after = o.part;
+    let left = o.holds;
+    let handles = o.handles;
+    let said = driver_step::write_words(answer);
+    let used = lent_bytes::put_completed(out, said, &fx[..m]);
+    EntryTurned {
+        part: after,
+        holds: left,
+        handles: handles,
+        used: used,
+    }
+}
+
 // An event on its part. Its lists stand in the first of the words lent for them.
 fn turn(
     p: Part,
@@ -126,21 +229,17 @@ fn turn(
     outside: &mut [u16; 64],
     words: &mut [u64; 1024],
     r: Record,
-    buf: &mut [u8],
     first: &[u64],
     second: &[u64],
     out: &mut [u8],
 ) -> Turned
-    requires { ⌜ (isWhole (r .kind) ≡ false) × ((8192 ≤ length (now buf)) × ((255 ≤ length (now first)) × (255 ≤ length (now second)))) ⌝ }
-    ensures { λ o. ⌜ ((s : World) (bs : List ℕ) (lent : ℕ) → Whole (world (found s p (holdsWith (now (all .entry)) (now (outside .entry)))) (now (words .entry))) → length (now (outside .entry)) ≡ 64 → Stands s (placeOf (r .kind) r (take (r .first) (now (first .entry))) (p .head)) p → Told (world (found s p (holdsWith (now (all .entry)) (now (outside .entry)))) (now (words .entry))) (world (leaves s (placeOf (r .kind) r (take (r .first) (now (first .entry))) (p .head)) (o .part) (holdsWith (now (all .exit)) (now (outside .exit)))) (now (words .exit))) (eventNamed (r .kind) r (take (r .first) (now (first .entry))) (take (r .second) (now (second .entry))) bs lent) (now (out .entry)) (now (out .exit)) (o .used)) ⌝ }
+    requires { ⌜ (isWhole (r .kind) ≡ false) × ((isQueue (r .kind) ≡ false) × ((255 ≤ length (now first)) × (255 ≤ length (now second)))) ⌝ }
+    ensures { λ o. ⌜ ((s : World) (bs : List ℕ) (lent : ℕ) → length (now (outside .entry)) ≡ 64 → Stands s (placeOf (r .kind) r (take (r .first) (now (first .entry))) (p .head)) p → Told (world (found s p (holdsWith (now (all .entry)) (now (outside .entry)))) (now (words .entry))) (world (leaves s (placeOf (r .kind) r (take (r .first) (now (first .entry))) (p .head)) (o .part) (holdsWith (now (all .exit)) (now (outside .exit)))) (now (words .exit))) (eventNamed (r .kind) r (take (r .first) (now (first .entry))) (take (r .second) (now (second .entry))) bs lent) (now (out .entry)) (now (out .exit)) (o .used)) ⌝ }
     ensures { λ o. ⌜ o .used ≤ roomOf r ⌝ }
 {
     let kind = r.kind;
     if kind == 14 {
         return wake_turn(p, outside, words, r, out);
-    }
-    if kind == 15 {
-        return read_turn(p, words, r, buf, out);
     }
     let n = r.first as usize;
     let m = r.second as usize;
@@ -253,6 +352,29 @@ fn is_whole(kind: u8) -> bool
     kind == 16
 }
 
+// A close, a detach and a read look at no slot.
+fn is_queue(kind: u8) -> bool
+    ensures { λ r. ⌜ r ≡ isQueue kind ⌝ }
+{
+    if kind == 12 {
+        return true;
+    }
+    if kind == 13 {
+        return true;
+    }
+    kind == 15
+}
+
+// A write of one entry looks at one slot.
+fn is_single(r: Record) -> bool
+    ensures { λ o. ⌜ o ≡ isSingle r ⌝ }
+{
+    if r.kind == 16 {
+        return r.number / 16 == 1;
+    }
+    false
+}
+
 // 205 for a record that is no event.
 fn number_at(at: usize, len: usize) -> u64
     ensures { λ r. ⌜ r ≡ cond (eqb (len - at) 0) 0 205 ⌝ }
@@ -288,6 +410,56 @@ fn run_all(scheme: u64, events: &[u8], out: &mut [u8], fx: &mut [u64]) -> RunEnd
     let mut size = record_next::next(events);
     while size != 0 {
         let r = record::record_at(&events[at..]);
+        if is_queue(r.kind) {
+            let v = slots[0];
+            let p = Part {
+                slot: v,
+                next: next[0],
+                head: head,
+                queue: queue,
+                scheme: own,
+            };
+            let t = queue_turn(p, &mut words, r, &mut buf, &mut out[j..]);
+            let left = t.queue;
+            queue = left;
+            j += t.used;
+            at += size;
+            size = record_next::next(&events[at..]);
+            continue;
+        }
+        if is_single(r) {
+            let e = entry_of(&events[at..], r);
+            let n = (e.tag % 64) as usize;
+            let v = slots[n];
+            let held = Holds {
+                holds: all,
+                outside: outside,
+            };
+            let p = Part {
+                slot: v,
+                next: next[n],
+                head: head,
+                queue: queue,
+                scheme: own,
+            };
+            let t = entry_turn(p, held, handles, e, r, fx, &mut out[j..]);
+            let u = t.part;
+            let w = u.slot;
+            let same = u.queue;
+            let left = t.holds;
+            let others = t.handles;
+            slots[n] = w;
+            next[n] = u.next;
+            head = u.head;
+            queue = same;
+            all = left.holds;
+            outside = left.outside;
+            handles = others;
+            j += t.used;
+            at += size;
+            size = record_next::next(&events[at..]);
+            continue;
+        }
         if is_whole(r.kind) {
             let s = State {
                 driver: Driver {
@@ -343,7 +515,6 @@ fn run_all(scheme: u64, events: &[u8], out: &mut [u8], fx: &mut [u64]) -> RunEnd
             &mut outside,
             &mut words,
             r,
-            &mut buf,
             &first,
             &second,
             &mut out[j..],

@@ -24,7 +24,7 @@ use Rattle.carry_out.specs.After.{lookOf, slotAfter, nextAfter, headAfter}
 use Rattle.events.specs.World.{World, world}
 use Rattle.events.specs.Outcome.{Answer, Outcome, outcome, ok, no}
 use Rattle.events.specs.Complete.{stopped, writeOf}
-use Rattle.write.specs.Write.{withHandles}
+use Rattle.write.specs.Write.{stateWith}
 use Rattle.write.proofs.Loop.{Left, begins, goes-on-as, stops-as, stops-lent, stops-words, ends, with-room, too-short, parts}
 
 -- what an event is said to leave: answer, state, lent words and how many
@@ -33,16 +33,16 @@ Leaves o y u fx gx j = (y ≡ o .answer) × ((u ≡ o .world) × ((gx ≡ sets f
 
 module _ (s : State) (k : Handles) (p : Part) (h : Holds) (ws fx bs : List ℕ) (e : Cqe) (one : length bs / 16 ≡ 1) (ee : e ≡ cqeOf bs) (st : Stands s (e .tag % 64) p) where
   abbrev S : State
-  S = found (withHandles s k) p h
+  S = found (stateWith s k) p h
 
   abbrev O : Outcome
   O = writeOf (world S ws) (length fx) bs
 
   -- too few words are lent
-  pub short : length fx < 54 → Leaves O (no 204) (world (leaves (withHandles s k) (e .tag % 64) p h) ws) fx fx 0
+  pub short : length fx < 54 → Leaves O (no 204) (world (leaves (stateWith s k) (e .tag % 64) p h) ws) fx fx 0
   short few =
-      parts _ (no 204) [] (world (leaves (withHandles s k) (e .tag % 64) p h) ws) O fx fx 0 refl
-      (ap (λ (x : State). outcome (no 204) [] (world x ws)) (kept (withHandles s k) (e .tag % 64) p st h) ∙ too-short S ws (length fx) bs (omega (arith, few, one))) refl refl
+      parts _ (no 204) [] (world (leaves (stateWith s k) (e .tag % 64) p h) ws) O fx fx 0 refl
+      (ap (λ (x : State). outcome (no 204) [] (world x ws)) (kept (stateWith s k) (e .tag % 64) p st h) ∙ too-short S ws (length fx) bs (omega (arith, few, one))) refl refl
 
   start : Left S ws fx bs 1 fx (S .table) (S .driver) 0 0
   start = begins S ws fx bs 1 (sym one)
@@ -64,19 +64,19 @@ module _ (s : State) (k : Handles) (p : Part) (h : Holds) (ws fx bs : List ℕ) 
 
     -- the part that is given back
     module _ (u : Part) (eu : u ≡ record { slot = x; next = a; head = f; queue = p .queue; scheme = p .scheme }) where
-      left-is : leaves (withHandles s (r .handles)) (e .tag % 64) u (r .holds) ≡ leaves (withHandles s (r .handles)) (e .tag % 64) (record { slot = x; next = a; head = f; queue = p .queue; scheme = p .scheme }) (r .holds)
-      left-is = ap (λ (y : Part). leaves (withHandles s (r .handles)) (e .tag % 64) y (r .holds)) eu
+      left-is : leaves (stateWith s (r .handles)) (e .tag % 64) u (r .holds) ≡ leaves (stateWith s (r .handles)) (e .tag % 64) (record { slot = x; next = a; head = f; queue = p .queue; scheme = p .scheme }) (r .holds)
+      left-is = ap (λ (y : Part). leaves (stateWith s (r .handles)) (e .tag % 64) y (r .holds)) eu
 
-      pub accepted : r .number ≡ 0 → Leaves O (ok 16) (world (leaves (withHandles s (r .handles)) (e .tag % 64) u (r .holds)) ws) fx gx (r .words)
+      pub accepted : r .number ≡ 0 → Leaves O (ok 16) (world (leaves (stateWith s (r .handles)) (e .tag % 64) u (r .holds)) ws) fx gx (r .words)
       accepted z =
           let g = goes-on-as S ws fx bs 1 fx (S .table) (S .driver) 0 0 start more size e ee r c ec v looked er gx eg x a f slot-is next-is ef z in
-          parts _ (ok 16) (g .made) (world (leaves (withHandles s (r .handles)) (e .tag % 64) u (r .holds)) ws) O fx gx (r .words) refl
+          parts _ (ok 16) (g .made) (world (leaves (stateWith s (r .handles)) (e .tag % 64) u (r .holds)) ws) O fx gx (r .words) refl
           (ap (λ (y : State). outcome (ok 16) (g .made) (world y ws)) left-is ∙ with-room S ws (length fx) bs (omega (arith, enough, one)) _ (ends S ws fx bs 1 gx _ _ 1 _ g refl)) (g .lent)
           ((let q : r .words ≡ 0 + r .words = omega arith in q) ∙ sym (g .words))
 
-      pub rejected : (r .number ≡ 0 → ⊥) → (y : Answer) → y ≡ stopped 0 (r .number) → Leaves O y (world (leaves (withHandles s (r .handles)) (e .tag % 64) u (r .holds)) ws) fx gx (r .words)
+      pub rejected : (r .number ≡ 0 → ⊥) → (y : Answer) → y ≡ stopped 0 (r .number) → Leaves O y (world (leaves (stateWith s (r .handles)) (e .tag % 64) u (r .holds)) ws) fx gx (r .words)
       rejected z y ey =
-          parts y (stopped 0 (r .number)) (start .made ++ handledFx c v h k) (world (leaves (withHandles s (r .handles)) (e .tag % 64) u (r .holds)) ws) O fx gx (r .words) ey
+          parts y (stopped 0 (r .number)) (start .made ++ handledFx c v h k) (world (leaves (stateWith s (r .handles)) (e .tag % 64) u (r .holds)) ws) O fx gx (r .words) ey
           (ap (λ (q : State). outcome (stopped 0 (r .number)) (start .made ++ handledFx c v h k) (world q ws)) left-is
           ∙ with-room S ws (length fx) bs (omega (arith, enough, one)) _ (stops-as S ws fx bs 1 fx (S .table) (S .driver) 0 0 start more size e ee r c ec v looked er gx eg x a f slot-is next-is ef z))
           (stops-lent S ws fx bs 1 fx (S .table) (S .driver) 0 0 start more size e ee r c ec v looked er gx eg)

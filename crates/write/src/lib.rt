@@ -17,7 +17,7 @@ ghost use Rattle.schemev2.specs.Entry.{cqeOf};
 ghost use Rattle.part.specs.Part.{Stands, found, leaves};
 ghost use Rattle.events.specs.World.{world};
 ghost use Rattle.events.specs.Complete.{stopped, writeOf};
-ghost use Rattle.write.specs.Write.{writeAnswer, refusal, withHandles};
+ghost use Rattle.write.specs.Write.{writeAnswer, refusal, stateWith};
 
 pub enum WriteAnswer {
     Written(u64),
@@ -133,7 +133,7 @@ fn known(h: Holds)
 
 // A write that holds the entry e alone.
 pub fn entry(p: Part, h: Holds, k: Handles, fx: &mut [u64], e: Cqe) -> EntryStep
-    ensures { λ r. ⌜ ((s : Whole) (ws bs : List ℕ) → length bs / 16 ≡ 1 → e ≡ cqeOf bs → Stands s (e .tag % 64) p → (writeAnswer (r .answer) ≡ writeOf (world (found (withHandles s k) p h) ws) (length (now (fx .entry))) bs .answer) × ((world (leaves (withHandles s (r .handles)) (e .tag % 64) (r .part) (r .holds)) ws ≡ writeOf (world (found (withHandles s k) p h) ws) (length (now (fx .entry))) bs .world) × ((now (fx .exit) ≡ sets (now (fx .entry)) 0 (writeOf (world (found (withHandles s k) p h) ws) (length (now (fx .entry))) bs .effects)) × (r .words ≡ length (writeOf (world (found (withHandles s k) p h) ws) (length (now (fx .entry))) bs .effects))))) ⌝ }
+    ensures { λ r. ⌜ ((s : Whole) (ws bs : List ℕ) → length bs / 16 ≡ 1 → e ≡ cqeOf bs → Stands s (e .tag % 64) p → (writeAnswer (r .answer) ≡ writeOf (world (found (stateWith s k) p h) ws) (length (now (fx .entry))) bs .answer) × ((world (leaves (stateWith s (r .handles)) (e .tag % 64) (r .part) (r .holds)) ws ≡ writeOf (world (found (stateWith s k) p h) ws) (length (now (fx .entry))) bs .world) × ((now (fx .exit) ≡ sets (now (fx .entry)) 0 (writeOf (world (found (stateWith s k) p h) ws) (length (now (fx .entry))) bs .effects)) × (r .words ≡ length (writeOf (world (found (stateWith s k) p h) ws) (length (now (fx .entry))) bs .effects))))) ⌝ }
 {
     if fx.len() < 54 {
         return EntryStep {
