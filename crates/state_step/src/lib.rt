@@ -1,17 +1,20 @@
 // The events on a whole state, by value: each finds its part, and the part that it leaves is stored.
 use answer_words::AnswerWords;
 use answer_words::Step;
+use driver_step::Completed;
 use effect::Effect;
 use fd_list::List;
 use holds::Holds;
 use ids::Tag;
 use part::Part;
 use record::Record;
+use schemev2::Cqe;
 use slot::Reply;
 use state::State;
 ghost use mathlib.Core.Path.{_≡_};
+ghost use mathlib.Core.List.{List as Words};
 ghost use lib.ListN.{length};
-ghost use Prim.Native.Nat.{_%_};
+ghost use Prim.Native.Nat.{ℕ, _/_, _%_};
 ghost use lib.Seq.{sets};
 ghost use Rattle.state.specs.declared.State.{State as Whole};
 ghost use Rattle.part.specs.Part.{Stands, found, leaves};
@@ -23,6 +26,8 @@ ghost use Rattle.events.specs.Outcome.{outcome};
 ghost use Rattle.events.specs.Event.{step};
 ghost use Rattle.events.specs.Wake.{wakeOf};
 ghost use Rattle.events.specs.Read.{readOf};
+ghost use Rattle.events.specs.Complete.{writeOf};
+ghost use Rattle.schemev2.specs.Entry.{cqeOf};
 
 // A reply (answer kind 4) stands beside the answer, with its list.
 #[repr(C)]
@@ -209,4 +214,60 @@ pub fn read(s: State, words: &[u64; 1024], out: &mut [u8], flags: u32) -> Receiv
             table: t,
         },
     }
+}
+
+// A write of one entry changes the part at its tag, the holds and the handles.
+fn entry(s: State, fx: &mut [u64], e: Cqe) -> Completed
+    ensures { λ r. ⌜ ((ws bs : Words ℕ) → length bs / 16 ≡ 1 → e ≡ cqeOf bs → (answerOf (r .answer) ≡ writeOf (world s ws) (length (now (fx .entry))) bs .answer) × ((world (r .state) ws ≡ writeOf (world s ws) (length (now (fx .entry))) bs .world) × ((now (fx .exit) ≡ sets (now (fx .entry)) 0 (writeOf (world s ws) (length (now (fx .entry))) bs .effects)) × (r .words ≡ length (writeOf (world s ws) (length (now (fx .entry))) bs .effects))))) ⌝ }
+{
+    let mut t = s.table;
+    let mut d = s.driver;
+    let n = (e.tag % 64) as usize;
+    let v = t.slots[n];
+    let next = t.next[n];
+    let q = d.queue;
+    let h = t.holds;
+    let k = d.handles;
+    let p = Part {
+        slot: v,
+        next: next,
+        head: t.head,
+        queue: q,
+        scheme: d.scheme,
+    };
+    let o = write::entry(p, h, k, fx, e);
+    let answer = o.answer;
+    let u = o.part;
+    let w = u.slot;
+    let same = u.queue;
+    let left = o.holds;
+    let others = o.handles;
+    t.slots[n] = w;
+    t.next[n] = u.next;
+    t.head = u.head;
+    t.holds = left;
+    d.handles = others;
+    d.queue = same;
+    let said = driver_step::write_words(answer);
+    Completed {
+        answer: said,
+        words: o.words,
+        state: State {
+            driver: d,
+            table: t,
+        },
+    }
+}
+
+pub fn write(s: State, fx: &mut [u64], bytes: &[u8]) -> Completed
+    ensures { λ r. ⌜ ((ws : Words ℕ) → answerOf (r .answer) ≡ writeOf (world s ws) (length (now (fx .entry))) (now (bytes .entry)) .answer) ⌝ }
+    ensures { λ r. ⌜ ((ws : Words ℕ) → world (r .state) ws ≡ writeOf (world s ws) (length (now (fx .entry))) (now (bytes .entry)) .world) ⌝ }
+    ensures { λ r. ⌜ ((ws : Words ℕ) → now (fx .exit) ≡ sets (now (fx .entry)) 0 (writeOf (world s ws) (length (now (fx .entry))) (now (bytes .entry)) .effects)) ⌝ }
+    ensures { λ r. ⌜ ((ws : Words ℕ) → r .words ≡ length (writeOf (world s ws) (length (now (fx .entry))) (now (bytes .entry)) .effects)) ⌝ }
+{
+    if bytes.len() / 16 == 1 {
+        let e = decode::cqe(bytes);
+        return entry(s, fx, e);
+    }
+    driver_step::write(s, fx, bytes)
 }

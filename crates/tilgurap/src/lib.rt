@@ -333,7 +333,7 @@ pub extern "C" fn tilgurap_write(s: State, fx: &mut [u64], bytes: &[u8]) -> Comp
     ensures { λ r. ⌜ ((ws : Words ℕ) → now (fx .exit) ≡ sets (now (fx .entry)) 0 (writeOf (world s ws) (length (now (fx .entry))) (now (bytes .entry)) .effects)) ⌝ }
     ensures { λ r. ⌜ ((ws : Words ℕ) → r .words ≡ length (writeOf (world s ws) (length (now (fx .entry))) (now (bytes .entry)) .effects)) ⌝ }
 {
-    driver_step::write(s, fx, bytes)
+    state_step::write(s, fx, bytes)
 }
 
 #[no_mangle]
