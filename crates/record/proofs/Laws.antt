@@ -75,6 +75,14 @@ next-there bs = go (decLt 0 (nextOf bs))
     go (yes h) = omega (arith, next-size bs h, all-there bs h)
     go (no h) = omega (arith, h)
 
+-- no event is shorter than 16 bytes
+pub next-short : (bs : List ℕ) → length bs < 16 → 0 ≡ nextOf bs
+next-short bs h = go (decLt 0 (nextOf bs))
+  where
+    go : Dec (0 < nextOf bs) → 0 ≡ nextOf bs
+    go (yes p) = absurd (let z : ⊥ = omega (arith, h, all-there bs p) in z)
+    go (no p) = omega (arith, p)
+
 pub some : (n : ℕ) → (n ≡ 0 → ⊥) → 0 < n
 some zero z = absurd (z refl)
 some (suc n) z = omega arith

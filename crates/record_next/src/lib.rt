@@ -107,10 +107,13 @@ fn is_event(
     record::size_by(kind, first, second, number) <= left
 }
 
-// The size of the event at the start of a slice, 0 where there is none.
+// The size of the event at the start of a slice, 0 where there is none. None is shorter than 16 bytes.
 pub fn next(s: &[u8]) -> usize
     ensures { λ r. ⌜ r ≡ nextOf (now (s .entry)) ⌝ }
 {
+    if s.len() < 16 {
+        return 0;
+    }
     let kind = le::byte(s, 0);
     let first = le::byte(s, 1);
     let second = le::byte(s, 2);

@@ -1,5 +1,5 @@
 -- What holds of a run of bytes, whatever they are: demand 3. And the two ways in which the run ends. Assumes nothing.
-use Prim.Native.Nat.{ℕ, _≤_}
+use Prim.Native.Nat.{ℕ, _-_, _≤_}
 use mathlib.Core.Path.{_≡_, sym, ap, _∙_}
 use mathlib.Core.Bool.{Bool, true, false, cond}
 use mathlib.Core.List.{List}
@@ -12,12 +12,17 @@ use Rattle.events.specs.Demand3.{Demanded}
 use Rattle.events.proofs.Demanded.{demand3}
 use Rattle.record.specs.Record.{decoded}
 use Rattle.run.specs.declared.RunEnd.{RunEnd}
-use Rattle.run_room.specs.Room.{needed}
+use Rattle.run_room.specs.declared.Walked.{Walked}
+use Rattle.run_room.specs.Room.{needed, leftOf, walkedOf}
 use Rattle.run.specs.Run.{runOf, outputOf, lentAfter, wholeEnd, endOf, outAfter, fxAfter}
 
 -- demand 3 of the events that any bytes hold
 pub run-demand3 : (scheme lent : ℕ) (bs : List ℕ) → Demanded (runOf scheme lent bs)
 run-demand3 scheme lent bs = demand3 scheme (replicate 1024 0) (length-replicate {A = ℕ} 1024 0) (decoded lent bs .events)
+
+-- where the events end
+pub ends-at : (ev : List ℕ) (most : ℕ) (w : Walked) → w ≡ walkedOf ev most → w .fits ≡ true → w .end ≡ length ev - leftOf ev
+ends-at ev most w e h = ap (λ (x : Walked). x .end) e ∙ ap (λ (b : Bool). cond b (length ev - leftOf ev) 0) (sym (ap (λ (x : Walked). x .fits) e) ∙ h)
 
 module _ (scheme : ℕ) (ev out fx : List ℕ) (b : Bool) (is : b ≡ leb (needed ev) (length out)) where
   abbrev Ends : RunEnd → List ℕ → List ℕ → Type 0

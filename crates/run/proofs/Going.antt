@@ -17,16 +17,16 @@ use Rattle.events.specs.Whole.{Whole}
 use Rattle.events.proofs.Whole.{whole-run}
 use Rattle.outcome_bytes.specs.Output.{outcomeBytes}
 use Rattle.state_bytes.specs.StateBytes.{stateBytes}
-use Rattle.record.specs.Record.{recordOf, nextOf, eventAt, Decoded, stops, before, decoded}
+use Rattle.record.specs.Record.{recordOf, sizeOf, nextOf, eventAt, Decoded, stops, before, decoded}
 use Rattle.handles.specs.declared.Handles.{Handles}
 use Rattle.slot.specs.declared.Slot.{Slot}
 use Rattle.table.specs.declared.Table.{Table}
 use Rattle.table.specs.Table.{freshTable}
 use Rattle.wait_queue.specs.declared.WaitQueue.{WaitQueue}
-use Rattle.record.proofs.Laws.{some, next-there, walk-ends, walk-goes-on}
-use Rattle.run_room.specs.Room.{roomOf, needed}
+use Rattle.record.proofs.Laws.{some, next-size, next-there, walk-ends, walk-goes-on}
+use Rattle.run_room.specs.Room.{roomOf, needed, leftOf}
 use Rattle.run.specs.Run.{Told, runOf, storedBy, toldOf, lentAfter, outputOf, wholeEnd}
-use Rattle.run_room.proofs.Rooms.{needed-ends, needed-goes-on}
+use Rattle.run_room.proofs.Rooms.{needed-ends, needed-goes-on, left-there, left-ends, left-all, left-on}
 use Rattle.word_put.proofs.Stores.{part-is}
 
 -- a run of one event more
@@ -74,7 +74,7 @@ stateOf scheme slots next head all outside handles queue =
 pub fresh-is : (scheme : ℕ) (t : Table) → t ≡ freshTable → stateOf scheme (t .slots) (t .next) (t .head) (replicate 64 0) (replicate 64 0) (record { at = replicate 64 0 }) (record { first = 0; len = 0 }) ≡ freshState scheme
 fresh-is scheme t e = ap (λ (x : Table). stateOf scheme (x .slots) (x .next) (x .head) (replicate 64 0) (replicate 64 0) (record { at = replicate 64 0 }) (record { first = 0; len = 0 })) e
 
-pub record Going (scheme : ℕ) (ev out₀ fx₀ out fx words : List ℕ) (s : State) (at j size : ℕ) : Type 0 where
+pub record Going (scheme : ℕ) (ev out₀ fx₀ : List ℕ) (end : ℕ) (out fx words : List ℕ) (s : State) (at j : ℕ) : Type 0 where
   pub done : List Event
   pub state : world s words ≡ run scheme zeros done .world
   pub lent : fx ≡ lentAfter fx₀ (run scheme zeros done .turns)
@@ -83,11 +83,13 @@ pub record Going (scheme : ℕ) (ev out₀ fx₀ out fx words : List ℕ) (s : S
   pub rest : decoded (length fx₀) ev ≡ after done (decoded (length fx₀) (drop at ev))
   pub room : j + needed (drop at ev) ≤ length out₀
   pub place : at ≤ length ev
-  pub «next» : size ≡ nextOf (drop at ev)
+  pub left : leftOf (drop at ev) ≡ leftOf ev
+  pub ends : end ≡ length ev - leftOf ev
 
 pub begins :
-    (scheme : ℕ) (ev out fx : List ℕ) (s : State) (size : ℕ) → needed ev ≤ length out → s ≡ freshState scheme → size ≡ nextOf ev → Going scheme ev out fx out fx zeros s 0 0 size
-begins scheme ev out fx s size h es en =
+    (scheme : ℕ) (ev out fx : List ℕ) (end : ℕ) (s : State) → needed ev ≤ length out → end ≡ length ev - leftOf ev → s ≡ freshState scheme
+    → Going scheme ev out fx end out fx zeros s 0 0
+begins scheme ev out fx end s h en es =
     record {
       done = [];
       state = ap (λ (x : State). world x zeros) es;
@@ -97,10 +99,11 @@ begins scheme ev out fx s size h es en =
       rest = refl;
       room = omega (arith, h);
       place = omega arith;
-      «next» = en;
+      left = refl;
+      ends = en;
     }
 
-module _ (scheme : ℕ) (ev out₀ fx₀ out fx words : List ℕ) (s : State) (at j size : ℕ) (g : Going scheme ev out₀ fx₀ out fx words s at j size) where
+module _ (scheme : ℕ) (ev out₀ fx₀ : List ℕ) (end : ℕ) (out fx words : List ℕ) (s : State) (at j : ℕ) (g : Going scheme ev out₀ fx₀ end out fx words s at j) where
   abbrev R : Run
   R = run scheme zeros (g .done)
 
@@ -116,87 +119,98 @@ module _ (scheme : ℕ) (ev out₀ fx₀ out fx words : List ℕ) (s : State) (a
   pub in-out : j ≤ length out
   in-out = omega (arith, g .room, out-length)
 
-  pub some-next : (size ≡ 0 → ⊥) → 0 < nextOf (take (length ev - at) (drop at ev))
-  some-next more = some (nextOf (take (length ev - at) (drop at ev))) (λ z. more (g .«next» ∙ ap nextOf (sym (part-is ev at)) ∙ z))
-
-  pub place-more : at + size ≤ length ev
-  place-more = omega (arith, g .place, g .«next», next-there (drop at ev), length-drop at ev)
-
-  rest-is : drop (nextOf (drop at ev)) (drop at ev) ≡ drop (at + size) ev
-  rest-is = ap (λ (n : ℕ). drop n (drop at ev)) (sym (g .«next»)) ∙ drop-drop size at ev
-
-  some-left : (size ≡ 0 → ⊥) → nextOf (drop at ev) ≡ 0 → ⊥
-  some-left more z = more (g .«next» ∙ z)
-
-  pub room-more : (size ≡ 0 → ⊥) → (used : ℕ) → used ≤ roomOf (recordOf (take (length ev - at) (drop at ev))) → j + used + needed (drop (at + size) ev) ≤ length out₀
-  room-more more used few =
-      omega (arith, g .room, few, ap (λ (x : List ℕ). roomOf (recordOf x)) (part-is ev at), needed-goes-on (drop at ev) (some-left more), ap needed rest-is)
-
   abbrev part : List ℕ
   part = take (length ev - at) (drop at ev)
 
-  -- one event more
-  module _ (more : size ≡ 0 → ⊥) (out' fx' words' : List ℕ) (s' : State) (used : ℕ) (es : world s' words' ≡ step (world s words) (eventAt (length fx) part) .world)
-      (eo : out' ≡ sets out j (outcomeBytes (step (world s words) (eventAt (length fx) part)))) (eu : used ≡ length (outcomeBytes (step (world s words) (eventAt (length fx) part))))
-      (ef : fx' ≡ sets fx 0 (storedBy (world s words) (eventAt (length fx) part))) (few : used ≤ roomOf (recordOf part)) where
-    abbrev e : Event
-    e = eventAt (length fx₀) (drop at ev)
+  -- before the end there is an event
+  some-left : at < end → nextOf (drop at ev) ≡ 0 → ⊥
+  some-left inside z = omega (arith, inside, g .left, g .ends, left-ends (drop at ev) z, length-drop at ev, left-there ev)
 
-    same-event : eventAt (length fx) part ≡ e
-    same-event = ap₂ eventAt fx-length (part-is ev at)
+  pub some-next : at < end → 0 < nextOf part
+  some-next inside = some (nextOf part) (λ z. some-left inside (ap nextOf (sym (part-is ev at)) ∙ z))
 
-    told-is : outcomeBytes (step (world s words) (eventAt (length fx) part)) ≡ outcomeBytes (step (R .world) e)
-    told-is = ap₂ (λ (w : World) (x : Event). outcomeBytes (step w x)) (g .state) same-event
+  module _ (inside : at < end) (size : ℕ) (es : size ≡ sizeOf (recordOf part)) where
+    here : size ≡ nextOf (drop at ev)
+    here = es ∙ sym (next-size part (some-next inside)) ∙ ap nextOf (part-is ev at)
 
-    more-is : run scheme zeros (g .done ++ (e ∷ [])) ≡ next R e
-    more-is = run-more (g .done) _ e
+    pub some-size : 0 < size
+    some-size = omega (arith, here, ap nextOf (part-is ev at), some-next inside)
 
-    pub goes-on : (size' : ℕ) → size' ≡ nextOf (drop (at + size) ev) → Going scheme ev out₀ fx₀ out' fx' words' s' (at + size) (j + used) size'
-    goes-on size' en =
-        record {
-          done = g .done ++ (e ∷ []);
-          state = es ∙ ap₂ (λ (w : World) (x : Event). step w x .world) (g .state) same-event ∙ sym (ap (λ (r : Run). r .world) more-is);
-          lent =
-              ef ∙ ap₂ (λ (l : List ℕ) (x : List ℕ). sets l 0 x) (g .lent) (ap₂ storedBy (g .state) same-event) ∙ sym (ap (λ (r : Run). lentAfter fx₀ (r .turns)) more-is);
-          told =
-              eo
-              ∙ ap₂ (λ (l : List ℕ) (n : ℕ). sets l n (outcomeBytes (step (world s words) (eventAt (length fx) part)))) (g .told) (let z : j ≡ 0 + length (toldOf (R .turns)) = omega (arith, g .count) in z)
-              ∙ ap (sets (sets out₀ 0 (toldOf (R .turns))) (0 + length (toldOf (R .turns)))) told-is
-              ∙ sets-then (toldOf (R .turns)) (outcomeBytes (step (R .world) e)) out₀ 0
-              ∙ sym (ap (λ (r : Run). sets out₀ 0 (toldOf (r .turns))) more-is);
-          count =
-              (let z : j + used ≡ length (toldOf (R .turns) ++ outcomeBytes (step (R .world) e)) = omega (arith, g .count, eu, ap length told-is, length-append (toldOf (R .turns)) (outcomeBytes (step (R .world) e))) in z)
-              ∙ sym (ap (λ (r : Run). length (toldOf (r .turns))) more-is);
-          rest =
-              g .rest
-              ∙ ap (after (g .done)) (walk-goes-on stops (λ bs d. before (eventAt (length fx₀) bs) d) (drop at ev) (some-left more) ∙ ap (λ (x : List ℕ). before e (decoded (length fx₀) x)) rest-is)
-              ∙ ap (λ (l : List Event). record { events = l; left = decoded (length fx₀) (drop (at + size) ev) .left }) (sym (append-assoc (g .done) (e ∷ []) (decoded (length fx₀) (drop (at + size) ev) .events)));
-          room = room-more more used few;
-          place = place-more;
-          «next» = en;
-        }
+    pub place-more : at + size ≤ length ev
+    place-more = omega (arith, g .place, here, next-there (drop at ev), length-drop at ev)
 
-  -- the same of a turn that was lent the output from j on
-  pub goes-on-told :
-      (size ≡ 0 → ⊥) → (back fx' words' : List ℕ) (s' : State) (used : ℕ) → Told (world s words) (world s' words') (eventAt (length fx) part) (take (length out - j) (drop j out)) back used
-      → fx' ≡ sets fx 0 (storedBy (world s words) (eventAt (length fx) part)) → used ≤ roomOf (recordOf part) → (size' : ℕ) → size' ≡ nextOf (take (length ev - (at + size)) (drop (at + size) ev))
-      → Going scheme ev out₀ fx₀ (take j out ++ (back ++ drop (length out - j) (drop j out))) fx' words' s' (at + size) (j + used) size'
-  goes-on-told more back fx' words' s' used t ef few size' en =
-      goes-on more _ fx' words' s' used (t .0) (behind out (outcomeBytes (step (world s words) (eventAt (length fx) part))) back j in-out (t .1 .0)) (t .1 .1) ef few size'
-      (en ∙ ap nextOf (part-is ev (at + size)))
+    rest-is : drop (nextOf (drop at ev)) (drop at ev) ≡ drop (at + size) ev
+    rest-is = ap (λ (n : ℕ). drop n (drop at ev)) (sym here) ∙ drop-drop size at ev
+
+    pub room-more : (used : ℕ) → used ≤ roomOf (recordOf part) → j + used + needed (drop (at + size) ev) ≤ length out₀
+    room-more used few =
+        omega (arith, g .room, few, ap (λ (x : List ℕ). roomOf (recordOf x)) (part-is ev at), needed-goes-on (drop at ev) (some-left inside), ap needed rest-is)
+
+    -- one event more
+    module _ (out' fx' words' : List ℕ) (s' : State) (used : ℕ) (ew : world s' words' ≡ step (world s words) (eventAt (length fx) part) .world)
+        (eo : out' ≡ sets out j (outcomeBytes (step (world s words) (eventAt (length fx) part)))) (eu : used ≡ length (outcomeBytes (step (world s words) (eventAt (length fx) part))))
+        (ef : fx' ≡ sets fx 0 (storedBy (world s words) (eventAt (length fx) part))) (few : used ≤ roomOf (recordOf part)) where
+      abbrev e : Event
+      e = eventAt (length fx₀) (drop at ev)
+
+      same-event : eventAt (length fx) part ≡ e
+      same-event = ap₂ eventAt fx-length (part-is ev at)
+
+      told-is : outcomeBytes (step (world s words) (eventAt (length fx) part)) ≡ outcomeBytes (step (R .world) e)
+      told-is = ap₂ (λ (w : World) (x : Event). outcomeBytes (step w x)) (g .state) same-event
+
+      more-is : run scheme zeros (g .done ++ (e ∷ [])) ≡ next R e
+      more-is = run-more (g .done) _ e
+
+      pub goes-on : Going scheme ev out₀ fx₀ end out' fx' words' s' (at + size) (j + used)
+      goes-on =
+          record {
+            done = g .done ++ (e ∷ []);
+            state = ew ∙ ap₂ (λ (w : World) (x : Event). step w x .world) (g .state) same-event ∙ sym (ap (λ (r : Run). r .world) more-is);
+            lent =
+                ef ∙ ap₂ (λ (l : List ℕ) (x : List ℕ). sets l 0 x) (g .lent) (ap₂ storedBy (g .state) same-event) ∙ sym (ap (λ (r : Run). lentAfter fx₀ (r .turns)) more-is);
+            told =
+                eo
+                ∙ ap₂ (λ (l : List ℕ) (n : ℕ). sets l n (outcomeBytes (step (world s words) (eventAt (length fx) part)))) (g .told) (let z : j ≡ 0 + length (toldOf (R .turns)) = omega (arith, g .count) in z)
+                ∙ ap (sets (sets out₀ 0 (toldOf (R .turns))) (0 + length (toldOf (R .turns)))) told-is
+                ∙ sets-then (toldOf (R .turns)) (outcomeBytes (step (R .world) e)) out₀ 0
+                ∙ sym (ap (λ (r : Run). sets out₀ 0 (toldOf (r .turns))) more-is);
+            count =
+                (let z : j + used ≡ length (toldOf (R .turns) ++ outcomeBytes (step (R .world) e)) = omega (arith, g .count, eu, ap length told-is, length-append (toldOf (R .turns)) (outcomeBytes (step (R .world) e))) in z)
+                ∙ sym (ap (λ (r : Run). length (toldOf (r .turns))) more-is);
+            rest =
+                g .rest
+                ∙ ap (after (g .done)) (walk-goes-on stops (λ bs d. before (eventAt (length fx₀) bs) d) (drop at ev) (some-left inside) ∙ ap (λ (x : List ℕ). before e (decoded (length fx₀) x)) rest-is)
+                ∙ ap (λ (l : List Event). record { events = l; left = decoded (length fx₀) (drop (at + size) ev) .left }) (sym (append-assoc (g .done) (e ∷ []) (decoded (length fx₀) (drop (at + size) ev) .events)));
+            room = room-more used few;
+            place = place-more;
+            left = left-on ev at size (g .left) here (λ z. omega (arith, z, some-size));
+            ends = g .ends;
+          }
+
+    -- the same of a turn that was lent the output from j on
+    pub goes-on-told :
+        (back fx' words' : List ℕ) (s' : State) (used : ℕ) → Told (world s words) (world s' words') (eventAt (length fx) part) (take (length out - j) (drop j out)) back used
+        → fx' ≡ sets fx 0 (storedBy (world s words) (eventAt (length fx) part)) → used ≤ roomOf (recordOf part)
+        → Going scheme ev out₀ fx₀ end (take j out ++ (back ++ drop (length out - j) (drop j out))) fx' words' s' (at + size) (j + used)
+    goes-on-told back fx' words' s' used t ef few =
+        goes-on _ fx' words' s' used (t .0) (behind out (outcomeBytes (step (world s words) (eventAt (length fx) part))) back j in-out (t .1 .0)) (t .1 .1) ef few
 
   -- the end
-  module _ (none : size ≡ 0) where
+  module _ (stop : end ≤ at) where
+    none : nextOf (drop at ev) ≡ 0
+    none = left-all (drop at ev) (omega (arith, stop, g .left, g .ends, g .place, left-there (drop at ev), left-there ev, length-drop at ev))
+
     all-done : decoded (length fx₀) ev ≡ record { events = g .done; left = length ev - at }
     all-done =
-        g .rest ∙ ap (after (g .done)) (walk-ends stops (λ bs d. before (eventAt (length fx₀) bs) d) (drop at ev) (sym (g .«next») ∙ none))
+        g .rest ∙ ap (after (g .done)) (walk-ends stops (λ bs d. before (eventAt (length fx₀) bs) d) (drop at ev) none)
         ∙ ap₂ (λ (l : List Event) (n : ℕ). record { events = l; left = n }) (append-nil (g .done)) (length-drop at ev)
 
     run-is : runOf scheme (length fx₀) ev ≡ R
     run-is = ap (λ (d : Decoded). run scheme zeros (d .events)) all-done
 
     pub end-room : j + 1608 ≤ length out₀
-    end-room = omega (arith, g .room, needed-ends (drop at ev) (sym (g .«next») ∙ none))
+    end-room = omega (arith, g .room, needed-ends (drop at ev) none)
 
     module _ (out' : List ℕ) (size-is : length (stateBytes (world s words)) ≡ 1608) (eo : out' ≡ sets out j (stateBytes (world s words))) where
       state-is : stateBytes (world s words) ≡ stateBytes (R .world)

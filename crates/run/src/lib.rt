@@ -33,7 +33,7 @@ ghost use Rattle.events.specs.Event.{step, write};
 ghost use Rattle.events.specs.Whole.{Whole};
 ghost use Rattle.outcome_bytes.specs.Output.{outcomeBytes};
 ghost use Rattle.record.specs.Record.{recordOf, firstAt, secondAt, tailAt, tailOf, wordsAt, nextOf, eventNamed, eventAt};
-ghost use Rattle.run_room.specs.Room.{roomOf, needed};
+ghost use Rattle.run_room.specs.Room.{roomOf, needed, leftOf};
 ghost use Rattle.run.specs.Run.{isWhole, isQueue, isSingle, Told, wakeIn, readIn, writeIn, storedBy, runOf, outputOf, lentAfter, wholeEnd, endOf, outAfter, fxAfter};
 
 // The run's own answer: 0, 204 or 205, the place of the record that is no event, and how many bytes were written.
@@ -385,8 +385,9 @@ fn number_at(at: usize, len: usize) -> u64
     0
 }
 
-fn run_all(scheme: u64, events: &[u8], out: &mut [u8], fx: &mut [u64]) -> RunEnd
-    requires { ⌜ needed (now events) ≤ length (now out) ⌝ }
+// The events up to `end`, where the first record begins that is none.
+fn run_all(scheme: u64, events: &[u8], end: usize, out: &mut [u8], fx: &mut [u64]) -> RunEnd
+    requires { ⌜ (needed (now events) ≤ length (now out)) × (end ≡ length (now events) - leftOf (now events)) ⌝ }
     ensures { λ r. ⌜ r ≡ wholeEnd scheme (length (now (fx .entry))) (now (events .entry)) ⌝ }
     ensures { λ r. ⌜ now (out .exit) ≡ sets (now (out .entry)) 0 (outputOf (runOf scheme (length (now (fx .entry))) (now (events .entry)))) ⌝ }
     ensures { λ r. ⌜ now (fx .exit) ≡ lentAfter (now (fx .entry)) (runOf scheme (length (now (fx .entry))) (now (events .entry)) .turns) ⌝ }
@@ -407,9 +408,9 @@ fn run_all(scheme: u64, events: &[u8], out: &mut [u8], fx: &mut [u64]) -> RunEnd
     let mut queue = WaitQueue { first: 0, len: 0 };
     let mut at = 0;
     let mut j = 0;
-    let mut size = record_next::next(events);
-    while size != 0 {
+    while at < end {
         let r = record::record_at(&events[at..]);
+        let size = record::size_by(r.kind, r.first, r.second, r.number);
         if is_queue(r.kind) {
             let v = slots[0];
             let p = Part {
@@ -424,7 +425,6 @@ fn run_all(scheme: u64, events: &[u8], out: &mut [u8], fx: &mut [u64]) -> RunEnd
             queue = left;
             j += t.used;
             at += size;
-            size = record_next::next(&events[at..]);
             continue;
         }
         if is_single(r) {
@@ -457,7 +457,6 @@ fn run_all(scheme: u64, events: &[u8], out: &mut [u8], fx: &mut [u64]) -> RunEnd
             handles = others;
             j += t.used;
             at += size;
-            size = record_next::next(&events[at..]);
             continue;
         }
         if is_whole(r.kind) {
@@ -492,7 +491,6 @@ fn run_all(scheme: u64, events: &[u8], out: &mut [u8], fx: &mut [u64]) -> RunEnd
             queue = driver.queue;
             j += t.used;
             at += size;
-            size = record_next::next(&events[at..]);
             continue;
         }
         let n = find(&events[at..], r, head, &mut first, &mut second);
@@ -528,7 +526,6 @@ fn run_all(scheme: u64, events: &[u8], out: &mut [u8], fx: &mut [u64]) -> RunEnd
         queue = longer;
         j += t.used;
         at += size;
-        size = record_next::next(&events[at..]);
     }
     let s = State {
         driver: Driver {
@@ -561,8 +558,9 @@ pub fn run(scheme: u64, events: &[u8], out: &mut [u8], fx: &mut [u64]) -> RunEnd
     ensures { λ r. ⌜ now (fx .exit) ≡ fxAfter scheme (length (now (out .entry))) (now (fx .entry)) (now (events .entry)) ⌝ }
     ensures { λ r. ⌜ r .written ≤ length (now (out .entry)) ⌝ }
 {
-    if run_room::has_room(events, out.len()) {
-        return run_all(scheme, events, out, fx);
+    let w = run_room::walk(events, out.len());
+    if w.fits {
+        return run_all(scheme, events, w.end, out, fx);
     }
     RunEnd {
         number: 204,

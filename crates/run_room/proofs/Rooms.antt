@@ -10,7 +10,8 @@ use lib.Seq.{drop-drop}
 use borrow.Author.Tests.{eq-eqb, ne-eqb, le-leb, lt-leb, leb-true, leb-false}
 use Rattle.record.specs.Record.{recordOf, tailBy, nextOf, walk}
 use Rattle.record.proofs.Laws.{next-there, walk-ends, walk-goes-on}
-use Rattle.run_room.specs.Room.{roomBy, roomOf, needed}
+use Rattle.run_room.specs.Room.{roomBy, roomOf, needed, leftOf, walkedOf}
+use Rattle.run_room.specs.declared.Walked.{Walked}
 
 pub room-is-read : (kind number word : ℕ) → kind ≡ 15 → 192 + min word 8192 + 27 * tailBy kind number ≡ roomBy kind number word
 room-is-read kind number word e = ap (λ (b : Bool). 192 + cond b (min word 8192) 0 + 27 * tailBy kind number) (sym (eq-eqb kind 15 e))
@@ -74,3 +75,46 @@ module _ (bs : List ℕ) (most left at k size : ℕ) (so : Spent bs most left at
 
   pub spent-place : at ≤ length bs → at + size ≤ length bs
   spent-place h = omega (arith, h, es, next-there (drop at bs), length-drop at bs)
+
+-- how many bytes are left where the events end
+left-most : (f : ℕ) (bs : List ℕ) → walk (λ rest. length rest) (λ rest n. n) f bs ≤ length bs
+left-most zero bs = omega arith
+left-most (suc f) bs = go (eqb (nextOf bs) 0) (left-most f (drop (nextOf bs) bs))
+  where
+    go : (b : Bool) → walk (λ rest. length rest) (λ rest n. n) f (drop (nextOf bs) bs) ≤ length (drop (nextOf bs) bs)
+        → cond b (length bs) (walk (λ rest. length rest) (λ rest n. n) f (drop (nextOf bs) bs)) ≤ length bs
+    go true h = omega arith
+    go false h = omega (arith, h, length-drop (nextOf bs) bs)
+
+pub left-there : (bs : List ℕ) → leftOf bs ≤ length bs
+left-there bs = left-most (length bs) bs
+
+pub left-ends : (bs : List ℕ) → nextOf bs ≡ 0 → leftOf bs ≡ length bs
+left-ends bs e = walk-ends (λ rest. length rest) (λ rest n. n) bs e
+
+pub left-goes-on : (bs : List ℕ) → (nextOf bs ≡ 0 → ⊥) → leftOf bs ≡ leftOf (drop (nextOf bs) bs)
+left-goes-on bs e = walk-goes-on (λ rest. length rest) (λ rest n. n) bs e
+
+-- where all are left there is no event
+pub left-all : (bs : List ℕ) → leftOf bs ≡ length bs → nextOf bs ≡ 0
+left-all bs h = go (nextOf bs) refl
+  where
+    go : (n : ℕ) → nextOf bs ≡ n → nextOf bs ≡ 0
+    go zero e = e
+    go (suc n) e =
+        absurd (let z : ⊥ = omega (arith, h, e, next-there bs, left-goes-on bs (λ q. omega (arith, q, e)), left-there (drop (nextOf bs) bs), length-drop (nextOf bs) bs) in z)
+
+-- the walk's answers
+pub walked-short : (bs : List ℕ) (most : ℕ) (w : Walked) → w ≡ record { fits = false; end = 0 } → false ≡ leb (needed bs) most → w ≡ walkedOf bs most
+walked-short bs most w e h = e ∙ ap (λ (b : Bool). record { fits = b; end = cond b (length bs - leftOf bs) 0 }) h
+
+pub walked-all :
+    (bs : List ℕ) (most at : ℕ) → true ≡ leb (needed bs) most → at ≤ length bs → leftOf (drop at bs) ≡ leftOf bs → nextOf (drop at bs) ≡ 0
+    → _≡_ {A = Walked} (record { fits = true; end = at }) (walkedOf bs most)
+walked-all bs most at h p q e =
+    ap (λ (n : ℕ). record { fits = true; end = n }) (let z : at ≡ length bs - leftOf bs = omega (arith, p, q, left-ends (drop at bs) e, length-drop at bs) in z)
+    ∙ ap (λ (b : Bool). record { fits = b; end = cond b (length bs - leftOf bs) 0 }) h
+
+pub left-on : (bs : List ℕ) (at size : ℕ) → leftOf (drop at bs) ≡ leftOf bs → size ≡ nextOf (drop at bs) → (size ≡ 0 → ⊥) → leftOf (drop (at + size) bs) ≡ leftOf bs
+left-on bs at size q e more =
+    sym (left-goes-on (drop at bs) (λ z. more (e ∙ z)) ∙ ap leftOf (ap (λ (n : ℕ). drop n (drop at bs)) (sym e) ∙ drop-drop size at bs)) ∙ q

@@ -1,9 +1,10 @@
-// Whether the output that a run is given has room for all that it may write: told from the records alone, before the first event.
+// Whether the output that a run is given has room for all that it may write, and where its events end: told from the records alone,
+// before the first event.
 ghost use mathlib.Core.Path.{_≡_};
+ghost use mathlib.Core.Bool.{false};
 ghost use Prim.Native.Nat.{_≤_, min};
-ghost use lib.Dec.{leb};
 ghost use Rattle.record.specs.Record.{recordOf};
-ghost use Rattle.run_room.specs.Room.{roomBy, roomOf, needed};
+ghost use Rattle.run_room.specs.Room.{roomBy, roomOf, walkedOf};
 
 pub fn least(a: u64, b: usize) -> usize
     ensures { λ r. ⌜ r ≡ min a b ⌝ }
@@ -34,12 +35,27 @@ fn room_at(s: &[u8]) -> usize
     room(le::byte(s, 0), le::half(s, 4), le::word(s, 16))
 }
 
-// Whether what a run writes has room in so many bytes.
-pub fn has_room(events: &[u8], most: usize) -> bool
-    ensures { λ r. ⌜ r ≡ leb (needed (now (events .entry))) most ⌝ }
+// Whether what a run writes has room, and where its events end. Without room the end is 0.
+pub struct Walked {
+    pub fits: bool,
+    pub end: usize,
+}
+
+fn no_room() -> Walked
+    ensures { λ r. ⌜ r ≡ record { fits = false; end = 0 } ⌝ }
+{
+    Walked {
+        fits: false,
+        end: 0,
+    }
+}
+
+// Over all events once: what they write in so many bytes, and the first record that is none.
+pub fn walk(events: &[u8], most: usize) -> Walked
+    ensures { λ r. ⌜ r ≡ walkedOf (now (events .entry)) most ⌝ }
 {
     if most < 1608 {
-        return false;
+        return no_room();
     }
     let mut left = most - 1608;
     let mut at = 0;
@@ -47,11 +63,14 @@ pub fn has_room(events: &[u8], most: usize) -> bool
     while size != 0 {
         let k = room_at(&events[at..]);
         if left < k {
-            return false;
+            return no_room();
         }
         left -= k;
         at += size;
         size = record_next::next(&events[at..]);
     }
-    true
+    Walked {
+        fits: true,
+        end: at,
+    }
 }
