@@ -1,8 +1,8 @@
 -- The state that an event leaves, by what became of its part. Assumes nothing.
-use Prim.Native.Nat.{ℕ, _%_, _<_}
-use mathlib.Core.Path.{_≡_, sym, ap, _∙_}
+use Prim.Native.Nat.{ℕ, zero, suc, _%_, _<_}
+use mathlib.Core.Path.{_≡_, refl, sym, ap, _∙_}
 use native.Mathlib.Omega.{arith}
-use mathlib.Core.List.{List}
+use mathlib.Core.List.{List, [], _∷_}
 use lib.ListN.{getD, set}
 use lib.Seq.{set-getD}
 use Rattle.holds.specs.declared.Holds.{Holds}
@@ -14,7 +14,7 @@ use Rattle.slot.specs.Slots.{vacantSlot}
 use Rattle.state.specs.declared.Driver.{Driver}
 use Rattle.state.specs.declared.State.{State}
 use Rattle.table.specs.declared.Table.{Table}
-use Rattle.table.specs.Table.{noSlot}
+use Rattle.table.specs.Table.{noSlot, noHolds}
 use Rattle.wait_queue.specs.declared.WaitQueue.{WaitQueue}
 use Rattle.part.specs.declared.Part.{Part}
 use Rattle.part.specs.Part.{givenOf, storedOf, vacatedOf, queuedOf, Stands, found, leaves}
@@ -24,6 +24,25 @@ driver s q = record { scheme = s .driver .scheme; handles = s .driver .handles; 
 
 abbrev pub laid : State → WaitQueue → List Slot → List ℕ → ℕ → Holds → State
 laid s q slots next head h = record { driver = driver s q; table = record { slots = slots; next = next; head = head; holds = h } }
+
+-- a state in which any part stands, at any place: so that what is said of all such states is said of one at least
+abbrev padded : {A : Type 0} → A → A → ℕ → List A
+padded d x zero = x ∷ []
+padded d x (suc n) = d ∷ padded d x n
+
+last-is : {A : Type 0} (d x : A) (n : ℕ) → getD (padded d x n) n d ≡ x
+last-is d x zero = refl
+last-is d x (suc n) = last-is d x n
+
+abbrev pub standing : ℕ → Part → State
+standing n p =
+    record {
+      driver = record { scheme = p .scheme; handles = record { at = [] }; queue = p .queue };
+      table = record { slots = padded noSlot (p .slot) n; next = padded 0 (p .next) n; head = p .head; holds = noHolds };
+    }
+
+pub stands : (n : ℕ) (p : Part) → Stands (standing n p) n p
+stands n p = (last-is noSlot (p .slot) n, last-is 0 (p .next) n, refl)
 
 module _ (s : State) (n : ℕ) (p : Part) (st : Stands s n p) where
   slots-kept : set (s .table .slots) n (p .slot) ≡ s .table .slots

@@ -21,10 +21,6 @@ use Rattle.outcome_bytes.specs.Output.{told, outcomeBytes}
 use Rattle.le.specs.Le.{word}
 use Rattle.record.specs.Record.{wordsAt}
 use Rattle.record.proofs.Laws.{each-length}
-use Rattle.wait_queue.specs.declared.WaitQueue.{WaitQueue}
-use Rattle.state.specs.declared.State.{State}
-use Rattle.table.specs.Table.{noHolds}
-use Rattle.part.specs.declared.Part.{Part}
 use Rattle.wait_queue.specs.Queue.{wordsFrom, unread, removed}
 use Rattle.wait_queue.proofs.Unread.{length-bytes, length-words}
 use Rattle.wait_queue_receive.specs.declared.ReceiveAnswer.the-variants.{Bytes}
@@ -97,14 +93,6 @@ same-read w len flags h =
     go : (b : Bool) → receivedIf b (queueOf w) (min len 8192) flags ≡ receivedIf b (queueOf w) len flags
     go true = λ i. record { answer = emptyBy (eqb (flags / 0x4_0000 % 2) 0) (none-same len i) (few-same len i); queue = queueOf w }
     go false = ap (λ (n : ℕ). record { answer = Bytes n; queue = removed (queueOf w) (n / 64) }) few
-
--- a state in which a part stands, at slot 0
-abbrev pub standing : Part → State
-standing p =
-    record {
-      driver = record { scheme = p .scheme; handles = record { at = [] }; queue = p .queue };
-      table = record { slots = p .slot ∷ []; next = p .next ∷ []; head = p .head; holds = noHolds };
-    }
 
 -- a read into m bytes that are as good as len
 module _ (w : World) (len flags n m k : ℕ) (b front : List ℕ) (size : 8192 ≤ length b) (en : n ≡ min len 8192) (em : m ≡ length (take n b)) (ek : k ≡ min n (queueOf w .len * 64))

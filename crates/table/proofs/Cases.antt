@@ -33,14 +33,8 @@ module _ (t : Table) (n : Tag) (k : SlotNo) (is : k ≡ slotOf n) where
       ap (λ (j : ℕ). getD (t .slots) j noSlot) (same h)
       ∙ sym (ap (λ (b : Bool). cond b (getD (t .slots) (n .0) noSlot) vacantSlot) (within h))
 
-  pub put-out : (v : Slot) → 64 ≤ k .0 → t ≡ putAt t (n .0) v
-  put-out v h = sym (ap (λ (b : Bool). cond b (stored t (n .0) v) t) (beyond h))
-
   pub put-in : (v : Slot) → k .0 < 64 → stored t (k .0) v ≡ putAt t (n .0) v
   put-in v h = ap (λ (j : ℕ). stored t j v) (same h) ∙ sym (ap (λ (b : Bool). cond b (stored t (n .0) v) t) (within h))
-
-  pub vacate-out : 64 ≤ k .0 → t ≡ vacateAt t (n .0)
-  vacate-out h = sym (ap (λ (b : Bool). cond b (vacated t (n .0)) t) (beyond h))
 
   pub vacate-in :
       (x : Slot) → x ≡ vacantSlot → k .0 < 64
