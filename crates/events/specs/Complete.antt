@@ -13,8 +13,7 @@ use Rattle.error.specs.declared.Result.the-variants.{Ok, Err}
 use Rattle.error.specs.Reference.{asUsize}
 use Rattle.fd_list.specs.declared.List.{List as Fds}
 use Rattle.fd_list.specs.Lists.{numbers}
-use Rattle.handles.specs.declared.Obtained.{Obtained}
-use Rattle.handles.specs.Handles.{heldAt, emptied, obtainOf, obtainCloses}
+use Rattle.handles.specs.Handles.{Gained, heldAt, emptied, obtainOf, obtainCloses}
 use Rattle.holds.specs.declared.Holds.{Holds}
 use Rattle.holds.specs.Holds.{discardedOf}
 use Rattle.parse_cqe.specs.declared.ParsedCqe.{ParsedCqe}
@@ -159,7 +158,7 @@ abbrev pub obtainRows : World → ℕ → List Row
 obtainRows w n =
     row 22 (isVacant (phaseIn w n)) ∷ row 2 (not (isWaiting (phaseIn w n)) || eqb (length (numbers (slotIn w n .fds))) 0) ∷ []
 
-abbrev pub obtainedAs : World → ℕ → Obtained → List ℕ → Entered
+abbrev pub obtainedAs : World → ℕ → Gained → List ℕ → Entered
 obtainedAs w n o fx =
     accepted fx
     (withHandles (withTable w (tableWith (putAt (tableOf w) n (withFdsOf (slotIn w n) (o .list))) (o .holds))) (o .handles))

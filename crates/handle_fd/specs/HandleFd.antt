@@ -7,21 +7,27 @@ use lib.ListN.{length}
 use Rattle.closes.specs.declared.Reason.the-variants.{Refused}
 use Rattle.fd_list.specs.Lists.{numbers}
 use Rattle.handles.specs.declared.Handles.{Handles}
-use Rattle.handles.specs.declared.Obtained.{Obtained}
-use Rattle.handles.specs.Handles.{heldAt, emptied, obtainCloses}
+use Rattle.handles.specs.Handles.{Gained, heldAt, emptied, obtainCloses}
 use Rattle.handles.specs.Handles as handle
 use Rattle.holds.specs.declared.Holds.{Holds}
 use Rattle.reply_parts.specs.Parts.{namedOf}
 use Rattle.respond.specs.declared.Act.{Act}
 use Rattle.respond.specs.declared.Act.the-variants.{Leave, Store}
-use Rattle.respond.specs.declared.Responded.{Responded as Decided}
-use Rattle.respond.specs.Respond.{respondOf, respondFx}
+use Rattle.respond.specs.Respond.{Decided, respondOf, respondFx}
 use Rattle.slot.specs.declared.Phase.{Phase}
 use Rattle.slot.specs.declared.Phase.the-variants.{Vacant, Placeholder, Waiting, Responded, Fmap}
 use Rattle.slot.specs.declared.Slot.{Slot}
 use Rattle.slot.specs.Slots.{phaseOf, withFdsOf}
 use Rattle.events.specs.Complete.{one, dropped, closesOf}
-use Rattle.handle_fd.specs.declared.Handled.{Handled}
+
+-- the same of a slot, the holds and the handles
+pub record Handled : Type 0 where
+  pub number : ℕ
+  pub act : Act
+  pub slot : Slot
+  pub holds : Holds
+  pub handles : Handles
+  pub words : ℕ
 
 abbrev pub decided : ℕ → Act → Slot → Holds → Handles → ℕ → Handled
 decided k a v h n w = record { number = k; act = a; slot = v; holds = h; handles = n; words = w }
@@ -61,14 +67,14 @@ abbrev pub descriptorFx : Slot → ℕ → ℕ → Holds → Handles → List �
 descriptorFx v t k h n = byHandleFx (eqb (heldAt n k) 0) v t k h n
 
 -- an obtain entry: the first of the list, and the closes that follow
-abbrev pub obtainedFrom : Slot → ℕ → Holds → Handles → Obtained
+abbrev pub obtainedFrom : Slot → ℕ → Holds → Handles → Gained
 obtainedFrom v k h n = handle.obtainOf h n (v .fds) k
 
 abbrev pub closesFrom : Slot → ℕ → Holds → Handles → List ℕ
 closesFrom v k h n = obtainCloses h n (v .fds) k
 
 -- is the list empty
-abbrev pub obtainedOf : Bool → Slot → Obtained → Holds → Handles → Handled
+abbrev pub obtainedOf : Bool → Slot → Gained → Holds → Handles → Handled
 obtainedOf true v o h n = refusedOf 2 v h n
 obtainedOf false v o h n = decided 0 Store (withFdsOf v (o .list)) (o .holds) (o .handles) (3 * o .count)
 

@@ -23,8 +23,7 @@ use Rattle.holds.specs.declared.Holds.{Holds}
 use Rattle.holds.specs.Holds.{holdsWith}
 use Rattle.parse_cqe.specs.declared.ParsedCqe.{ParsedCqe}
 use Rattle.parse_cqe.specs.Parsed.{parsedBy, parsedOf, eventIf, obtainIf}
-use Rattle.respond.specs.declared.Responded.{Responded as Decided}
-use Rattle.respond.specs.Respond.{servedOf, servedFx, respondOf, respondFx}
+use Rattle.respond.specs.Respond.{Decided, servedOf, servedFx, respondOf, respondFx}
 use Rattle.reply_parts.specs.Parts.{namedOf, partsOf}
 use Rattle.schemev2.specs.declared.Cqe.{Cqe}
 use Rattle.schemev2.specs.declared.CqeOpcode.{CqeOpcode}
@@ -38,10 +37,9 @@ use Rattle.table.specs.Table.{vacateAt}
 use Rattle.events.specs.World.{World, tableOf, holdsOf, handlesOf, slotIn, phaseIn, withTable, tableWith, withHandles, withHolds}
 use Rattle.events.specs.Complete.{Entered, accepted, rejected, reject, Offer, result, one, listed, dropped, closesOf, droppedFds, releaseOf, servedBy, respondBy, inHandle, byDescriptor, obtained, isVacant, isWaiting, entryBy, entryOf}
 use Rattle.events.specs.Wake.{heldIn}
-use Rattle.handle_fd.specs.declared.Handled.{Handled}
 use Rattle.handle_fd.specs.HandleFd as decision
 use Rattle.handle_parsed.specs.Handled.{handledOf, handledFx, carried}
-use Rattle.handle_fd.specs.HandleFd.{decided, handled, byTag, byTagFx, byHandle, byHandleFx, obtainFxBy}
+use Rattle.handle_fd.specs.HandleFd.{Handled, decided, handled, byTag, byTagFx, byHandle, byHandleFx, obtainFxBy}
 
 -- a word that names no description has no holds to drop
 module _ (h : Holds) (size : length (h .holds) ≡ 64) (d : ℕ) where

@@ -4,12 +4,11 @@ use mathlib.Core.Path.{_≡_, sym, ap, _∙_}
 use mathlib.Core.List.{List}
 use native.Mathlib.Omega.{arith}
 use lib.Seq.{sets}
-use Rattle.handle_fd.specs.declared.Handled.{Handled}
-use Rattle.handle_fd.specs.HandleFd.{handled, refusedOf}
+use Rattle.handle_fd.specs.HandleFd.{Handled, handled, refusedOf}
 use Rattle.handles.specs.declared.Handles.{Handles}
 use Rattle.holds.specs.declared.Holds.{Holds}
 use Rattle.parse_cqe.specs.declared.ParsedCqe.{ParsedCqe}
-use Rattle.respond.specs.declared.Responded.{Responded as Decided}
+use Rattle.respond.specs.Respond.{Decided}
 use Rattle.slot.specs.declared.Slot.{Slot}
 use Rattle.handle_parsed.specs.Handled.{handledOf, handledFx}
 

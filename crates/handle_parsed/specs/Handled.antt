@@ -3,8 +3,7 @@ use Prim.Native.Nat.{ℕ}
 use mathlib.Core.Bool.{true, false, cond}
 use mathlib.Core.List.{List, []}
 use lib.Dec.{eqb}
-use Rattle.handle_fd.specs.declared.Handled.{Handled}
-use Rattle.handle_fd.specs.HandleFd.{decided, refusedOf, handled, descriptorOf, descriptorFx, obtainOf, obtainFx}
+use Rattle.handle_fd.specs.HandleFd.{Handled, decided, refusedOf, handled, descriptorOf, descriptorFx, obtainOf, obtainFx}
 use Rattle.handles.specs.declared.Handles.{Handles}
 use Rattle.holds.specs.declared.Holds.{Holds}
 use Rattle.parse_cqe.specs.declared.ParsedCqe.{ParsedCqe}

@@ -1,67 +1,64 @@
 // `handle_parsed` (src/scheme/user.rs, lines 792 to 846) as a decision on the slot that the entry's tag names: what becomes
 // of it, of the holds and of the handles, and which effects follow.
-use handle_fd::Handled;
-use handles::Handles;
-use holds::Holds;
 use parse_cqe::ParsedCqe;
 use reply_parts::Offer;
 use respond::Act;
+use respond::Responded;
 use slot::Slot;
 ghost use mathlib.Core.Path.{_≡_};
-ghost use Prim.Native.Nat.{_≤_};
+ghost use mathlib.Core.List.{List as Words};
+ghost use Prim.Native.Nat.{ℕ, _≤_};
 ghost use lib.Seq.{sets};
+ghost use Rattle.holds.specs.Holds.{holdsWith};
+ghost use Rattle.handles.specs.Handles.{handlesWith};
+ghost use Rattle.handle_fd.specs.HandleFd.{decided};
 ghost use Rattle.handle_parsed.specs.Handled.{handledOf, handledFx};
 
 pub fn handle_parsed(
     p: ParsedCqe,
     v: Slot,
-    h: Holds,
-    n: Handles,
+    all: &mut [u16; 64],
+    n: &mut [u16; 64],
     fx: &mut [u64],
     at: usize,
-) -> Handled
-    ensures { λ r. ⌜ r ≡ handledOf p v h n ⌝ }
-    ensures { λ r. ⌜ now (fx .exit) ≡ sets (now (fx .entry)) at (handledFx p v h n) ⌝ }
+) -> Responded
+    ensures { λ r. ⌜ ((o : Words ℕ) → decided (r .number) (r .act) (r .slot) (holdsWith (now (all .exit)) o) (handlesWith (now (n .exit))) (r .words) ≡ handledOf p v (holdsWith (now (all .entry)) o) (handlesWith (now (n .entry)))) ⌝ }
+    ensures { λ r. ⌜ ((o : Words ℕ) → now (fx .exit) ≡ sets (now (fx .entry)) at (handledFx p v (holdsWith (now (all .entry)) o) (handlesWith (now (n .entry))))) ⌝ }
     ensures { λ r. ⌜ r .words ≤ 99 ⌝ }
 {
     match p {
         ParsedCqe::TriggerFevent { number, flags } => {
             word_put::put3(fx, at, 4, number, flags);
-            return Handled {
+            return Responded {
                 number: 0,
                 act: Act::Leave,
                 slot: v,
-                holds: h,
-                handles: n,
                 words: 3,
             };
         }
         ParsedCqe::RegularResponse { tag, res, extra0 } => {
             let offer = Offer::Regular(res, extra0, false);
-            let r = respond::respond(v, tag.0, offer, h, fx, at);
-            return handle_fd::with_handles(r, n);
+            return respond::respond(v, tag.0, offer, all, fx, at);
         }
         ParsedCqe::ResponseWithFd { tag, fd } => {
-            return handle_fd::descriptor(v, tag.0, fd, h, n, fx, at);
+            return handle_fd::descriptor(v, tag.0, fd, all, n, fx, at);
         }
         ParsedCqe::ResponseWithMultipleFds { tag, num_fds } => {
-            let r = respond::respond(v, tag.0, Offer::Listed, h, fx, at);
-            return handle_fd::with_handles(r, n);
+            return respond::respond(v, tag.0, Offer::Listed, all, fx, at);
         }
         ParsedCqe::ObtainFd {
             tag,
             flags,
             dst_fd_or_ptr,
         } => {
-            return handle_fd::obtain(v, dst_fd_or_ptr, h, n, fx, at);
+            return handle_fd::obtain(v, dst_fd_or_ptr, all, n, fx, at);
         }
         ParsedCqe::RespondAndNotifyOnDetach { tag, res, extra0 } => {
             let offer = Offer::Regular(res, extra0, true);
-            let r = respond::respond(v, tag.0, offer, h, fx, at);
-            return handle_fd::with_handles(r, n);
+            return respond::respond(v, tag.0, offer, all, fx, at);
         }
-        ParsedCqe::UnknownKind => handle_fd::refused(22, v, h, n),
-        ParsedCqe::UnknownEventFlags => handle_fd::refused(22, v, h, n),
-        ParsedCqe::UnknownObtainFlags => handle_fd::refused(22, v, h, n),
+        ParsedCqe::UnknownKind => respond::refused(v, 22),
+        ParsedCqe::UnknownEventFlags => respond::refused(v, 22),
+        ParsedCqe::UnknownObtainFlags => respond::refused(v, 22),
     }
 }

@@ -12,15 +12,13 @@ use borrow.Author.Tests.{lt-leb, le-leb}
 use Rattle.fd_list.specs.declared.List.{List as Sent}
 use Rattle.fd_list.specs.Lists.{numbers, listOf, restOf}
 use Rattle.fd_list.proofs.Laws.{numbers-listOf}
-use Rattle.counts.specs.Counts.{lasts}
+use Rattle.counts.specs.Counts.{lasts, lessAll}
 use Rattle.closes.specs.declared.Reason.the-variants.{Unusable}
 use Rattle.closes.specs.Closes.{closing, only, closes}
 use Rattle.holds.specs.declared.Holds.{Holds}
-use Rattle.holds.specs.declared.Dropped.{Dropped}
-use Rattle.holds.specs.Holds.{droppedOf}
+use Rattle.holds.specs.Holds.{holdsWith}
 use Rattle.handles.specs.declared.Handles.{Handles}
-use Rattle.handles.specs.declared.Obtained.{Obtained}
-use Rattle.handles.specs.Handles.{heldAt, isFree, into, emptied, obtained, obtainIn, obtainLasts}
+use Rattle.handles.specs.Handles.{Gained, heldAt, isFree, into, emptied, obtained, obtainIn, obtainLasts}
 
 module _ (n : Handles) (k : ℕ) where
   module _ (l : length (n .at) ≡ 64) (b : 63 < k) where
@@ -53,7 +51,7 @@ same-test r t b q e = sym q ∙ e
 
 -- an obtain entry, by the list's length and the handle
 module _ (h : Holds) (n : Handles) (l : Sent) (k : ℕ) (fx : List ℕ) (at : ℕ) where
-  abbrev Obtains : List ℕ → Obtained → List ℕ → Type 0
+  abbrev Obtains : List ℕ → Gained → List ℕ → Type 0
   Obtains ds o gx = (o ≡ obtainIn ds h n l k) × (gx ≡ sets fx at (closes (obtainLasts ds h n k)))
 
   pub obtain-none : length (numbers l) ≡ 0 → Obtains (numbers l) (obtained 0 l n h) fx
@@ -71,16 +69,18 @@ module _ (h : Holds) (n : Handles) (l : Sent) (k : ℕ) (fx : List ℕ) (at : �
         go [] z q = absurd (z refl)
         go (e ∷ ds) z q = rw (u, qm, qw, q) (refl, refl)
 
-    pub obtain-drop : isFree n k ≡ false → (o : Sent) → o ≡ listOf (d ∷ []) → (t : Dropped) (gx : List ℕ) → t ≡ droppedOf h (numbers o) (closing Unusable) →
-        gx ≡ sets fx at (closes (only (closing Unusable) (lasts (h .holds) (numbers o)))) →
-        Obtains (numbers l) (obtained (t .count) m n (t .holds)) gx
-    obtain-drop u o qo t gx qt qg = go (numbers l) z q
+    pub obtain-drop :
+        isFree n k ≡ false → (o : Sent) → o ≡ listOf (d ∷ []) → (f : Bool) → f ≡ closing Unusable → (c : ℕ) (a gx : List ℕ) → c ≡ length (only f (lasts (h .holds) (numbers o)))
+        → a ≡ lessAll (h .holds) (numbers o) → gx ≡ sets fx at (closes (only f (lasts (h .holds) (numbers o)))) → Obtains (numbers l) (obtained c m n (holdsWith a (h .outside))) gx
+    obtain-drop u o qo f qf c a gx qc qa qg = go (numbers l) z q
       where
-        go : (ds : List ℕ) → (length ds ≡ 0 → ⊥) → d ≡ getD ds 0 0 → Obtains ds (obtained (t .count) m n (t .holds)) gx
+        go : (ds : List ℕ) → (length ds ≡ 0 → ⊥) → d ≡ getD ds 0 0 → Obtains ds (obtained c m n (holdsWith a (h .outside))) gx
         go [] z q = absurd (z refl)
         go (e ∷ ds) z q =
             let w : numbers o ≡ e ∷ [] = ap numbers qo ∙ (numbers-listOf (d ∷ []) (omega arith) ∙ ap (λ (x : ℕ). x ∷ []) q) in
-            let r : t ≡ droppedOf h (e ∷ []) (closing Unusable) = qt ∙ ap (λ (x : List ℕ). droppedOf h x (closing Unusable)) w in (
-              rw u (rw qm (ap (λ (x : Dropped). obtained (x .count) (restOf l) n (x .holds)) r)),
-              rw u (qg ∙ ap (λ (x : List ℕ). sets fx at (closes (only (closing Unusable) (lasts (h .holds) x)))) w),
+            let count : c ≡ length (only (closing Unusable) (lasts (h .holds) (e ∷ []))) =
+            qc ∙ (λ i. length (only (qf i) (lasts (h .holds) (w i)))) in
+            let less : a ≡ lessAll (h .holds) (e ∷ []) = qa ∙ ap (lessAll (h .holds)) w in (
+              rw u (rw qm (λ i. obtained (count i) (restOf l) n (holdsWith (less i) (h .outside)))),
+              rw u (qg ∙ λ i. sets fx at (closes (only (qf i) (lasts (h .holds) (w i))))),
             )

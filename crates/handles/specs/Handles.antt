@@ -12,7 +12,10 @@ use Rattle.closes.specs.Closes.{closing, only, closes}
 use Rattle.holds.specs.declared.Holds.{Holds}
 use Rattle.holds.specs.Holds.{droppedOf}
 use Rattle.handles.specs.declared.Handles.{Handles}
-use Rattle.handles.specs.declared.Obtained.{Obtained}
+
+-- handles in words that are lent
+abbrev pub handlesWith : List ℕ → Handles
+handlesWith a = record { at = a }
 
 -- 0 for an empty handle and one over 63, else the description and 1
 abbrev pub heldAt : Handles → ℕ → ℕ
@@ -27,20 +30,27 @@ into n k d = record { at = set (n .at) k (suc d) }
 abbrev pub emptied : Handles → ℕ → Handles
 emptied n k = record { at = set (n .at) k 0 }
 
+-- what an obtain entry leaves: how many closes follow, the list, the handles and the holds
+pub record Gained : Type 0 where
+  pub count : ℕ
+  pub list : Sent
+  pub handles : Handles
+  pub holds : Holds
+
 -- an obtain entry: the first of the list into handle k; where that is full or over 63 its hold is dropped
-abbrev pub obtained : ℕ → Sent → Handles → Holds → Obtained
+abbrev pub obtained : ℕ → Sent → Handles → Holds → Gained
 obtained c l n h = record { count = c; list = l; handles = n; holds = h }
 
-abbrev pub obtainBy : Bool → Holds → Handles → Sent → ℕ → ℕ → Obtained
+abbrev pub obtainBy : Bool → Holds → Handles → Sent → ℕ → ℕ → Gained
 obtainBy true h n l k d = obtained 0 (restOf l) (into n k d) h
 obtainBy false h n l k d =
     obtained (droppedOf h (d ∷ []) (closing Unusable) .count) (restOf l) n (droppedOf h (d ∷ []) (closing Unusable) .holds)
 
-abbrev pub obtainIn : List ℕ → Holds → Handles → Sent → ℕ → Obtained
+abbrev pub obtainIn : List ℕ → Holds → Handles → Sent → ℕ → Gained
 obtainIn [] h n l k = obtained 0 l n h
 obtainIn (d ∷ ds) h n l k = obtainBy (isFree n k) h n l k d
 
-abbrev pub obtainOf : Holds → Handles → Sent → ℕ → Obtained
+abbrev pub obtainOf : Holds → Handles → Sent → ℕ → Gained
 obtainOf h n l k = obtainIn (numbers l) h n l k
 
 -- the closes that follow, three words each

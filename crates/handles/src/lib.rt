@@ -1,12 +1,15 @@
 // The driver's handles: each empty, or holding one description. A handle over 63 is no place for one.
 use closes::Reason;
 use fd_list::List;
-use holds::Holds;
 use ids::Description;
 use ids::Handle;
 ghost use mathlib.Core.Path.{_≡_};
+ghost use lib.ListN.{length};
 ghost use lib.Seq.{sets};
-ghost use Rattle.handles.specs.Handles.{heldAt, isFree, into, emptied, obtainOf, obtainCloses};
+ghost use mathlib.Core.List.{List as Words};
+ghost use Prim.Native.Nat.{ℕ};
+ghost use Rattle.holds.specs.Holds.{holdsWith};
+ghost use Rattle.handles.specs.Handles.{handlesWith, heldAt, isFree, into, emptied, obtained, obtainOf, obtainCloses};
 
 // Handle n is empty (0) or holds description d (d + 1).
 #[repr(C)]
@@ -15,23 +18,27 @@ pub struct Handles {
 }
 
 // How many closes follow, and the list without its first.
-#[repr(C)]
 pub struct Obtained {
     pub count: usize,
     pub list: List,
-    pub handles: Handles,
-    pub holds: Holds,
 }
 
+// Nothing but what is known of so many words: there are 64.
+fn known(a: [u16; 64])
+    ensures { λ r. ⌜ length a ≡ 64 ⌝ }
+{}
+
 // What handle k holds; one over 63 is empty.
-pub fn held_at(n: Handles, k: Handle) -> u16
-    ensures { λ r. ⌜ r ≡ heldAt n (k .0) ⌝ }
+pub fn held_at(n: &[u16; 64], k: Handle) -> u16
+    ensures { λ r. ⌜ r ≡ heldAt (handlesWith (now (n .entry))) (k .0) ⌝ }
 {
+    let a = *n;
+    known(a);
     let i = k.0;
     if 63 < i {
         return 0;
     }
-    n.at[i as usize]
+    n[i as usize]
 }
 
 // Whether handle k is one of the 64 and empty.
@@ -41,7 +48,8 @@ pub fn is_free(n: Handles, k: Handle) -> bool
     if 63 < k.0 {
         return false;
     }
-    held_at(n, k) == 0
+    let at = n.at;
+    held_at(&at, k) == 0
 }
 
 // Handle k holds d from now on.
@@ -58,48 +66,44 @@ pub fn put_into(n: Handles, k: Handle, d: Description) -> Handles
 }
 
 // Handle k is empty from now on.
-pub fn empty_handle(n: Handles, k: Handle) -> Handles
-    ensures { λ r. ⌜ r ≡ emptied n (k .0) ⌝ }
+pub fn empty_handle(n: &mut [u16; 64], k: Handle)
+    ensures { λ r. ⌜ handlesWith (now (n .exit)) ≡ emptied (handlesWith (now (n .entry))) (k .0) ⌝ }
 {
+    let a = *n;
+    known(a);
     let i = k.0;
     if 63 < i {
-        return n;
+        return;
     }
-    let mut m = n;
-    m.at[i as usize] = 0;
-    m
+    n[i as usize] = 0;
 }
 
 // The first of a list goes to handle k; where that is full or over 63, its hold is dropped.
-pub fn obtain(h: Holds, n: Handles, l: List, k: Handle, fx: &mut [u64], at: usize) -> Obtained
-    ensures { λ r. ⌜ r ≡ obtainOf h n l (k .0) ⌝ }
-    ensures { λ r. ⌜ now (fx .exit) ≡ sets (now (fx .entry)) at (obtainCloses h n l (k .0)) ⌝ }
+pub fn obtain(
+    all: &mut [u16; 64],
+    n: &mut [u16; 64],
+    l: List,
+    k: Handle,
+    fx: &mut [u64],
+    at: usize,
+) -> Obtained
+    ensures { λ r. ⌜ ((o : Words ℕ) → (obtained (r .count) (r .list) (handlesWith (now (n .exit))) (holdsWith (now (all .exit)) o) ≡ obtainOf (holdsWith (now (all .entry)) o) (handlesWith (now (n .entry))) l (k .0)) × (now (fx .exit) ≡ sets (now (fx .entry)) at (obtainCloses (holdsWith (now (all .entry)) o) (handlesWith (now (n .entry))) l (k .0)))) ⌝ }
 {
     if fd_list::size(l) == 0 {
-        return Obtained {
-            count: 0,
-            list: l,
-            handles: n,
-            holds: h,
-        };
+        return Obtained { count: 0, list: l };
     }
     let d = fd_list::pick(l, 0);
     let m = fd_list::rest(l);
-    if is_free(n, k) {
-        let w = put_into(n, k, d);
-        return Obtained {
-            count: 0,
-            list: m,
-            handles: w,
-            holds: h,
-        };
+    let before = *n;
+    let h = Handles { at: before };
+    if is_free(h, k) {
+        let w = put_into(h, k, d);
+        let after = w.at;
+        *n = after;
+        return Obtained { count: 0, list: m };
     }
-    let t = holds::drop_list(h, fd_list::single(d), Reason::Unusable, fx, at);
-    let g = t.holds;
-    Obtained {
-        count: t.count,
-        list: m,
-        handles: n,
-        holds: g,
-    }
+    let one = fd_list::single(d);
+    let follows = closes::is_closing(Reason::Unusable);
+    let c = closes::drop_all(all, one, follows, fx, at);
+    Obtained { count: c, list: m }
 }

@@ -23,9 +23,8 @@ use Rattle.error.specs.Errors.{resultAnswer}
 use Rattle.fd_list.specs.declared.List.{List as Fds}
 use Rattle.fd_list.specs.Lists.{numbers, listOf}
 use Rattle.fd_list.proofs.Laws.{numbers-most}
-use Rattle.holds.specs.declared.Dropped.{Dropped}
 use Rattle.holds.specs.declared.Holds.{Holds}
-use Rattle.holds.specs.Holds.{droppedOf}
+use Rattle.holds.specs.Holds.{holdsWith}
 use Rattle.word_put.proofs.Stores.{sets-past, behind}
 use Rattle.slot.specs.declared.PageSpan.{PageSpan}
 use Rattle.slot.specs.declared.Phase.{Phase}
@@ -39,8 +38,7 @@ use Rattle.events.specs.Complete.{storedErrno, storedResult, storedAs, unmapOf,
 use Rattle.respond.specs.declared.Act.the-variants.{Store, Vacate}
 use Rattle.reply_parts.specs.declared.Offer.{Offer}
 use Rattle.reply_parts.specs.declared.Parts.{Parts}
-use Rattle.respond.specs.declared.Responded.{Responded as Decided}
-use Rattle.respond.specs.Respond.{decided, releasedFx, storedFx, storedOf, lostFx, lostOf, servedOf, servedFx, respondOf, respondFx}
+use Rattle.respond.specs.Respond.{Decided, decided, releasedFx, storedFx, storedOf, lostFx, lostOf, servedOf, servedFx, respondOf, respondFx}
 use Rattle.reply_parts.specs.Parts.{offered, namedOf, partsOf}
 
 -- a place past the end is as good as the end
@@ -59,14 +57,17 @@ pub unmap-some :
     → (3 ≡ length (unmapOf (eqb (s .count) 0) s)) × ((3 ≤ 3) × (gx ≡ sets fx at (unmapOf (eqb (s .count) 0) s)))
 unmap-some s fx gx at q e = rw (ne-eqb (s .count) 0 q) (refl, (omega arith, e))
 
--- a list's closes: three words each, at most 16
-module _ (h : Holds) (l : Fds) (why : Reason) (d : Dropped) (is : d ≡ droppedOf h (numbers l) (closing why)) where
-  pub count-is : 3 * d .count ≡ length (closesOf why h (numbers l))
-  count-is = ap (λ (x : Dropped). 3 * x .count) is ∙ sym (closes-length (only (closing why) (lasts (h .holds) (numbers l))))
+-- a list's closes, three words each
+module _ (h : Holds) (ds : List ℕ) (why : Reason) (f : Bool) (ef : f ≡ closing why) where
+  pub count-is : (k : ℕ) → k ≡ length (only f (lasts (h .holds) ds)) → 3 * k ≡ length (closesOf why h ds)
+  count-is k ek = ap (λ (x : ℕ). 3 * x) (ek ∙ ap (λ (b : Bool). length (only b (lasts (h .holds) ds))) ef) ∙ sym (closes-length (only (closing why) (lasts (h .holds) ds)))
 
-  pub count-le : length (l .at) ≡ 16 → d .count ≤ 16
-  count-le q =
-      omega (arith, ap (λ (x : Dropped). x .count) is, only-length (closing why) (lasts (h .holds) (numbers l)), lasts-length (numbers l) (h .holds), numbers-most l q)
+  pub closes-are : (fx gx : List ℕ) (at : ℕ) → gx ≡ sets fx at (closes (only f (lasts (h .holds) ds))) → gx ≡ sets fx at (closesOf why h ds)
+  closes-are fx gx at e = e ∙ ap (λ (b : Bool). sets fx at (closes (only b (lasts (h .holds) ds)))) ef
+
+-- what is said of any outside holds, apart
+pub three : {A B : List ℕ → Type 0} {C : Type 0} → ((o : List ℕ) → A o × (B o × C)) → ((o : List ℕ) → A o) × (((o : List ℕ) → B o) × C)
+three f = (λ o. f o .0, (λ o. f o .1 .0, f [] .1 .1))
 
 pub words-are : (xs ys : List ℕ) (n m : ℕ) → n ≡ length xs → m ≡ length ys → n + m ≡ length (xs ++ ys)
 words-are xs ys n m p q = omega (arith, p, q, length-append xs ys)

@@ -18,7 +18,14 @@ use Rattle.events.specs.Complete as complete
 use Rattle.events.specs.Complete.{unmapOf, closesOf, dropped}
 use Rattle.respond.specs.declared.Act.{Act}
 use Rattle.respond.specs.declared.Act.the-variants.{Leave, Store, Vacate}
-use Rattle.respond.specs.declared.Responded.{Responded as Decided}
+
+-- what becomes of the slot and of the holds: a number, 0 or the refusal's, and how many words of effects there are
+pub record Decided : Type 0 where
+  pub number : ℕ
+  pub act : Act
+  pub slot : Slot
+  pub holds : Holds
+  pub words : ℕ
 
 abbrev pub decided : ℕ → Act → Slot → Holds → ℕ → Decided
 decided n a v h k = record { number = n; act = a; slot = v; holds = h; words = k }

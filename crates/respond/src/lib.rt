@@ -1,23 +1,25 @@
 // `respond` (src/scheme/user.rs, lines 926 to 1005) as a decision on one slot: what becomes of it, of the holds, and which
-// effects follow. The effect words go to lent ones from a given place on.
+// effects follow. Hold counts are lent; the effect words go to lent ones from a given place on.
 use closes::Reason;
 use fd_list::List;
-use holds::Holds;
 use reply_parts::Offer;
 use reply_parts::Parts;
 use slot::PageSpan;
 use slot::Phase;
 use slot::Slot;
 ghost use mathlib.Core.Path.{_≡_};
-ghost use Prim.Native.Nat.{min, _≤_};
+ghost use mathlib.Core.List.{List as Words};
+ghost use Prim.Native.Nat.{ℕ, min, _≤_};
 ghost use lib.Dec.{eqb};
 ghost use lib.ListN.{length};
 ghost use lib.Seq.{sets};
 ghost use Rattle.fd_list.specs.Lists.{numbers};
+ghost use Rattle.holds.specs.declared.Holds.{Holds as Counts};
+ghost use Rattle.holds.specs.Holds.{holdsWith};
 ghost use Rattle.slot.specs.Slots.{phaseOf};
 ghost use Rattle.events.specs.Complete.{unmapOf, dropped};
 ghost use Rattle.reply_parts.specs.Parts.{offered};
-ghost use Rattle.respond.specs.Respond.{releasedFx, storedOf, storedFx, lostOf, lostFx, refusedOf, respondOf, respondFx};
+ghost use Rattle.respond.specs.Respond.{decided, releasedFx, storedOf, storedFx, lostOf, lostFx, refusedOf, respondOf, respondFx};
 
 // What becomes of the slot.
 pub enum Act {
@@ -31,13 +33,7 @@ pub struct Responded {
     pub number: u64,
     pub act: Act,
     pub slot: Slot,
-    pub holds: Holds,
     pub words: usize,
-}
-
-struct Released {
-    pub words: usize,
-    pub holds: Holds,
 }
 
 // The span is unmapped where it has pages.
@@ -54,78 +50,78 @@ fn unmap(span: PageSpan, fx: &mut [u64], at: usize) -> usize
     3
 }
 
-// The span, then the list's closes.
-fn release(v: Slot, gone: List, h: Holds, fx: &mut [u64], at: usize) -> Released
+// The span, then the list's closes; says how many words.
+fn release(v: Slot, gone: List, all: &mut [u16; 64], fx: &mut [u64], at: usize) -> usize
     requires { ⌜ at ≤ 0x2000_0000_0000_0000 ⌝ }
-    ensures { λ r. ⌜ r .holds ≡ dropped h (numbers gone) ⌝ }
-    ensures { λ r. ⌜ r .words ≡ length (releasedFx v (numbers gone) h) ⌝ }
-    ensures { λ r. ⌜ r .words ≤ 51 ⌝ }
-    ensures { λ r. ⌜ now (fx .exit) ≡ sets (now (fx .entry)) at (releasedFx v (numbers gone) h) ⌝ }
+    ensures { λ r. ⌜ ((o : Words ℕ) → holdsWith (now (all .exit)) o ≡ dropped (holdsWith (now (all .entry)) o) (numbers gone)) ⌝ }
+    ensures { λ r. ⌜ ((o : Words ℕ) → r ≡ length (releasedFx v (numbers gone) (holdsWith (now (all .entry)) o))) ⌝ }
+    ensures { λ r. ⌜ r ≤ 51 ⌝ }
+    ensures { λ r. ⌜ ((o : Words ℕ) → now (fx .exit) ≡ sets (now (fx .entry)) at (releasedFx v (numbers gone) (holdsWith (now (all .entry)) o))) ⌝ }
 {
     let span = v.span;
     let n = unmap(span, fx, at);
-    let d = holds::drop_list(h, gone, Reason::Replied, fx, at + n);
-    let left = d.holds;
-    Released {
-        words: n + 3 * d.count,
-        holds: left,
-    }
+    let follows = closes::is_closing(Reason::Replied);
+    let k = closes::drop_all(all, gone, follows, fx, at + n);
+    n + 3 * k
 }
 
 // To a Waiting slot whose caller lives: the caller is woken, the reply stored.
-fn stored_in(v: Slot, tag: u64, p: Parts, h: Holds, fx: &mut [u64], at: usize) -> Responded
+fn stored_in(
+    v: Slot,
+    tag: u64,
+    p: Parts,
+    all: &mut [u16; 64],
+    fx: &mut [u64],
+    at: usize,
+) -> Responded
     requires { ⌜ at ≤ 0x1000_0000_0000_0000 ⌝ }
-    ensures { λ r. ⌜ r ≡ storedOf v tag p h ⌝ }
-    ensures { λ r. ⌜ now (fx .exit) ≡ sets (now (fx .entry)) at (storedFx v tag p h) ⌝ }
+    ensures { λ r. ⌜ ((o : Words ℕ) → decided (r .number) (r .act) (r .slot) (holdsWith (now (all .exit)) o) (r .words) ≡ storedOf v tag p (holdsWith (now (all .entry)) o)) ⌝ }
+    ensures { λ r. ⌜ ((o : Words ℕ) → now (fx .exit) ≡ sets (now (fx .entry)) at (storedFx v tag p (holdsWith (now (all .entry)) o))) ⌝ }
     ensures { λ r. ⌜ r .words ≤ 99 ⌝ }
 {
     let reply = p.reply;
     let kept = p.kept;
     let gone = p.gone;
     word_put::put3(fx, at, 1, v.caller as u64, tag);
-    let r = release(v, gone, h, fx, at + 3);
-    let left = r.holds;
+    let k = release(v, gone, all, fx, at + 3);
     let w = slot::responded(v, reply, kept);
     Responded {
         number: 0,
         act: Act::Store,
         slot: w,
-        holds: left,
-        words: 3 + r.words,
+        words: 3 + k,
     }
 }
 
 // To one whose caller has ended: the slot is vacated, the reply's own holds are dropped after the list's.
-fn lost_in(v: Slot, p: Parts, h: Holds, fx: &mut [u64], at: usize) -> Responded
+fn lost_in(v: Slot, p: Parts, all: &mut [u16; 64], fx: &mut [u64], at: usize) -> Responded
     requires { ⌜ at ≤ 0x1000_0000_0000_0000 ⌝ }
-    ensures { λ r. ⌜ r ≡ lostOf v p h ⌝ }
-    ensures { λ r. ⌜ now (fx .exit) ≡ sets (now (fx .entry)) at (lostFx v p h) ⌝ }
+    ensures { λ r. ⌜ ((o : Words ℕ) → decided (r .number) (r .act) (r .slot) (holdsWith (now (all .exit)) o) (r .words) ≡ lostOf v p (holdsWith (now (all .entry)) o)) ⌝ }
+    ensures { λ r. ⌜ ((o : Words ℕ) → now (fx .exit) ≡ sets (now (fx .entry)) at (lostFx v p (holdsWith (now (all .entry)) o))) ⌝ }
     ensures { λ r. ⌜ r .words ≤ 99 ⌝ }
 {
     let gone = p.gone;
     let own = p.own;
-    let r = release(v, gone, h, fx, at);
-    let left = r.holds;
-    let d = holds::drop_list(left, own, Reason::Ended, fx, at + r.words);
-    let less = d.holds;
+    let j = release(v, gone, all, fx, at);
+    let follows = closes::is_closing(Reason::Ended);
+    let k = closes::drop_all(all, own, follows, fx, at + j);
     let w = slot::vacant();
     Responded {
         number: 0,
         act: Act::Vacate,
         slot: w,
-        holds: less,
-        words: r.words + 3 * d.count,
+        words: j + 3 * k,
     }
 }
 
-fn refused(v: Slot, h: Holds, number: u64) -> Responded
-    ensures { λ r. ⌜ r ≡ refusedOf number v h ⌝ }
+// The slot, the holds and the effects stay as they are.
+pub fn refused(v: Slot, number: u64) -> Responded
+    ensures { λ r. ⌜ ((h : Counts) → decided (r .number) (r .act) (r .slot) h (r .words) ≡ refusedOf number v h) ⌝ }
 {
     Responded {
         number: number,
         act: Act::Leave,
         slot: v,
-        holds: h,
         words: 0,
     }
 }
@@ -140,24 +136,31 @@ fn place(fx: &[u64], at: usize) -> usize
     at
 }
 
-pub fn respond(v: Slot, tag: u64, offer: Offer, h: Holds, fx: &mut [u64], at: usize) -> Responded
-    ensures { λ r. ⌜ r ≡ respondOf (phaseOf v) v tag (offered offer) h ⌝ }
-    ensures { λ r. ⌜ now (fx .exit) ≡ sets (now (fx .entry)) at (respondFx (phaseOf v) v tag (offered offer) h) ⌝ }
+pub fn respond(
+    v: Slot,
+    tag: u64,
+    offer: Offer,
+    all: &mut [u16; 64],
+    fx: &mut [u64],
+    at: usize,
+) -> Responded
+    ensures { λ r. ⌜ ((o : Words ℕ) → decided (r .number) (r .act) (r .slot) (holdsWith (now (all .exit)) o) (r .words) ≡ respondOf (phaseOf v) v tag (offered offer) (holdsWith (now (all .entry)) o)) ⌝ }
+    ensures { λ r. ⌜ ((o : Words ℕ) → now (fx .exit) ≡ sets (now (fx .entry)) at (respondFx (phaseOf v) v tag (offered offer) (holdsWith (now (all .entry)) o))) ⌝ }
     ensures { λ r. ⌜ r .words ≤ 99 ⌝ }
 {
     let p = slot::phase_of(v);
     match p {
-        Phase::Vacant => refused(v, h, 77),
-        Phase::Placeholder => refused(v, h, 77),
-        Phase::Responded => refused(v, h, 22),
-        Phase::Fmap => refused(v, h, 22),
+        Phase::Vacant => refused(v, 77),
+        Phase::Placeholder => refused(v, 77),
+        Phase::Responded => refused(v, 22),
+        Phase::Fmap => refused(v, 22),
         Phase::Waiting => {
             let q = reply_parts::taken_apart(v, offer);
             let from = place(fx, at);
             if v.ended {
-                return lost_in(v, q, h, fx, from);
+                return lost_in(v, q, all, fx, from);
             }
-            return stored_in(v, tag, q, h, fx, from);
+            return stored_in(v, tag, q, all, fx, from);
         }
     }
 }

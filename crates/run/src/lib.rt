@@ -25,6 +25,7 @@ ghost use Rattle.holds.specs.Holds.{holdsWith};
 ghost use Rattle.state.specs.declared.State.{State as World};
 ghost use Rattle.part.specs.Part.{queuedOf, Stands, found, leaves};
 ghost use Rattle.schemev2.specs.Entry.{cqeOf};
+ghost use Rattle.handles.specs.Handles.{handlesWith};
 ghost use Rattle.write.specs.Write.{stateWith};
 ghost use Rattle.part_step.specs.PartStep.{placeOf, partEvent};
 ghost use Rattle.events.specs.World.{world};
@@ -51,13 +52,6 @@ struct Turned {
 
 struct QueueTurned {
     queue: WaitQueue,
-    used: usize,
-}
-
-struct EntryTurned {
-    part: Part,
-    holds: Holds,
-    handles: Handles,
     used: usize,
 }
 
@@ -195,29 +189,25 @@ fn entry_of(rec: &[u8], r: Record) -> Cqe
 // A write of one entry, on the part at its tag; it is lent no more words than there are.
 fn entry_turn(
     p: Part,
-    h: Holds,
-    k: Handles,
+    all: &mut [u16; 64],
+    handles: &mut [u16; 64],
     e: Cqe,
     r: Record,
     fx: &mut [u64],
     out: &mut [u8],
-) -> EntryTurned
-    ensures { λ o. ⌜ ((s : World) (ws bs : List ℕ) → length bs / 16 ≡ 1 → e ≡ cqeOf bs → Whole (world (found (stateWith s k) p h) ws) → Stands s (e .tag % 64) p → Told (world (found (stateWith s k) p h) ws) (world (leaves (stateWith s (o .handles)) (e .tag % 64) (o .part) (o .holds)) ws) (write (min (r .words .0) (length (now (fx .entry)))) bs) (now (out .entry)) (now (out .exit)) (o .used) × ((now (fx .exit) ≡ sets (now (fx .entry)) 0 (step (world (found (stateWith s k) p h) ws) (write (min (r .words .0) (length (now (fx .entry)))) bs) .effects)) × (o .used ≤ 192 + 27 * length bs))) ⌝ }
+) -> Turned
+    ensures { λ t. ⌜ ((s : World) (o ws bs : List ℕ) → length bs / 16 ≡ 1 → e ≡ cqeOf bs → Whole (world (found (stateWith s (handlesWith (now (handles .entry)))) p (holdsWith (now (all .entry)) o)) ws) → Stands s (e .tag % 64) p → Told (world (found (stateWith s (handlesWith (now (handles .entry)))) p (holdsWith (now (all .entry)) o)) ws) (world (leaves (stateWith s (handlesWith (now (handles .exit)))) (e .tag % 64) (t .part) (holdsWith (now (all .exit)) o)) ws) (write (min (r .words .0) (length (now (fx .entry)))) bs) (now (out .entry)) (now (out .exit)) (t .used) × ((now (fx .exit) ≡ sets (now (fx .entry)) 0 (step (world (found (stateWith s (handlesWith (now (handles .entry)))) p (holdsWith (now (all .entry)) o)) ws) (write (min (r .words .0) (length (now (fx .entry)))) bs) .effects)) × (t .used ≤ 192 + 27 * length bs))) ⌝ }
 {
     let a = r.words;
     let n = run_room::least(a.0, fx.len());
-    let o = write::entry(p, h, k, &mut fx[..n], e);
+    let o = write::entry(p, all, handles, &mut fx[..n], e);
     let m = run_room::least(o.words as u64, fx.len());
     let answer = o.answer;
     let after = o.part;
-    let left = o.holds;
-    let handles = o.handles;
     let said = driver_step::write_words(answer);
     let used = lent_bytes::put_completed(out, said, &fx[..m]);
-    EntryTurned {
+    Turned {
         part: after,
-        holds: left,
-        handles: handles,
         used: used,
     }
 }
@@ -404,7 +394,7 @@ fn run_all(scheme: u64, events: &[u8], end: usize, out: &mut [u8], fx: &mut [u64
     let mut head = fresh.head;
     let mut all = [0; 64];
     let mut outside = [0; 64];
-    let mut handles = Handles { at: [0; 64] };
+    let mut handles = [0; 64];
     let mut queue = WaitQueue { first: 0, len: 0 };
     let mut at = 0;
     let mut j = 0;
@@ -431,10 +421,6 @@ fn run_all(scheme: u64, events: &[u8], end: usize, out: &mut [u8], fx: &mut [u64
             let e = entry_of(&events[at..], r);
             let n = (e.tag % 64) as usize;
             let v = slots[n];
-            let held = Holds {
-                holds: all,
-                outside: outside,
-            };
             let p = Part {
                 slot: v,
                 next: next[n],
@@ -442,19 +428,14 @@ fn run_all(scheme: u64, events: &[u8], end: usize, out: &mut [u8], fx: &mut [u64
                 queue: queue,
                 scheme: own,
             };
-            let t = entry_turn(p, held, handles, e, r, fx, &mut out[j..]);
+            let t = entry_turn(p, &mut all, &mut handles, e, r, fx, &mut out[j..]);
             let u = t.part;
             let w = u.slot;
             let same = u.queue;
-            let left = t.holds;
-            let others = t.handles;
             slots[n] = w;
             next[n] = u.next;
             head = u.head;
             queue = same;
-            all = left.holds;
-            outside = left.outside;
-            handles = others;
             j += t.used;
             at += size;
             continue;
@@ -463,7 +444,7 @@ fn run_all(scheme: u64, events: &[u8], end: usize, out: &mut [u8], fx: &mut [u64
             let s = State {
                 driver: Driver {
                     scheme: own,
-                    handles: handles,
+                    handles: Handles { at: handles },
                     queue: queue,
                 },
                 table: Table {
@@ -487,7 +468,8 @@ fn run_all(scheme: u64, events: &[u8], end: usize, out: &mut [u8], fx: &mut [u64
             head = table.head;
             all = holds.holds;
             outside = holds.outside;
-            handles = driver.handles;
+            let filled = driver.handles;
+            handles = filled.at;
             queue = driver.queue;
             j += t.used;
             at += size;
@@ -530,7 +512,7 @@ fn run_all(scheme: u64, events: &[u8], end: usize, out: &mut [u8], fx: &mut [u64
     let s = State {
         driver: Driver {
             scheme: own,
-            handles: handles,
+            handles: Handles { at: handles },
             queue: queue,
         },
         table: Table {

@@ -4,6 +4,7 @@ use answer_words::Step;
 use driver_step::Completed;
 use effect::Effect;
 use fd_list::List;
+use handles::Handles;
 use holds::Holds;
 use ids::Tag;
 use part::Part;
@@ -227,7 +228,10 @@ fn entry(s: State, fx: &mut [u64], e: Cqe) -> Completed
     let next = t.next[n];
     let q = d.queue;
     let h = t.holds;
+    let mut all = h.holds;
+    let outside = h.outside;
     let k = d.handles;
+    let mut at = k.at;
     let p = Part {
         slot: v,
         next: next,
@@ -235,13 +239,16 @@ fn entry(s: State, fx: &mut [u64], e: Cqe) -> Completed
         queue: q,
         scheme: d.scheme,
     };
-    let o = write::entry(p, h, k, fx, e);
+    let o = write::entry(p, &mut all, &mut at, fx, e);
     let answer = o.answer;
     let u = o.part;
     let w = u.slot;
     let same = u.queue;
-    let left = o.holds;
-    let others = o.handles;
+    let left = Holds {
+        holds: all,
+        outside: outside,
+    };
+    let others = Handles { at: at };
     t.slots[n] = w;
     t.next[n] = u.next;
     t.head = u.head;

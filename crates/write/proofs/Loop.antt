@@ -17,9 +17,8 @@ use Rattle.counts.specs.Counts.{lasts}
 use Rattle.counts.proofs.Laws.{lessAll-length}
 use Rattle.fd_list.specs.declared.List.{List as Fds}
 use Rattle.fd_list.specs.Lists.{numbers}
-use Rattle.handle_fd.specs.declared.Handled.{Handled}
 use Rattle.handle_parsed.specs.Handled.{handledOf, handledFx, actOn, after, carried}
-use Rattle.handle_fd.specs.HandleFd.{handled, byTag, byTagFx, byHandle, byHandleFx, obtainBy, obtainedOf, obtainedFrom, closesFrom, obtainFxBy}
+use Rattle.handle_fd.specs.HandleFd.{Handled, handled, byTag, byTagFx, byHandle, byHandleFx, obtainBy, obtainedOf, obtainedFrom, closesFrom, obtainFxBy}
 use Rattle.handle_parsed.proofs.Carried.{carried-is}
 use Rattle.handles.specs.declared.Handles.{Handles}
 use Rattle.handles.specs.Handles as handle
@@ -29,8 +28,7 @@ use Rattle.parse_cqe.specs.declared.ParsedCqe.the-variants as parsed
 use Rattle.parse_cqe.specs.Parsed.{parsedOf}
 use Rattle.respond.specs.declared.Act.{Act}
 use Rattle.respond.specs.declared.Act.the-variants.{Leave, Store, Vacate}
-use Rattle.respond.specs.declared.Responded.{Responded as Decided}
-use Rattle.respond.specs.Respond.{servedOf, servedFx, respondOf, respondFx}
+use Rattle.respond.specs.Respond.{Decided, servedOf, servedFx, respondOf, respondFx}
 use Rattle.reply_parts.specs.Parts.{namedOf, partsOf}
 use Rattle.word_put.proofs.Stores.{sets-then}
 use Rattle.schemev2.specs.declared.Cqe.{Cqe}
@@ -164,6 +162,10 @@ module _ (t : Table) (n : ℕ) (u : Slot) (g : Holds) where
 -- the next entry, and those after it
 next-entries : (m i : ℕ) (bs : List ℕ) → cut m (drop 16 (drop (16 * i) bs)) ≡ cut m (drop (16 * (i + 1)) bs)
 next-entries m i bs = ap (cut m) (drop-drop 16 (16 * i) bs ∙ ap (λ (k : ℕ). drop k bs) (let z : 16 * i + 16 ≡ 16 * (i + 1) = omega arith in z))
+
+-- a driver with other handles
+abbrev pub driverWith : Driver → Handles → Driver
+driverWith d k = record { scheme = d .scheme; handles = k; queue = d .queue }
 
 -- what is left to do, from state u with i entries done and effects gx, is the whole
 abbrev Whole : State → List ℕ → List ℕ → State → ℕ → ℕ → List ℕ → Type 0

@@ -6,7 +6,7 @@ use native.Mathlib.Omega.{arith}
 use lib.Dec.{ltb}
 use lib.ListN.{getD, length}
 use lib.Seq.{sets}
-use Rattle.handle_fd.specs.declared.Handled.{Handled}
+use Rattle.handle_fd.specs.HandleFd.{Handled}
 use Rattle.handle_parsed.specs.Handled.{handledOf, handledFx}
 use Rattle.handles.specs.declared.Handles.{Handles}
 use Rattle.holds.specs.declared.Holds.{Holds}

@@ -1,11 +1,11 @@
 // `write` (src/scheme/user.rs, lines 743 to 755): completions, entry after entry up to the first refusal. An entry's decision
 // is carried out on the table in place, with no branch: what stays is stored as it was.
-use handle_fd::Handled;
 use handles::Handles;
 use holds::Holds;
 use ids::Tag;
 use part::Part;
 use schemev2::Cqe;
+use state::Driver;
 use state::State;
 ghost use mathlib.Core.Path.{_≡_};
 ghost use mathlib.Core.List.{List};
@@ -13,6 +13,8 @@ ghost use Prim.Native.Nat.{ℕ, _/_, _%_, _≤_, _<_};
 ghost use lib.ListN.{length};
 ghost use lib.Seq.{sets};
 ghost use Rattle.state.specs.declared.State.{State as Whole};
+ghost use Rattle.holds.specs.Holds.{holdsWith};
+ghost use Rattle.handles.specs.Handles.{handlesWith};
 ghost use Rattle.schemev2.specs.Entry.{cqeOf};
 ghost use Rattle.part.specs.Part.{Stands, found, leaves};
 ghost use Rattle.events.specs.World.{world};
@@ -39,8 +41,6 @@ pub struct EntryStep {
     pub answer: WriteAnswer,
     pub words: usize,
     pub part: Part,
-    pub holds: Holds,
-    pub handles: Handles,
 }
 
 // A refusal after a good entry returns the bytes so far, a first one its number.
@@ -75,7 +75,13 @@ pub fn write(s: State, fx: &mut [u64], bytes: &[u8]) -> WriteStep
         };
     }
     let mut t = s.table;
-    let mut d = s.driver;
+    let d = s.driver;
+    let queue = d.queue;
+    let h = t.holds;
+    let outside = h.outside;
+    let mut all = h.holds;
+    let k = d.handles;
+    let mut handles = k.at;
     let mut i = 0;
     let mut j = 0;
     while i < n {
@@ -85,13 +91,9 @@ pub fn write(s: State, fx: &mut [u64], bytes: &[u8]) -> WriteStep
         let at = (tag % 64) as usize;
         let old = t.slots[at];
         let v = carry_out::look(tag, old);
-        let h = t.holds;
-        let k = d.handles;
-        let r = handle_parsed::handle_parsed(p, v, h, k, fx, j);
+        let r = handle_parsed::handle_parsed(p, v, &mut all, &mut handles, fx, j);
         let act = r.act;
         let new = r.slot;
-        let left = r.holds;
-        let handles = r.handles;
         let w = carry_out::slot_after(tag, act, new, old);
         let next = t.next[at];
         let head = t.head;
@@ -100,60 +102,79 @@ pub fn write(s: State, fx: &mut [u64], bytes: &[u8]) -> WriteStep
         t.slots[at] = w;
         t.next[at] = after;
         t.head = first;
-        t.holds = left;
-        d.handles = handles;
         j += r.words;
         let number = r.number;
         if number != 0 {
+            let left = Holds {
+                holds: all,
+                outside: outside,
+            };
+            t.holds = left;
             return WriteStep {
                 answer: stop(i, number),
                 words: j,
                 state: State {
-                    driver: d,
+                    driver: Driver {
+                        scheme: d.scheme,
+                        handles: Handles { at: handles },
+                        queue: queue,
+                    },
                     table: t,
                 },
             };
         }
         i += 1;
     }
+    let left = Holds {
+        holds: all,
+        outside: outside,
+    };
+    t.holds = left;
     WriteStep {
         answer: WriteAnswer::Written(16 * n as u64),
         words: j,
         state: State {
-            driver: d,
+            driver: Driver {
+                scheme: d.scheme,
+                handles: Handles { at: handles },
+                queue: queue,
+            },
             table: t,
         },
     }
 }
 
-// Nothing but what is known of hold counts: there are 64.
-fn known(h: Holds)
-    ensures { λ r. ⌜ length (h .holds) ≡ 64 ⌝ }
+// Nothing but what is known of so many words: there are 64.
+fn known(a: [u16; 64])
+    ensures { λ r. ⌜ length a ≡ 64 ⌝ }
 {}
 
-// A write that holds the entry e alone.
-pub fn entry(p: Part, h: Holds, k: Handles, fx: &mut [u64], e: Cqe) -> EntryStep
-    ensures { λ r. ⌜ ((s : Whole) (ws bs : List ℕ) → length bs / 16 ≡ 1 → e ≡ cqeOf bs → Stands s (e .tag % 64) p → (writeAnswer (r .answer) ≡ writeOf (world (found (stateWith s k) p h) ws) (length (now (fx .entry))) bs .answer) × ((world (leaves (stateWith s (r .handles)) (e .tag % 64) (r .part) (r .holds)) ws ≡ writeOf (world (found (stateWith s k) p h) ws) (length (now (fx .entry))) bs .world) × ((now (fx .exit) ≡ sets (now (fx .entry)) 0 (writeOf (world (found (stateWith s k) p h) ws) (length (now (fx .entry))) bs .effects)) × (r .words ≡ length (writeOf (world (found (stateWith s k) p h) ws) (length (now (fx .entry))) bs .effects))))) ⌝ }
+// A write that holds the entry e alone, on the part at its tag. Hold counts and handles are lent.
+pub fn entry(
+    p: Part,
+    all: &mut [u16; 64],
+    handles: &mut [u16; 64],
+    fx: &mut [u64],
+    e: Cqe,
+) -> EntryStep
+    ensures { λ r. ⌜ ((s : Whole) (o ws bs : List ℕ) → length bs / 16 ≡ 1 → e ≡ cqeOf bs → Stands s (e .tag % 64) p → (writeAnswer (r .answer) ≡ writeOf (world (found (stateWith s (handlesWith (now (handles .entry)))) p (holdsWith (now (all .entry)) o)) ws) (length (now (fx .entry))) bs .answer) × ((world (leaves (stateWith s (handlesWith (now (handles .exit)))) (e .tag % 64) (r .part) (holdsWith (now (all .exit)) o)) ws ≡ writeOf (world (found (stateWith s (handlesWith (now (handles .entry)))) p (holdsWith (now (all .entry)) o)) ws) (length (now (fx .entry))) bs .world) × ((now (fx .exit) ≡ sets (now (fx .entry)) 0 (writeOf (world (found (stateWith s (handlesWith (now (handles .entry)))) p (holdsWith (now (all .entry)) o)) ws) (length (now (fx .entry))) bs .effects)) × (r .words ≡ length (writeOf (world (found (stateWith s (handlesWith (now (handles .entry)))) p (holdsWith (now (all .entry)) o)) ws) (length (now (fx .entry))) bs .effects))))) ⌝ }
 {
     if fx.len() < 54 {
         return EntryStep {
             answer: WriteAnswer::ShortWords,
             words: 0,
             part: p,
-            holds: h,
-            handles: k,
         };
     }
-    known(h);
+    let a = *all;
+    known(a);
     let c = parse_cqe::parse_cqe(e);
     let tag = e.tag as u64;
     let old = p.slot;
     let v = carry_out::look(tag, old);
-    let r = handle_parsed::handle_parsed(c, v, h, k, fx, 0);
+    let r = handle_parsed::handle_parsed(c, v, all, handles, fx, 0);
     let act = r.act;
     let new = r.slot;
-    let left = r.holds;
-    let handles = r.handles;
     let w = carry_out::slot_after(tag, act, new, old);
     let next = carry_out::next_after(tag, act, p.next, p.head);
     let head = carry_out::head_after(tag, act, p.head);
@@ -171,15 +192,11 @@ pub fn entry(p: Part, h: Holds, k: Handles, fx: &mut [u64], e: Cqe) -> EntryStep
             answer: stop(0, number),
             words: r.words,
             part: after,
-            holds: left,
-            handles: handles,
         };
     }
     EntryStep {
         answer: WriteAnswer::Written(16),
         words: r.words,
         part: after,
-        holds: left,
-        handles: handles,
     }
 }

@@ -11,7 +11,7 @@ held-at-requires : tie.Need-held-at-requires
 held-at-requires c κs = search needs
 
 returns-2 : tie.Need-returns-2
-returns-2 c = free-in (c .before .before .before .args .n) (c .before .before .before .args .k .0) (c .held-at .result) (c .before .if1 .left) (c .held-at .ensures)
+returns-2 c = free-in (c .before .before .before .before .before .args .n) (c .before .before .before .before .before .args .k .0) (c .held-at .result) (c .before .before .before .if1 .left) (c .held-at .ensures)
 
 pub is-free-spec : {M : Type 1} → statement M
 is-free-spec = tie.close (tie.spec returns held-at-requires returns-2)

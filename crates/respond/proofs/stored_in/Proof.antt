@@ -1,14 +1,15 @@
 -- `respond::stored_in` meets its contract. Assumes nothing.
+use Rattle.word_put.proofs.Stores.{behind}
+use Rattle.respond.proofs.Laws.{stored-is}
+use Rattle.respond.specs.Respond.{releasedFx}
+use Rattle.events.specs.Outcome.{wakeEffect}
+use Rattle.holds.specs.Holds.{holdsWith}
+use Rattle.fd_list.specs.Lists.{numbers}
+use native.Mathlib.Omega.{arith}
+use mathlib.Core.Path.{refl}
 use borrow.Author.Needs.{needs}
 use Rattle.respond.proofs.stored_in.Statement.{statement}
 use Rattle.respond.proofs.stored_in.Tie as tie
-use mathlib.Core.Path.{refl}
-use native.Mathlib.Omega.{arith}
-use Rattle.fd_list.specs.Lists.{numbers}
-use Rattle.events.specs.Outcome.{wakeEffect}
-use Rattle.respond.specs.Respond.{releasedFx}
-use Rattle.respond.proofs.Laws.{stored-is}
-use Rattle.word_put.proofs.Stores.{behind}
 
 cast-put3 : tie.Need-cast-put3
 cast-put3 c = search needs
@@ -20,7 +21,7 @@ add-release : tie.Need-add-release
 add-release c = search needs
 
 release-requires : tie.Need-release-requires
-release-requires c κs = let a = c .before .before .before .before .before .before .before .before .before .before .args in omega (arith, c .before .before .before .before .before .before .before .before .before .before .pre)
+release-requires c κs = let a = c .before .before .before .before .before .before .before .before .before .before .before .args in omega (arith, c .before .before .before .before .before .before .before .before .before .before .before .pre)
 
 responded-requires : tie.Need-responded-requires
 responded-requires c κs = search needs
@@ -32,7 +33,7 @@ same-length : tie.Need-same-length
 same-length c = search needs
 
 returns : tie.Need-returns
-returns c = let a = c .before .before .before .before .before .before .before .before .before .before .before .before .before .before .before .before .args in let r = c .before .before .before .before .before .release .ensures in (stored-is (a .v) _ (a .tag) (a .p) (a .h) _ _ (c .before .responded .ensures) (r .0) (r .1 .0), (behind (a .fx .now) _ _ (wakeEffect (a .v .caller) (a .tag)) (releasedFx (a .v) (numbers (a .p .gone)) (a .h)) (a .at) 3 (c .before .before .before .before .before .before .before .before .before .put3 .ensures) refl (r .1 .1 .1), omega (arith, r .1 .1 .0)))
+returns c = let a = c .before .before .before .before .before .before .before .before .before .before .before .before .before .before .before .args in let r = c .before .before .before .release .ensures in (λ o. stored-is (a .v) _ (a .tag) (a .p) (holdsWith (a .all .now) o) _ _ (c .responded .ensures) (r .0 o) (r .1 .0 o), (λ o. behind (a .fx .now) _ _ (wakeEffect (a .v .caller) (a .tag)) (releasedFx (a .v) (numbers (a .p .gone)) (holdsWith (a .all .now) o)) (a .at) 3 (c .before .before .before .before .before .before .before .before .put3 .ensures) refl (r .1 .1 .1 o), omega (arith, r .1 .1 .0)))
 
 pub stored-in-spec : {M : Type 1} → statement M
 stored-in-spec =

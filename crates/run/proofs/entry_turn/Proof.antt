@@ -1,4 +1,6 @@
 -- `run::entry_turn` meets its contract. Assumes nothing.
+use Rattle.holds.specs.Holds.{holdsWith}
+use Rattle.handles.specs.Handles.{handlesWith}
 use Rattle.run.proofs.Lanes.{entry-holds, entry-most, entry-part}
 use Rattle.run.proofs.Turns.{front-length, turned, write-whole, write-none, write-back}
 use Rattle.events.specs.World.{world}
@@ -17,7 +19,7 @@ slice-relend-prefix-entry : tie.Need-slice-relend-prefix-entry
 slice-relend-prefix-entry c = search needs
 
 slice-aggregate-entry : tie.Need-slice-aggregate-entry
-slice-aggregate-entry c = front-length (c .before .before .before .before .before .args .fx .now) (c .before .least .result) (omega (arith, c .before .least .ensures))
+slice-aggregate-entry c = front-length (c .before .before .before .before .before .before .before .args .fx .now) (c .before .before .before .least .result) (omega (arith, c .before .before .before .least .ensures))
 
 entry-requires : tie.Need-entry-requires
 entry-requires c κs = search needs
@@ -29,10 +31,10 @@ write-words-requires : tie.Need-write-words-requires
 write-words-requires c κs = search needs
 
 slice-reshare-prefix-put-completed : tie.Need-slice-reshare-prefix-put-completed
-slice-reshare-prefix-put-completed c = omega (arith, c .before .before .before .before .before .least2 .ensures)
+slice-reshare-prefix-put-completed c = omega (arith, c .before .before .before .least2 .ensures)
 
 slice-aggregate-put-completed : tie.Need-slice-aggregate-put-completed
-slice-aggregate-put-completed c = entry-part _ (c .before .before .before .before .before .before .least2 .result) (c .before .before .before .before .before .before .before .before .before .entry .result .words) (c .before .before .before .before .before .before .least2 .ensures)
+slice-aggregate-put-completed c = entry-part _ (c .before .before .before .before .least2 .result) (c .before .before .before .before .before .before .before .entry .result .words) (c .before .before .before .before .least2 .ensures)
 
 put-completed-requires : tie.Need-put-completed-requires
 put-completed-requires c κs = search needs
@@ -44,7 +46,7 @@ same-length-2 : tie.Need-same-length-2
 same-length-2 c = search needs
 
 returns : tie.Need-returns
-returns c = let a = c .before .before .before .before .before .before .before .before .before .before .before .before .before .before .before .before .before .before .args in λ s ws bs one ee whole st. (turned (a .out .now) _ _ _ _ _ _ _ _ (write-whole (world (found (stateWith s (a .k)) (a .p) (a .h)) ws) whole (a .r .words .0) (c .before .before .before .before .before .before .before .before .before .before .before .before .before .before .least .result) _ (c .before .before .before .before .before .before .before .before .before .before .before .before .entry .result .words) (a .fx .now) _ bs bs (c .before .before .before .before .before .before .before .before .before .before .before .before .before .before .least .ensures) refl ((c .before .before .before .before .before .before .before .before .before .before .before .before .entry .ensures s ws bs one ee st) .1 .1 .1) refl ((c .before .before .before .before .before .before .before .before .before .before .before .before .entry .ensures s ws bs one ee st) .1 .1 .0)) (c .before .before .before .before .before .write-words .ensures ∙ (c .before .before .before .before .before .before .before .before .before .before .before .before .entry .ensures s ws bs one ee st) .0) (entry-holds (world (found (stateWith s (a .k)) (a .p) (a .h)) ws) whole (a .r .words .0) (c .before .before .before .before .before .before .before .before .before .before .before .before .before .before .least .result) _ (c .before .before .before .before .before .before .before .before .before .before .before .before .entry .result .words) (a .fx .now) _ bs (c .before .before .before .before .before .before .before .before .before .before .before .before .before .before .least .ensures) refl ((c .before .before .before .before .before .before .before .before .before .before .before .before .entry .ensures s ws bs one ee st) .1 .1 .1) ((c .before .before .before .before .before .before .before .before .before .before .before .before .entry .ensures s ws bs one ee st) .1 .1 .0) (c .before .before .before .before .before .before .before .before .before .least2 .result) (c .before .before .before .before .before .before .before .before .before .least2 .ensures)) (write-none (world (found (stateWith s (a .k)) (a .p) (a .h)) ws) whole (a .r .words .0) (c .before .before .before .before .before .before .before .before .before .before .before .before .before .before .least .result) _ (c .before .before .before .before .before .before .before .before .before .before .before .before .entry .result .words) (a .fx .now) _ bs bs (c .before .before .before .before .before .before .before .before .before .before .before .before .before .before .least .ensures) refl ((c .before .before .before .before .before .before .before .before .before .before .before .before .entry .ensures s ws bs one ee st) .1 .1 .1) refl ((c .before .before .before .before .before .before .before .before .before .before .before .before .entry .ensures s ws bs one ee st) .1 .1 .0)) ((c .before .before .before .before .before .before .before .before .before .before .before .before .entry .ensures s ws bs one ee st) .1 .0) (c .before .before .put-completed .ensures .0, c .before .before .put-completed .ensures .1 .0), (write-back (world (found (stateWith s (a .k)) (a .p) (a .h)) ws) whole (a .r .words .0) (c .before .before .before .before .before .before .before .before .before .before .before .before .before .before .least .result) _ (c .before .before .before .before .before .before .before .before .before .before .before .before .entry .result .words) (a .fx .now) _ bs bs (c .before .before .before .before .before .before .before .before .before .before .before .before .before .before .least .ensures) refl ((c .before .before .before .before .before .before .before .before .before .before .before .before .entry .ensures s ws bs one ee st) .1 .1 .1) refl ((c .before .before .before .before .before .before .before .before .before .before .before .before .entry .ensures s ws bs one ee st) .1 .1 .0), entry-most (world (found (stateWith s (a .k)) (a .p) (a .h)) ws) whole (a .r .words .0) (c .before .before .before .before .before .before .before .before .before .before .before .before .before .before .least .result) _ (c .before .before .before .before .before .before .before .before .before .before .before .before .entry .result .words) (a .fx .now) _ bs (c .before .before .before .before .before .before .before .before .before .before .before .before .before .before .least .ensures) refl ((c .before .before .before .before .before .before .before .before .before .before .before .before .entry .ensures s ws bs one ee st) .1 .1 .1) ((c .before .before .before .before .before .before .before .before .before .before .before .before .entry .ensures s ws bs one ee st) .1 .1 .0) (c .before .before .before .before .before .before .before .before .before .least2 .result) (c .before .before .before .before .before .before .before .before .before .least2 .ensures) _ (c .before .before .put-completed .ensures .1 .1)))
+returns c = let a = c .before .before .before .before .before .before .before .before .before .before .before .before .before .before .before .before .before .before .args in λ s o ws bs one ee whole st. (turned (a .out .now) _ _ _ _ _ _ _ _ (write-whole (world (found (stateWith s (handlesWith (a .handles .now))) (a .p) (holdsWith (a .all .now) o)) ws) whole (a .r .words .0) (c .before .before .before .before .before .before .before .before .before .before .before .before .before .before .least .result) _ (c .before .before .before .before .before .before .before .before .before .before .entry .result .words) (a .fx .now) _ bs bs (c .before .before .before .before .before .before .before .before .before .before .before .before .before .before .least .ensures) refl ((c .before .before .before .before .before .before .before .before .before .before .entry .ensures s o ws bs one ee st) .1 .1 .1) refl ((c .before .before .before .before .before .before .before .before .before .before .entry .ensures s o ws bs one ee st) .1 .1 .0)) (c .before .before .before .before .before .write-words .ensures ∙ (c .before .before .before .before .before .before .before .before .before .before .entry .ensures s o ws bs one ee st) .0) (entry-holds (world (found (stateWith s (handlesWith (a .handles .now))) (a .p) (holdsWith (a .all .now) o)) ws) whole (a .r .words .0) (c .before .before .before .before .before .before .before .before .before .before .before .before .before .before .least .result) _ (c .before .before .before .before .before .before .before .before .before .before .entry .result .words) (a .fx .now) _ bs (c .before .before .before .before .before .before .before .before .before .before .before .before .before .before .least .ensures) refl ((c .before .before .before .before .before .before .before .before .before .before .entry .ensures s o ws bs one ee st) .1 .1 .1) ((c .before .before .before .before .before .before .before .before .before .before .entry .ensures s o ws bs one ee st) .1 .1 .0) (c .before .before .before .before .before .before .before .least2 .result) (c .before .before .before .before .before .before .before .least2 .ensures)) (write-none (world (found (stateWith s (handlesWith (a .handles .now))) (a .p) (holdsWith (a .all .now) o)) ws) whole (a .r .words .0) (c .before .before .before .before .before .before .before .before .before .before .before .before .before .before .least .result) _ (c .before .before .before .before .before .before .before .before .before .before .entry .result .words) (a .fx .now) _ bs bs (c .before .before .before .before .before .before .before .before .before .before .before .before .before .before .least .ensures) refl ((c .before .before .before .before .before .before .before .before .before .before .entry .ensures s o ws bs one ee st) .1 .1 .1) refl ((c .before .before .before .before .before .before .before .before .before .before .entry .ensures s o ws bs one ee st) .1 .1 .0)) ((c .before .before .before .before .before .before .before .before .before .before .entry .ensures s o ws bs one ee st) .1 .0) (c .before .before .put-completed .ensures .0, c .before .before .put-completed .ensures .1 .0), (write-back (world (found (stateWith s (handlesWith (a .handles .now))) (a .p) (holdsWith (a .all .now) o)) ws) whole (a .r .words .0) (c .before .before .before .before .before .before .before .before .before .before .before .before .before .before .least .result) _ (c .before .before .before .before .before .before .before .before .before .before .entry .result .words) (a .fx .now) _ bs bs (c .before .before .before .before .before .before .before .before .before .before .before .before .before .before .least .ensures) refl ((c .before .before .before .before .before .before .before .before .before .before .entry .ensures s o ws bs one ee st) .1 .1 .1) refl ((c .before .before .before .before .before .before .before .before .before .before .entry .ensures s o ws bs one ee st) .1 .1 .0), entry-most (world (found (stateWith s (handlesWith (a .handles .now))) (a .p) (holdsWith (a .all .now) o)) ws) whole (a .r .words .0) (c .before .before .before .before .before .before .before .before .before .before .before .before .before .before .least .result) _ (c .before .before .before .before .before .before .before .before .before .before .entry .result .words) (a .fx .now) _ bs (c .before .before .before .before .before .before .before .before .before .before .before .before .before .before .least .ensures) refl ((c .before .before .before .before .before .before .before .before .before .before .entry .ensures s o ws bs one ee st) .1 .1 .1) ((c .before .before .before .before .before .before .before .before .before .before .entry .ensures s o ws bs one ee st) .1 .1 .0) (c .before .before .before .before .before .before .before .least2 .result) (c .before .before .before .before .before .before .before .least2 .ensures) _ (c .before .before .put-completed .ensures .1 .1)))
 
 pub entry-turn-spec : {M : Type 1} → statement M
 entry-turn-spec =

@@ -6,6 +6,7 @@ use Rattle.run.proofs.Turns.{tail-counts}
 use Rattle.record.specs.Record.{firstAt, secondAt, tailAt, tailOf, sizeOf, wordsAt}
 use Rattle.state_bytes.specs.StateBytes.{stateBytes}
 use Rattle.events.specs.World.{world}
+use Rattle.handles.specs.Handles.{handlesWith}
 use Rattle.holds.specs.Holds.{holdsWith}
 use Rattle.table.specs.Table.{noSlot}
 use lib.Seq.{length-sets}
@@ -18,7 +19,7 @@ use Rattle.run.proofs.run_all.Statement.{statement}
 use Rattle.run.proofs.run_all.Tie as tie
 
 abbrev Inv-loop : tie.InvT-loop
-Inv-loop scheme events end out₀ fx₀ words₀ buf₀ first₀ second₀ own₀ slots₀ next₀ head₀ all₀ outside₀ handles₀ queue₀ at₀ j₀ out fx words buf first second own slots next head all outside handles queue at j = Going scheme events out₀ fx₀ end out fx words (stateOf own slots next head all outside handles queue) at j × (length buf ≡ 8192) × (length first ≡ 255) × (length second ≡ 255)
+Inv-loop scheme events end out₀ fx₀ words₀ buf₀ first₀ second₀ own₀ slots₀ next₀ head₀ all₀ outside₀ handles₀ queue₀ at₀ j₀ out fx words buf first second own slots next head all outside handles queue at j = Going scheme events out₀ fx₀ end out fx words (stateOf own slots next head all outside (handlesWith handles) queue) at j × (length buf ≡ 8192) × (length first ≡ 255) × (length second ≡ 255)
 
 abbrev μ-loop : tie.MeasureT-loop
 μ-loop scheme events end out₀ fx₀ words₀ buf₀ first₀ second₀ own₀ slots₀ next₀ head₀ all₀ outside₀ handles₀ queue₀ at₀ j₀ out fx words buf first second own slots next head all outside handles queue at j = length events - at
@@ -48,19 +49,19 @@ is-queue-requires : tie.Need-is-queue-requires Inv-loop μ-loop
 is-queue-requires c κs = search needs
 
 array-copy-out-v : tie.Need-array-copy-out-v Inv-loop μ-loop
-array-copy-out-v c = let a = c .before .before .before .before .before .before .before .before .before .before .before .before .before .args in let l = c .before .before .before .before .before .before .loop in omega (arith, whole (a .scheme) (a .events .now) (a .out .now) (a .fx .now) (a .end) (l .out) (l .fx) (l .words) (stateOf (l .own) (l .slots) (l .next) (l .head) (l .all) (l .outside) (l .handles) (l .queue)) (l .at) (l .j) (l .inv .0) .slots)
+array-copy-out-v c = let a = c .before .before .before .before .before .before .before .before .before .before .before .before .before .args in let l = c .before .before .before .before .before .before .loop in omega (arith, whole (a .scheme) (a .events .now) (a .out .now) (a .fx .now) (a .end) (l .out) (l .fx) (l .words) (stateOf (l .own) (l .slots) (l .next) (l .head) (l .all) (l .outside) (handlesWith (l .handles)) (l .queue)) (l .at) (l .j) (l .inv .0) .slots)
 
-array-read-t65 : tie.Need-array-read-t65 Inv-loop μ-loop
-array-read-t65 c = let a = c .before .before .before .before .before .before .before .before .before .before .before .before .before .before .args in let l = c .before .before .before .before .before .before .before .loop in omega (arith, whole (a .scheme) (a .events .now) (a .out .now) (a .fx .now) (a .end) (l .out) (l .fx) (l .words) (stateOf (l .own) (l .slots) (l .next) (l .head) (l .all) (l .outside) (l .handles) (l .queue)) (l .at) (l .j) (l .inv .0) .next)
+array-read-t62 : tie.Need-array-read-t62 Inv-loop μ-loop
+array-read-t62 c = let a = c .before .before .before .before .before .before .before .before .before .before .before .before .before .before .args in let l = c .before .before .before .before .before .before .before .loop in omega (arith, whole (a .scheme) (a .events .now) (a .out .now) (a .fx .now) (a .end) (l .out) (l .fx) (l .words) (stateOf (l .own) (l .slots) (l .next) (l .head) (l .all) (l .outside) (handlesWith (l .handles)) (l .queue)) (l .at) (l .j) (l .inv .0) .next)
 
 slice-aggregate-queue-turn : tie.Need-slice-aggregate-queue-turn Inv-loop μ-loop
 slice-aggregate-queue-turn c = sym (c .before .before .before .before .before .before .before .before .before .loop .inv .1)
 
 sub-queue-turn : tie.Need-sub-queue-turn Inv-loop μ-loop
-sub-queue-turn c = let a = c .before .before .before .before .before .before .before .before .before .before .before .before .before .before .before .before .args in let l = c .before .before .before .before .before .before .before .before .before .loop in omega (arith, in-out (a .scheme) (a .events .now) (a .out .now) (a .fx .now) (a .end) (l .out) (l .fx) (l .words) (stateOf (l .own) (l .slots) (l .next) (l .head) (l .all) (l .outside) (l .handles) (l .queue)) (l .at) (l .j) (l .inv .0))
+sub-queue-turn c = let a = c .before .before .before .before .before .before .before .before .before .before .before .before .before .before .before .before .args in let l = c .before .before .before .before .before .before .before .before .before .loop in omega (arith, in-out (a .scheme) (a .events .now) (a .out .now) (a .fx .now) (a .end) (l .out) (l .fx) (l .words) (stateOf (l .own) (l .slots) (l .next) (l .head) (l .all) (l .outside) (handlesWith (l .handles)) (l .queue)) (l .at) (l .j) (l .inv .0))
 
 part-queue-turn-start : tie.Need-part-queue-turn-start Inv-loop μ-loop
-part-queue-turn-start c = let a = c .before .before .before .before .before .before .before .before .before .before .before .before .before .before .before .before .args in let l = c .before .before .before .before .before .before .before .before .before .loop in omega (arith, in-out (a .scheme) (a .events .now) (a .out .now) (a .fx .now) (a .end) (l .out) (l .fx) (l .words) (stateOf (l .own) (l .slots) (l .next) (l .head) (l .all) (l .outside) (l .handles) (l .queue)) (l .at) (l .j) (l .inv .0))
+part-queue-turn-start c = let a = c .before .before .before .before .before .before .before .before .before .before .before .before .before .before .before .before .args in let l = c .before .before .before .before .before .before .before .before .before .loop in omega (arith, in-out (a .scheme) (a .events .now) (a .out .now) (a .fx .now) (a .end) (l .out) (l .fx) (l .words) (stateOf (l .own) (l .slots) (l .next) (l .head) (l .all) (l .outside) (handlesWith (l .handles)) (l .queue)) (l .at) (l .j) (l .inv .0))
 
 part-queue-turn-end : tie.Need-part-queue-turn-end Inv-loop μ-loop
 part-queue-turn-end c = omega arith
@@ -69,16 +70,16 @@ queue-turn-requires : tie.Need-queue-turn-requires Inv-loop μ-loop
 queue-turn-requires c κs = let l = c .before .before .before .before .before .before .before .before .before .before .loop in (sym (c .before .before .before .before .before .is-queue .ensures) ∙ c .before .before .before .before .if1 .taken, omega (arith, l .inv .1))
 
 add-j : tie.Need-add-j Inv-loop μ-loop
-add-j c = let a = c .before .before .before .before .before .before .before .before .before .before .before .before .before .before .before .before .before .before .before .before .before .before .before .args in let l = c .before .before .before .before .before .before .before .before .before .before .before .before .before .before .before .before .loop in omega (arith, room-more (a .scheme) (a .events .now) (a .out .now) (a .fx .now) (a .end) (l .out) (l .fx) (l .words) (stateOf (l .own) (l .slots) (l .next) (l .head) (l .all) (l .outside) (l .handles) (l .queue)) (l .at) (l .j) (l .inv .0) (c .before .before .before .before .before .before .before .before .before .before .before .before .before .before .before .loop-test .taken) (c .before .before .before .before .before .before .before .before .before .before .before .before .size-by .result) (c .before .before .before .before .before .before .before .before .before .before .before .before .size-by .ensures ∙ ap sizeOf (c .before .before .before .before .before .before .before .before .before .before .before .before .before .record-at .ensures)) (c .before .before .before .before .before .queue-turn .result .used) (room-of (take (length (a .events .now) - l .at) (drop (l .at) (a .events .now))) (c .before .before .before .before .before .before .before .before .before .before .before .before .before .record-at .result) (c .before .before .before .before .before .queue-turn .result .used) (c .before .before .before .before .before .before .before .before .before .before .before .before .before .record-at .ensures) (c .before .before .before .before .before .queue-turn .ensures .1)), c .before .before .before .before .before .before .before .before .before .before .before .before .before .before .before .before .before .before .before .before .before .before .before .good .1 .1 .1 .0 .0)
+add-j c = let a = c .before .before .before .before .before .before .before .before .before .before .before .before .before .before .before .before .before .before .before .before .before .before .before .args in let l = c .before .before .before .before .before .before .before .before .before .before .before .before .before .before .before .before .loop in omega (arith, room-more (a .scheme) (a .events .now) (a .out .now) (a .fx .now) (a .end) (l .out) (l .fx) (l .words) (stateOf (l .own) (l .slots) (l .next) (l .head) (l .all) (l .outside) (handlesWith (l .handles)) (l .queue)) (l .at) (l .j) (l .inv .0) (c .before .before .before .before .before .before .before .before .before .before .before .before .before .before .before .loop-test .taken) (c .before .before .before .before .before .before .before .before .before .before .before .before .size-by .result) (c .before .before .before .before .before .before .before .before .before .before .before .before .size-by .ensures ∙ ap sizeOf (c .before .before .before .before .before .before .before .before .before .before .before .before .before .record-at .ensures)) (c .before .before .before .before .before .queue-turn .result .used) (room-of (take (length (a .events .now) - l .at) (drop (l .at) (a .events .now))) (c .before .before .before .before .before .before .before .before .before .before .before .before .before .record-at .result) (c .before .before .before .before .before .queue-turn .result .used) (c .before .before .before .before .before .before .before .before .before .before .before .before .before .record-at .ensures) (c .before .before .before .before .before .queue-turn .ensures .1)), c .before .before .before .before .before .before .before .before .before .before .before .before .before .before .before .before .before .before .before .before .before .before .before .good .1 .1 .1 .0 .0)
 
 add-at : tie.Need-add-at Inv-loop μ-loop
-add-at c = let a = c .before .before .before .before .before .before .before .before .before .before .before .before .before .before .before .before .before .before .before .before .before .before .before .args in let l = c .before .before .before .before .before .before .before .before .before .before .before .before .before .before .before .before .loop in omega (arith, place-more (a .scheme) (a .events .now) (a .out .now) (a .fx .now) (a .end) (l .out) (l .fx) (l .words) (stateOf (l .own) (l .slots) (l .next) (l .head) (l .all) (l .outside) (l .handles) (l .queue)) (l .at) (l .j) (l .inv .0) (c .before .before .before .before .before .before .before .before .before .before .before .before .before .before .before .loop-test .taken) (c .before .before .before .before .before .before .before .before .before .before .before .before .size-by .result) (c .before .before .before .before .before .before .before .before .before .before .before .before .size-by .ensures ∙ ap sizeOf (c .before .before .before .before .before .before .before .before .before .before .before .before .before .record-at .ensures)), c .before .before .before .before .before .before .before .before .before .before .before .before .before .before .before .before .before .before .before .before .before .before .before .good .1 .0 .0)
+add-at c = let a = c .before .before .before .before .before .before .before .before .before .before .before .before .before .before .before .before .before .before .before .before .before .before .before .args in let l = c .before .before .before .before .before .before .before .before .before .before .before .before .before .before .before .before .loop in omega (arith, place-more (a .scheme) (a .events .now) (a .out .now) (a .fx .now) (a .end) (l .out) (l .fx) (l .words) (stateOf (l .own) (l .slots) (l .next) (l .head) (l .all) (l .outside) (handlesWith (l .handles)) (l .queue)) (l .at) (l .j) (l .inv .0) (c .before .before .before .before .before .before .before .before .before .before .before .before .before .before .before .loop-test .taken) (c .before .before .before .before .before .before .before .before .before .before .before .before .size-by .result) (c .before .before .before .before .before .before .before .before .before .before .before .before .size-by .ensures ∙ ap sizeOf (c .before .before .before .before .before .before .before .before .before .before .before .before .before .record-at .ensures)), c .before .before .before .before .before .before .before .before .before .before .before .before .before .before .before .before .before .before .before .before .before .before .before .good .1 .0 .0)
 
 loop-less : tie.Need-loop-less Inv-loop μ-loop
-loop-less c = let a = c .before .before .before .before .before .before .before .before .before .before .before .before .before .before .before .before .before .before .before .before .before .before .before .args in let l = c .before .before .before .before .before .before .before .before .before .before .before .before .before .before .before .before .loop in omega (arith, place-more (a .scheme) (a .events .now) (a .out .now) (a .fx .now) (a .end) (l .out) (l .fx) (l .words) (stateOf (l .own) (l .slots) (l .next) (l .head) (l .all) (l .outside) (l .handles) (l .queue)) (l .at) (l .j) (l .inv .0) (c .before .before .before .before .before .before .before .before .before .before .before .before .before .before .before .loop-test .taken) (c .before .before .before .before .before .before .before .before .before .before .before .before .size-by .result) (c .before .before .before .before .before .before .before .before .before .before .before .before .size-by .ensures ∙ ap sizeOf (c .before .before .before .before .before .before .before .before .before .before .before .before .before .record-at .ensures)), some-size (a .scheme) (a .events .now) (a .out .now) (a .fx .now) (a .end) (l .out) (l .fx) (l .words) (stateOf (l .own) (l .slots) (l .next) (l .head) (l .all) (l .outside) (l .handles) (l .queue)) (l .at) (l .j) (l .inv .0) (c .before .before .before .before .before .before .before .before .before .before .before .before .before .before .before .loop-test .taken) (c .before .before .before .before .before .before .before .before .before .before .before .before .size-by .result) (c .before .before .before .before .before .before .before .before .before .before .before .before .size-by .ensures ∙ ap sizeOf (c .before .before .before .before .before .before .before .before .before .before .before .before .before .record-at .ensures)))
+loop-less c = let a = c .before .before .before .before .before .before .before .before .before .before .before .before .before .before .before .before .before .before .before .before .before .before .before .args in let l = c .before .before .before .before .before .before .before .before .before .before .before .before .before .before .before .before .loop in omega (arith, place-more (a .scheme) (a .events .now) (a .out .now) (a .fx .now) (a .end) (l .out) (l .fx) (l .words) (stateOf (l .own) (l .slots) (l .next) (l .head) (l .all) (l .outside) (handlesWith (l .handles)) (l .queue)) (l .at) (l .j) (l .inv .0) (c .before .before .before .before .before .before .before .before .before .before .before .before .before .before .before .loop-test .taken) (c .before .before .before .before .before .before .before .before .before .before .before .before .size-by .result) (c .before .before .before .before .before .before .before .before .before .before .before .before .size-by .ensures ∙ ap sizeOf (c .before .before .before .before .before .before .before .before .before .before .before .before .before .record-at .ensures)), some-size (a .scheme) (a .events .now) (a .out .now) (a .fx .now) (a .end) (l .out) (l .fx) (l .words) (stateOf (l .own) (l .slots) (l .next) (l .head) (l .all) (l .outside) (handlesWith (l .handles)) (l .queue)) (l .at) (l .j) (l .inv .0) (c .before .before .before .before .before .before .before .before .before .before .before .before .before .before .before .loop-test .taken) (c .before .before .before .before .before .before .before .before .before .before .before .before .size-by .result) (c .before .before .before .before .before .before .before .before .before .before .before .before .size-by .ensures ∙ ap sizeOf (c .before .before .before .before .before .before .before .before .before .before .before .before .before .record-at .ensures)))
 
 loop-again : tie.Need-loop-again Inv-loop μ-loop
-loop-again c = let a = c .before .before .before .before .before .before .before .before .before .before .before .before .before .before .before .before .before .before .before .before .before .before .before .args in let l = c .before .before .before .before .before .before .before .before .before .before .before .before .before .before .before .before .loop in (goes-on-told (a .scheme) (a .events .now) (a .out .now) (a .fx .now) (a .end) (l .out) (l .fx) (l .words) (stateOf (l .own) (l .slots) (l .next) (l .head) (l .all) (l .outside) (l .handles) (l .queue)) (l .at) (l .j) (l .inv .0) (c .before .before .before .before .before .before .before .before .before .before .before .before .before .before .before .loop-test .taken) (c .before .before .before .before .before .before .before .before .before .before .before .before .size-by .result) (c .before .before .before .before .before .before .before .before .before .before .before .before .size-by .ensures ∙ ap sizeOf (c .before .before .before .before .before .before .before .before .before .before .before .before .before .record-at .ensures)) _ _ _ (stateOf (l .own) (l .slots) (l .next) (l .head) (l .all) (l .outside) (l .handles) (c .before .before .before .before .before .queue-turn .result .queue)) (c .before .before .before .before .before .queue-turn .result .used) (told-of (world (stateOf (l .own) (l .slots) (l .next) (l .head) (l .all) (l .outside) (l .handles) (l .queue)) (l .words)) _ _ _ _ _ _ (list-is (take (length (a .events .now) - l .at) (drop (l .at) (a .events .now))) (length (l .fx)) (c .before .before .before .before .before .before .before .before .before .before .before .before .before .record-at .result) (c .before .before .before .before .before .before .before .before .before .before .before .before .before .record-at .ensures)) (c .before .before .before .before .before .queue-turn .ensures .0 (stateOf (l .own) (l .slots) (l .next) (l .head) (l .all) (l .outside) (l .handles) (l .queue)) 0 (holdsWith (l .all) (l .outside)) (wordsAt (take (length (a .events .now) - l .at) (drop (l .at) (a .events .now))) (firstAt (c .before .before .before .before .before .before .before .before .before .before .before .before .before .record-at .result)) ((c .before .before .before .before .before .before .before .before .before .before .before .before .before .record-at .result) .first)) (wordsAt (take (length (a .events .now) - l .at) (drop (l .at) (a .events .now))) (secondAt (c .before .before .before .before .before .before .before .before .before .before .before .before .before .record-at .result)) ((c .before .before .before .before .before .before .before .before .before .before .before .before .before .record-at .result) .second)) (take (tailOf (c .before .before .before .before .before .before .before .before .before .before .before .before .before .record-at .result)) (drop (tailAt (c .before .before .before .before .before .before .before .before .before .before .before .before .before .record-at .result)) (take (length (a .events .now) - l .at) (drop (l .at) (a .events .now))))) (length (l .fx)) (whole (a .scheme) (a .events .now) (a .out .now) (a .fx .now) (a .end) (l .out) (l .fx) (l .words) (stateOf (l .own) (l .slots) (l .next) (l .head) (l .all) (l .outside) (l .handles) (l .queue)) (l .at) (l .j) (l .inv .0)) (refl, refl, refl))) (stored-of (world (stateOf (l .own) (l .slots) (l .next) (l .head) (l .all) (l .outside) (l .handles) (l .queue)) (l .words)) _ _ (l .fx) _ (list-is (take (length (a .events .now) - l .at) (drop (l .at) (a .events .now))) (length (l .fx)) (c .before .before .before .before .before .before .before .before .before .before .before .before .before .record-at .result) (c .before .before .before .before .before .before .before .before .before .before .before .before .before .record-at .ensures)) (list-stores (take (length (a .events .now) - l .at) (drop (l .at) (a .events .now))) (length (l .fx)) (c .before .before .before .before .before .before .before .before .before .before .before .before .before .record-at .result) (c .before .before .before .before .before .before .before .before .before .before .before .before .before .record-at .ensures) (world (stateOf (l .own) (l .slots) (l .next) (l .head) (l .all) (l .outside) (l .handles) (l .queue)) (l .words)) (l .fx) (no-write ((c .before .before .before .before .before .before .before .before .before .before .before .before .before .record-at .result) .kind) (sym (c .before .before .before .before .before .before .before .before .before .before .before .is-queue .ensures) ∙ c .before .before .before .before .before .before .before .before .before .before .if1 .taken)))) (room-of (take (length (a .events .now) - l .at) (drop (l .at) (a .events .now))) (c .before .before .before .before .before .before .before .before .before .before .before .before .before .record-at .result) (c .before .before .before .before .before .queue-turn .result .used) (c .before .before .before .before .before .before .before .before .before .before .before .before .before .record-at .ensures) (c .before .before .before .before .before .queue-turn .ensures .1)), search needs, l .inv .2, l .inv .3)
+loop-again c = let a = c .before .before .before .before .before .before .before .before .before .before .before .before .before .before .before .before .before .before .before .before .before .before .before .args in let l = c .before .before .before .before .before .before .before .before .before .before .before .before .before .before .before .before .loop in (goes-on-told (a .scheme) (a .events .now) (a .out .now) (a .fx .now) (a .end) (l .out) (l .fx) (l .words) (stateOf (l .own) (l .slots) (l .next) (l .head) (l .all) (l .outside) (handlesWith (l .handles)) (l .queue)) (l .at) (l .j) (l .inv .0) (c .before .before .before .before .before .before .before .before .before .before .before .before .before .before .before .loop-test .taken) (c .before .before .before .before .before .before .before .before .before .before .before .before .size-by .result) (c .before .before .before .before .before .before .before .before .before .before .before .before .size-by .ensures ∙ ap sizeOf (c .before .before .before .before .before .before .before .before .before .before .before .before .before .record-at .ensures)) _ _ _ (stateOf (l .own) (l .slots) (l .next) (l .head) (l .all) (l .outside) (handlesWith (l .handles)) (c .before .before .before .before .before .queue-turn .result .queue)) (c .before .before .before .before .before .queue-turn .result .used) (told-of (world (stateOf (l .own) (l .slots) (l .next) (l .head) (l .all) (l .outside) (handlesWith (l .handles)) (l .queue)) (l .words)) _ _ _ _ _ _ (list-is (take (length (a .events .now) - l .at) (drop (l .at) (a .events .now))) (length (l .fx)) (c .before .before .before .before .before .before .before .before .before .before .before .before .before .record-at .result) (c .before .before .before .before .before .before .before .before .before .before .before .before .before .record-at .ensures)) (c .before .before .before .before .before .queue-turn .ensures .0 (stateOf (l .own) (l .slots) (l .next) (l .head) (l .all) (l .outside) (handlesWith (l .handles)) (l .queue)) 0 (holdsWith (l .all) (l .outside)) (wordsAt (take (length (a .events .now) - l .at) (drop (l .at) (a .events .now))) (firstAt (c .before .before .before .before .before .before .before .before .before .before .before .before .before .record-at .result)) ((c .before .before .before .before .before .before .before .before .before .before .before .before .before .record-at .result) .first)) (wordsAt (take (length (a .events .now) - l .at) (drop (l .at) (a .events .now))) (secondAt (c .before .before .before .before .before .before .before .before .before .before .before .before .before .record-at .result)) ((c .before .before .before .before .before .before .before .before .before .before .before .before .before .record-at .result) .second)) (take (tailOf (c .before .before .before .before .before .before .before .before .before .before .before .before .before .record-at .result)) (drop (tailAt (c .before .before .before .before .before .before .before .before .before .before .before .before .before .record-at .result)) (take (length (a .events .now) - l .at) (drop (l .at) (a .events .now))))) (length (l .fx)) (whole (a .scheme) (a .events .now) (a .out .now) (a .fx .now) (a .end) (l .out) (l .fx) (l .words) (stateOf (l .own) (l .slots) (l .next) (l .head) (l .all) (l .outside) (handlesWith (l .handles)) (l .queue)) (l .at) (l .j) (l .inv .0)) (refl, refl, refl))) (stored-of (world (stateOf (l .own) (l .slots) (l .next) (l .head) (l .all) (l .outside) (handlesWith (l .handles)) (l .queue)) (l .words)) _ _ (l .fx) _ (list-is (take (length (a .events .now) - l .at) (drop (l .at) (a .events .now))) (length (l .fx)) (c .before .before .before .before .before .before .before .before .before .before .before .before .before .record-at .result) (c .before .before .before .before .before .before .before .before .before .before .before .before .before .record-at .ensures)) (list-stores (take (length (a .events .now) - l .at) (drop (l .at) (a .events .now))) (length (l .fx)) (c .before .before .before .before .before .before .before .before .before .before .before .before .before .record-at .result) (c .before .before .before .before .before .before .before .before .before .before .before .before .before .record-at .ensures) (world (stateOf (l .own) (l .slots) (l .next) (l .head) (l .all) (l .outside) (handlesWith (l .handles)) (l .queue)) (l .words)) (l .fx) (no-write ((c .before .before .before .before .before .before .before .before .before .before .before .before .before .record-at .result) .kind) (sym (c .before .before .before .before .before .before .before .before .before .before .before .is-queue .ensures) ∙ c .before .before .before .before .before .before .before .before .before .before .if1 .taken)))) (room-of (take (length (a .events .now) - l .at) (drop (l .at) (a .events .now))) (c .before .before .before .before .before .before .before .before .before .before .before .before .before .record-at .result) (c .before .before .before .before .before .queue-turn .result .used) (c .before .before .before .before .before .before .before .before .before .before .before .before .before .record-at .ensures) (c .before .before .before .before .before .queue-turn .ensures .1)), search needs, l .inv .2, l .inv .3)
 
 is-single-requires : tie.Need-is-single-requires Inv-loop μ-loop
 is-single-requires c κs = search needs
@@ -93,7 +94,7 @@ part-entry-of-end : tie.Need-part-entry-of-end Inv-loop μ-loop
 part-entry-of-end c = omega arith
 
 entry-of-requires : tie.Need-entry-of-requires Inv-loop μ-loop
-entry-of-requires c κs = let a = c .before .before .before .before .before .before .before .before .before .before .before .before .before .before .before .before .args in let l = c .before .before .before .before .before .before .before .before .before .loop in tail-there (take (length (a .events .now) - l .at) (drop (l .at) (a .events .now))) (c .before .before .before .before .before .before .record-at .result) (c .before .before .before .before .before .before .record-at .ensures) (some-next (a .scheme) (a .events .now) (a .out .now) (a .fx .now) (a .end) (l .out) (l .fx) (l .words) (stateOf (l .own) (l .slots) (l .next) (l .head) (l .all) (l .outside) (l .handles) (l .queue)) (l .at) (l .j) (l .inv .0) (c .before .before .before .before .before .before .before .before .loop-test .taken))
+entry-of-requires c κs = let a = c .before .before .before .before .before .before .before .before .before .before .before .before .before .before .before .before .args in let l = c .before .before .before .before .before .before .before .before .before .loop in tail-there (take (length (a .events .now) - l .at) (drop (l .at) (a .events .now))) (c .before .before .before .before .before .before .record-at .result) (c .before .before .before .before .before .before .record-at .ensures) (some-next (a .scheme) (a .events .now) (a .out .now) (a .fx .now) (a .end) (l .out) (l .fx) (l .words) (stateOf (l .own) (l .slots) (l .next) (l .head) (l .all) (l .outside) (handlesWith (l .handles)) (l .queue)) (l .at) (l .j) (l .inv .0) (c .before .before .before .before .before .before .before .before .loop-test .taken))
 
 cast-n : tie.Need-cast-n Inv-loop μ-loop
 cast-n c = search needs
@@ -102,16 +103,16 @@ mul-v : tie.Need-mul-v Inv-loop μ-loop
 mul-v c = search needs
 
 array-copy-out-v-2 : tie.Need-array-copy-out-v-2 Inv-loop μ-loop
-array-copy-out-v-2 c = let a = c .before .before .before .before .before .before .before .before .before .before .before .before .before .before .before .before .before .before .args in let l = c .before .before .before .before .before .before .before .before .before .before .before .loop in omega (arith, whole (a .scheme) (a .events .now) (a .out .now) (a .fx .now) (a .end) (l .out) (l .fx) (l .words) (stateOf (l .own) (l .slots) (l .next) (l .head) (l .all) (l .outside) (l .handles) (l .queue)) (l .at) (l .j) (l .inv .0) .slots)
+array-copy-out-v-2 c = let a = c .before .before .before .before .before .before .before .before .before .before .before .before .before .before .before .before .before .before .args in let l = c .before .before .before .before .before .before .before .before .before .before .before .loop in omega (arith, whole (a .scheme) (a .events .now) (a .out .now) (a .fx .now) (a .end) (l .out) (l .fx) (l .words) (stateOf (l .own) (l .slots) (l .next) (l .head) (l .all) (l .outside) (handlesWith (l .handles)) (l .queue)) (l .at) (l .j) (l .inv .0) .slots)
 
-array-read-t86 : tie.Need-array-read-t86 Inv-loop μ-loop
-array-read-t86 c = let a = c .before .before .before .before .before .before .before .before .before .before .before .before .before .before .before .before .before .before .before .args in let l = c .before .before .before .before .before .before .before .before .before .before .before .before .loop in omega (arith, whole (a .scheme) (a .events .now) (a .out .now) (a .fx .now) (a .end) (l .out) (l .fx) (l .words) (stateOf (l .own) (l .slots) (l .next) (l .head) (l .all) (l .outside) (l .handles) (l .queue)) (l .at) (l .j) (l .inv .0) .next)
+array-read-t81 : tie.Need-array-read-t81 Inv-loop μ-loop
+array-read-t81 c = let a = c .before .before .before .before .before .before .before .before .before .before .before .before .before .before .before .before .before .before .before .args in let l = c .before .before .before .before .before .before .before .before .before .before .before .before .loop in omega (arith, whole (a .scheme) (a .events .now) (a .out .now) (a .fx .now) (a .end) (l .out) (l .fx) (l .words) (stateOf (l .own) (l .slots) (l .next) (l .head) (l .all) (l .outside) (handlesWith (l .handles)) (l .queue)) (l .at) (l .j) (l .inv .0) .next)
 
 sub-entry-turn : tie.Need-sub-entry-turn Inv-loop μ-loop
-sub-entry-turn c = let a = c .before .before .before .before .before .before .before .before .before .before .before .before .before .before .before .before .before .before .before .before .args in let l = c .before .before .before .before .before .before .before .before .before .before .before .before .before .loop in omega (arith, in-out (a .scheme) (a .events .now) (a .out .now) (a .fx .now) (a .end) (l .out) (l .fx) (l .words) (stateOf (l .own) (l .slots) (l .next) (l .head) (l .all) (l .outside) (l .handles) (l .queue)) (l .at) (l .j) (l .inv .0))
+sub-entry-turn c = let a = c .before .before .before .before .before .before .before .before .before .before .before .before .before .before .before .before .before .before .before .before .before .before .args in let l = c .before .before .before .before .before .before .before .before .before .before .before .before .before .before .before .loop in omega (arith, in-out (a .scheme) (a .events .now) (a .out .now) (a .fx .now) (a .end) (l .out) (l .fx) (l .words) (stateOf (l .own) (l .slots) (l .next) (l .head) (l .all) (l .outside) (handlesWith (l .handles)) (l .queue)) (l .at) (l .j) (l .inv .0))
 
 part-entry-turn-start : tie.Need-part-entry-turn-start Inv-loop μ-loop
-part-entry-turn-start c = let a = c .before .before .before .before .before .before .before .before .before .before .before .before .before .before .before .before .before .before .before .before .args in let l = c .before .before .before .before .before .before .before .before .before .before .before .before .before .loop in omega (arith, in-out (a .scheme) (a .events .now) (a .out .now) (a .fx .now) (a .end) (l .out) (l .fx) (l .words) (stateOf (l .own) (l .slots) (l .next) (l .head) (l .all) (l .outside) (l .handles) (l .queue)) (l .at) (l .j) (l .inv .0))
+part-entry-turn-start c = let a = c .before .before .before .before .before .before .before .before .before .before .before .before .before .before .before .before .before .before .before .before .before .before .args in let l = c .before .before .before .before .before .before .before .before .before .before .before .before .before .before .before .loop in omega (arith, in-out (a .scheme) (a .events .now) (a .out .now) (a .fx .now) (a .end) (l .out) (l .fx) (l .words) (stateOf (l .own) (l .slots) (l .next) (l .head) (l .all) (l .outside) (handlesWith (l .handles)) (l .queue)) (l .at) (l .j) (l .inv .0))
 
 part-entry-turn-end : tie.Need-part-entry-turn-end Inv-loop μ-loop
 part-entry-turn-end c = omega arith
@@ -123,22 +124,22 @@ mul-slots : tie.Need-mul-slots Inv-loop μ-loop
 mul-slots c = omega arith
 
 array-set-from-slots : tie.Need-array-set-from-slots Inv-loop μ-loop
-array-set-from-slots c = let a = c .before .before .before .before .before .before .before .before .before .before .before .before .before .before .before .before .before .before .before .before .before .before .before .before .before .before .before .before .before .before .before .args in let l = c .before .before .before .before .before .before .before .before .before .before .before .before .before .before .before .before .before .before .before .before .before .before .before .before .loop in omega (arith, whole (a .scheme) (a .events .now) (a .out .now) (a .fx .now) (a .end) (l .out) (l .fx) (l .words) (stateOf (l .own) (l .slots) (l .next) (l .head) (l .all) (l .outside) (l .handles) (l .queue)) (l .at) (l .j) (l .inv .0) .slots)
+array-set-from-slots c = let a = c .before .before .before .before .before .before .before .before .before .before .before .before .before .before .before .before .before .before .before .before .before .before .before .before .before .before .before .before .before .before .before .args in let l = c .before .before .before .before .before .before .before .before .before .before .before .before .before .before .before .before .before .before .before .before .before .before .before .before .loop in omega (arith, whole (a .scheme) (a .events .now) (a .out .now) (a .fx .now) (a .end) (l .out) (l .fx) (l .words) (stateOf (l .own) (l .slots) (l .next) (l .head) (l .all) (l .outside) (handlesWith (l .handles)) (l .queue)) (l .at) (l .j) (l .inv .0) .slots)
 
 array-write-next : tie.Need-array-write-next Inv-loop μ-loop
-array-write-next c = let a = c .before .before .before .before .before .before .before .before .before .before .before .before .before .before .before .before .before .before .before .before .before .before .before .before .before .before .before .before .before .before .before .args in let l = c .before .before .before .before .before .before .before .before .before .before .before .before .before .before .before .before .before .before .before .before .before .before .before .before .loop in omega (arith, whole (a .scheme) (a .events .now) (a .out .now) (a .fx .now) (a .end) (l .out) (l .fx) (l .words) (stateOf (l .own) (l .slots) (l .next) (l .head) (l .all) (l .outside) (l .handles) (l .queue)) (l .at) (l .j) (l .inv .0) .next)
+array-write-next c = let a = c .before .before .before .before .before .before .before .before .before .before .before .before .before .before .before .before .before .before .before .before .before .before .before .before .before .before .before .before .before .before .before .args in let l = c .before .before .before .before .before .before .before .before .before .before .before .before .before .before .before .before .before .before .before .before .before .before .before .before .loop in omega (arith, whole (a .scheme) (a .events .now) (a .out .now) (a .fx .now) (a .end) (l .out) (l .fx) (l .words) (stateOf (l .own) (l .slots) (l .next) (l .head) (l .all) (l .outside) (handlesWith (l .handles)) (l .queue)) (l .at) (l .j) (l .inv .0) .next)
 
 add-j-2 : tie.Need-add-j-2 Inv-loop μ-loop
-add-j-2 c = let a = c .before .before .before .before .before .before .before .before .before .before .before .before .before .before .before .before .before .before .before .before .before .before .before .before .before .before .before .before .before .before .before .before .before .before .args in let l = c .before .before .before .before .before .before .before .before .before .before .before .before .before .before .before .before .before .before .before .before .before .before .before .before .before .before .before .loop in omega (arith, room-more (a .scheme) (a .events .now) (a .out .now) (a .fx .now) (a .end) (l .out) (l .fx) (l .words) (stateOf (l .own) (l .slots) (l .next) (l .head) (l .all) (l .outside) (l .handles) (l .queue)) (l .at) (l .j) (l .inv .0) (c .before .before .before .before .before .before .before .before .before .before .before .before .before .before .before .before .before .before .before .before .before .before .before .before .before .before .loop-test .taken) (c .before .before .before .before .before .before .before .before .before .before .before .before .before .before .before .before .before .before .before .before .before .before .before .size-by .result) (c .before .before .before .before .before .before .before .before .before .before .before .before .before .before .before .before .before .before .before .before .before .before .before .size-by .ensures ∙ ap sizeOf (c .before .before .before .before .before .before .before .before .before .before .before .before .before .before .before .before .before .before .before .before .before .before .before .before .record-at .ensures)) (c .before .before .before .before .before .before .before .before .before .before .before .before .entry-turn .result .used) (room-of (take (length (a .events .now) - l .at) (drop (l .at) (a .events .now))) (c .before .before .before .before .before .before .before .before .before .before .before .before .before .before .before .before .before .before .before .before .before .before .before .before .record-at .result) (c .before .before .before .before .before .before .before .before .before .before .before .before .entry-turn .result .used) (c .before .before .before .before .before .before .before .before .before .before .before .before .before .before .before .before .before .before .before .before .before .before .before .before .record-at .ensures) (room-write (c .before .before .before .before .before .before .before .before .before .before .before .before .before .before .before .before .before .before .before .before .before .before .before .before .record-at .result) (c .before .before .before .before .before .before .before .before .before .before .before .before .entry-turn .result .used) (subst (λ (n : ℕ). c .before .before .before .before .before .before .before .before .before .before .before .before .entry-turn .result .used ≤ 192 + 27 * n) (tail-counts (take (length (a .events .now) - l .at) (drop (l .at) (a .events .now))) (tailAt (c .before .before .before .before .before .before .before .before .before .before .before .before .before .before .before .before .before .before .before .before .before .before .before .before .record-at .result)) (tailOf (c .before .before .before .before .before .before .before .before .before .before .before .before .before .before .before .before .before .before .before .before .before .before .before .before .record-at .result)) (tail-there (take (length (a .events .now) - l .at) (drop (l .at) (a .events .now))) (c .before .before .before .before .before .before .before .before .before .before .before .before .before .before .before .before .before .before .before .before .before .before .before .before .record-at .result) (c .before .before .before .before .before .before .before .before .before .before .before .before .before .before .before .before .before .before .before .before .before .before .before .before .record-at .ensures) (some-next (a .scheme) (a .events .now) (a .out .now) (a .fx .now) (a .end) (l .out) (l .fx) (l .words) (stateOf (l .own) (l .slots) (l .next) (l .head) (l .all) (l .outside) (l .handles) (l .queue)) (l .at) (l .j) (l .inv .0) (c .before .before .before .before .before .before .before .before .before .before .before .before .before .before .before .before .before .before .before .before .before .before .before .before .before .before .loop-test .taken)))) ((c .before .before .before .before .before .before .before .before .before .before .before .before .entry-turn .ensures (stateOf (l .own) (l .slots) (l .next) (l .head) (l .all) (l .outside) (l .handles) (l .queue)) (l .words) (take (tailOf (c .before .before .before .before .before .before .before .before .before .before .before .before .before .before .before .before .before .before .before .before .before .before .before .before .record-at .result)) (drop (tailAt (c .before .before .before .before .before .before .before .before .before .before .before .before .before .before .before .before .before .before .before .before .before .before .before .before .record-at .result)) (take (length (a .events .now) - l .at) (drop (l .at) (a .events .now))))) (single-one (c .before .before .before .before .before .before .before .before .before .before .before .before .before .before .before .before .before .before .before .before .before .before .before .before .record-at .result) (sym (c .before .before .before .before .before .before .before .before .before .before .before .before .before .before .before .before .before .before .before .before .is-single .ensures) ∙ c .before .before .before .before .before .before .before .before .before .before .before .before .before .before .before .before .before .before .before .if2 .taken) (take (length (a .events .now) - l .at) (drop (l .at) (a .events .now))) (tail-there (take (length (a .events .now) - l .at) (drop (l .at) (a .events .now))) (c .before .before .before .before .before .before .before .before .before .before .before .before .before .before .before .before .before .before .before .before .before .before .before .before .record-at .result) (c .before .before .before .before .before .before .before .before .before .before .before .before .before .before .before .before .before .before .before .before .before .before .before .before .record-at .ensures) (some-next (a .scheme) (a .events .now) (a .out .now) (a .fx .now) (a .end) (l .out) (l .fx) (l .words) (stateOf (l .own) (l .slots) (l .next) (l .head) (l .all) (l .outside) (l .handles) (l .queue)) (l .at) (l .j) (l .inv .0) (c .before .before .before .before .before .before .before .before .before .before .before .before .before .before .before .before .before .before .before .before .before .before .before .before .before .before .loop-test .taken)))) (c .before .before .before .before .before .before .before .before .before .before .before .before .before .before .before .before .before .entry-of .ensures) (whole (a .scheme) (a .events .now) (a .out .now) (a .fx .now) (a .end) (l .out) (l .fx) (l .words) (stateOf (l .own) (l .slots) (l .next) (l .head) (l .all) (l .outside) (l .handles) (l .queue)) (l .at) (l .j) (l .inv .0)) (refl, refl, refl)) .1 .1)))), c .before .before .before .before .before .before .before .before .before .before .before .before .before .before .before .before .before .before .before .before .before .before .before .before .before .before .before .before .before .before .before .before .before .before .good .1 .1 .1 .0 .0)
+add-j-2 c = let a = c .before .before .before .before .before .before .before .before .before .before .before .before .before .before .before .before .before .before .before .before .before .before .before .before .before .before .before .before .before .before .before .before .args in let l = c .before .before .before .before .before .before .before .before .before .before .before .before .before .before .before .before .before .before .before .before .before .before .before .before .before .loop in omega (arith, room-more (a .scheme) (a .events .now) (a .out .now) (a .fx .now) (a .end) (l .out) (l .fx) (l .words) (stateOf (l .own) (l .slots) (l .next) (l .head) (l .all) (l .outside) (handlesWith (l .handles)) (l .queue)) (l .at) (l .j) (l .inv .0) (c .before .before .before .before .before .before .before .before .before .before .before .before .before .before .before .before .before .before .before .before .before .before .before .before .loop-test .taken) (c .before .before .before .before .before .before .before .before .before .before .before .before .before .before .before .before .before .before .before .before .before .size-by .result) (c .before .before .before .before .before .before .before .before .before .before .before .before .before .before .before .before .before .before .before .before .before .size-by .ensures ∙ ap sizeOf (c .before .before .before .before .before .before .before .before .before .before .before .before .before .before .before .before .before .before .before .before .before .before .record-at .ensures)) (c .before .before .before .before .before .before .before .before .entry-turn .result .used) (room-of (take (length (a .events .now) - l .at) (drop (l .at) (a .events .now))) (c .before .before .before .before .before .before .before .before .before .before .before .before .before .before .before .before .before .before .before .before .before .before .record-at .result) (c .before .before .before .before .before .before .before .before .entry-turn .result .used) (c .before .before .before .before .before .before .before .before .before .before .before .before .before .before .before .before .before .before .before .before .before .before .record-at .ensures) (room-write (c .before .before .before .before .before .before .before .before .before .before .before .before .before .before .before .before .before .before .before .before .before .before .record-at .result) (c .before .before .before .before .before .before .before .before .entry-turn .result .used) (subst (λ (n : ℕ). c .before .before .before .before .before .before .before .before .entry-turn .result .used ≤ 192 + 27 * n) (tail-counts (take (length (a .events .now) - l .at) (drop (l .at) (a .events .now))) (tailAt (c .before .before .before .before .before .before .before .before .before .before .before .before .before .before .before .before .before .before .before .before .before .before .record-at .result)) (tailOf (c .before .before .before .before .before .before .before .before .before .before .before .before .before .before .before .before .before .before .before .before .before .before .record-at .result)) (tail-there (take (length (a .events .now) - l .at) (drop (l .at) (a .events .now))) (c .before .before .before .before .before .before .before .before .before .before .before .before .before .before .before .before .before .before .before .before .before .before .record-at .result) (c .before .before .before .before .before .before .before .before .before .before .before .before .before .before .before .before .before .before .before .before .before .before .record-at .ensures) (some-next (a .scheme) (a .events .now) (a .out .now) (a .fx .now) (a .end) (l .out) (l .fx) (l .words) (stateOf (l .own) (l .slots) (l .next) (l .head) (l .all) (l .outside) (handlesWith (l .handles)) (l .queue)) (l .at) (l .j) (l .inv .0) (c .before .before .before .before .before .before .before .before .before .before .before .before .before .before .before .before .before .before .before .before .before .before .before .before .loop-test .taken)))) ((c .before .before .before .before .before .before .before .before .entry-turn .ensures (stateOf (l .own) (l .slots) (l .next) (l .head) (l .all) (l .outside) (handlesWith (l .handles)) (l .queue)) (l .outside) (l .words) (take (tailOf (c .before .before .before .before .before .before .before .before .before .before .before .before .before .before .before .before .before .before .before .before .before .before .record-at .result)) (drop (tailAt (c .before .before .before .before .before .before .before .before .before .before .before .before .before .before .before .before .before .before .before .before .before .before .record-at .result)) (take (length (a .events .now) - l .at) (drop (l .at) (a .events .now))))) (single-one (c .before .before .before .before .before .before .before .before .before .before .before .before .before .before .before .before .before .before .before .before .before .before .record-at .result) (sym (c .before .before .before .before .before .before .before .before .before .before .before .before .before .before .before .before .before .before .is-single .ensures) ∙ c .before .before .before .before .before .before .before .before .before .before .before .before .before .before .before .before .before .if2 .taken) (take (length (a .events .now) - l .at) (drop (l .at) (a .events .now))) (tail-there (take (length (a .events .now) - l .at) (drop (l .at) (a .events .now))) (c .before .before .before .before .before .before .before .before .before .before .before .before .before .before .before .before .before .before .before .before .before .before .record-at .result) (c .before .before .before .before .before .before .before .before .before .before .before .before .before .before .before .before .before .before .before .before .before .before .record-at .ensures) (some-next (a .scheme) (a .events .now) (a .out .now) (a .fx .now) (a .end) (l .out) (l .fx) (l .words) (stateOf (l .own) (l .slots) (l .next) (l .head) (l .all) (l .outside) (handlesWith (l .handles)) (l .queue)) (l .at) (l .j) (l .inv .0) (c .before .before .before .before .before .before .before .before .before .before .before .before .before .before .before .before .before .before .before .before .before .before .before .before .loop-test .taken)))) (c .before .before .before .before .before .before .before .before .before .before .before .before .before .before .before .entry-of .ensures) (whole (a .scheme) (a .events .now) (a .out .now) (a .fx .now) (a .end) (l .out) (l .fx) (l .words) (stateOf (l .own) (l .slots) (l .next) (l .head) (l .all) (l .outside) (handlesWith (l .handles)) (l .queue)) (l .at) (l .j) (l .inv .0)) (refl, refl, refl)) .1 .1)))), c .before .before .before .before .before .before .before .before .before .before .before .before .before .before .before .before .before .before .before .before .before .before .before .before .before .before .before .before .before .before .before .before .good .1 .1 .1 .0 .0)
 
 add-at-2 : tie.Need-add-at-2 Inv-loop μ-loop
-add-at-2 c = let a = c .before .before .before .before .before .before .before .before .before .before .before .before .before .before .before .before .before .before .before .before .before .before .before .before .before .before .before .before .before .before .before .before .before .before .args in let l = c .before .before .before .before .before .before .before .before .before .before .before .before .before .before .before .before .before .before .before .before .before .before .before .before .before .before .before .loop in omega (arith, place-more (a .scheme) (a .events .now) (a .out .now) (a .fx .now) (a .end) (l .out) (l .fx) (l .words) (stateOf (l .own) (l .slots) (l .next) (l .head) (l .all) (l .outside) (l .handles) (l .queue)) (l .at) (l .j) (l .inv .0) (c .before .before .before .before .before .before .before .before .before .before .before .before .before .before .before .before .before .before .before .before .before .before .before .before .before .before .loop-test .taken) (c .before .before .before .before .before .before .before .before .before .before .before .before .before .before .before .before .before .before .before .before .before .before .before .size-by .result) (c .before .before .before .before .before .before .before .before .before .before .before .before .before .before .before .before .before .before .before .before .before .before .before .size-by .ensures ∙ ap sizeOf (c .before .before .before .before .before .before .before .before .before .before .before .before .before .before .before .before .before .before .before .before .before .before .before .before .record-at .ensures)), c .before .before .before .before .before .before .before .before .before .before .before .before .before .before .before .before .before .before .before .before .before .before .before .before .before .before .before .before .before .before .before .before .before .before .good .1 .0 .0)
+add-at-2 c = let a = c .before .before .before .before .before .before .before .before .before .before .before .before .before .before .before .before .before .before .before .before .before .before .before .before .before .before .before .before .before .before .before .before .args in let l = c .before .before .before .before .before .before .before .before .before .before .before .before .before .before .before .before .before .before .before .before .before .before .before .before .before .loop in omega (arith, place-more (a .scheme) (a .events .now) (a .out .now) (a .fx .now) (a .end) (l .out) (l .fx) (l .words) (stateOf (l .own) (l .slots) (l .next) (l .head) (l .all) (l .outside) (handlesWith (l .handles)) (l .queue)) (l .at) (l .j) (l .inv .0) (c .before .before .before .before .before .before .before .before .before .before .before .before .before .before .before .before .before .before .before .before .before .before .before .before .loop-test .taken) (c .before .before .before .before .before .before .before .before .before .before .before .before .before .before .before .before .before .before .before .before .before .size-by .result) (c .before .before .before .before .before .before .before .before .before .before .before .before .before .before .before .before .before .before .before .before .before .size-by .ensures ∙ ap sizeOf (c .before .before .before .before .before .before .before .before .before .before .before .before .before .before .before .before .before .before .before .before .before .before .record-at .ensures)), c .before .before .before .before .before .before .before .before .before .before .before .before .before .before .before .before .before .before .before .before .before .before .before .before .before .before .before .before .before .before .before .before .good .1 .0 .0)
 
 loop-less-2 : tie.Need-loop-less-2 Inv-loop μ-loop
-loop-less-2 c = let a = c .before .before .before .before .before .before .before .before .before .before .before .before .before .before .before .before .before .before .before .before .before .before .before .before .before .before .before .before .before .before .before .before .before .before .args in let l = c .before .before .before .before .before .before .before .before .before .before .before .before .before .before .before .before .before .before .before .before .before .before .before .before .before .before .before .loop in omega (arith, place-more (a .scheme) (a .events .now) (a .out .now) (a .fx .now) (a .end) (l .out) (l .fx) (l .words) (stateOf (l .own) (l .slots) (l .next) (l .head) (l .all) (l .outside) (l .handles) (l .queue)) (l .at) (l .j) (l .inv .0) (c .before .before .before .before .before .before .before .before .before .before .before .before .before .before .before .before .before .before .before .before .before .before .before .before .before .before .loop-test .taken) (c .before .before .before .before .before .before .before .before .before .before .before .before .before .before .before .before .before .before .before .before .before .before .before .size-by .result) (c .before .before .before .before .before .before .before .before .before .before .before .before .before .before .before .before .before .before .before .before .before .before .before .size-by .ensures ∙ ap sizeOf (c .before .before .before .before .before .before .before .before .before .before .before .before .before .before .before .before .before .before .before .before .before .before .before .before .record-at .ensures)), some-size (a .scheme) (a .events .now) (a .out .now) (a .fx .now) (a .end) (l .out) (l .fx) (l .words) (stateOf (l .own) (l .slots) (l .next) (l .head) (l .all) (l .outside) (l .handles) (l .queue)) (l .at) (l .j) (l .inv .0) (c .before .before .before .before .before .before .before .before .before .before .before .before .before .before .before .before .before .before .before .before .before .before .before .before .before .before .loop-test .taken) (c .before .before .before .before .before .before .before .before .before .before .before .before .before .before .before .before .before .before .before .before .before .before .before .size-by .result) (c .before .before .before .before .before .before .before .before .before .before .before .before .before .before .before .before .before .before .before .before .before .before .before .size-by .ensures ∙ ap sizeOf (c .before .before .before .before .before .before .before .before .before .before .before .before .before .before .before .before .before .before .before .before .before .before .before .before .record-at .ensures)))
+loop-less-2 c = let a = c .before .before .before .before .before .before .before .before .before .before .before .before .before .before .before .before .before .before .before .before .before .before .before .before .before .before .before .before .before .before .before .before .args in let l = c .before .before .before .before .before .before .before .before .before .before .before .before .before .before .before .before .before .before .before .before .before .before .before .before .before .loop in omega (arith, place-more (a .scheme) (a .events .now) (a .out .now) (a .fx .now) (a .end) (l .out) (l .fx) (l .words) (stateOf (l .own) (l .slots) (l .next) (l .head) (l .all) (l .outside) (handlesWith (l .handles)) (l .queue)) (l .at) (l .j) (l .inv .0) (c .before .before .before .before .before .before .before .before .before .before .before .before .before .before .before .before .before .before .before .before .before .before .before .before .loop-test .taken) (c .before .before .before .before .before .before .before .before .before .before .before .before .before .before .before .before .before .before .before .before .before .size-by .result) (c .before .before .before .before .before .before .before .before .before .before .before .before .before .before .before .before .before .before .before .before .before .size-by .ensures ∙ ap sizeOf (c .before .before .before .before .before .before .before .before .before .before .before .before .before .before .before .before .before .before .before .before .before .before .record-at .ensures)), some-size (a .scheme) (a .events .now) (a .out .now) (a .fx .now) (a .end) (l .out) (l .fx) (l .words) (stateOf (l .own) (l .slots) (l .next) (l .head) (l .all) (l .outside) (handlesWith (l .handles)) (l .queue)) (l .at) (l .j) (l .inv .0) (c .before .before .before .before .before .before .before .before .before .before .before .before .before .before .before .before .before .before .before .before .before .before .before .before .loop-test .taken) (c .before .before .before .before .before .before .before .before .before .before .before .before .before .before .before .before .before .before .before .before .before .size-by .result) (c .before .before .before .before .before .before .before .before .before .before .before .before .before .before .before .before .before .before .before .before .before .size-by .ensures ∙ ap sizeOf (c .before .before .before .before .before .before .before .before .before .before .before .before .before .before .before .before .before .before .before .before .before .before .record-at .ensures)))
 
 loop-again-2 : tie.Need-loop-again-2 Inv-loop μ-loop
-loop-again-2 c = let a = c .before .before .before .before .before .before .before .before .before .before .before .before .before .before .before .before .before .before .before .before .before .before .before .before .before .before .before .before .before .before .before .before .before .before .args in let l = c .before .before .before .before .before .before .before .before .before .before .before .before .before .before .before .before .before .before .before .before .before .before .before .before .before .before .before .loop in let x = (c .before .before .before .before .before .before .before .before .before .before .before .before .entry-turn .ensures (stateOf (l .own) (l .slots) (l .next) (l .head) (l .all) (l .outside) (l .handles) (l .queue)) (l .words) (take (tailOf (c .before .before .before .before .before .before .before .before .before .before .before .before .before .before .before .before .before .before .before .before .before .before .before .before .record-at .result)) (drop (tailAt (c .before .before .before .before .before .before .before .before .before .before .before .before .before .before .before .before .before .before .before .before .before .before .before .before .record-at .result)) (take (length (a .events .now) - l .at) (drop (l .at) (a .events .now))))) (single-one (c .before .before .before .before .before .before .before .before .before .before .before .before .before .before .before .before .before .before .before .before .before .before .before .before .record-at .result) (sym (c .before .before .before .before .before .before .before .before .before .before .before .before .before .before .before .before .before .before .before .before .is-single .ensures) ∙ c .before .before .before .before .before .before .before .before .before .before .before .before .before .before .before .before .before .before .before .if2 .taken) (take (length (a .events .now) - l .at) (drop (l .at) (a .events .now))) (tail-there (take (length (a .events .now) - l .at) (drop (l .at) (a .events .now))) (c .before .before .before .before .before .before .before .before .before .before .before .before .before .before .before .before .before .before .before .before .before .before .before .before .record-at .result) (c .before .before .before .before .before .before .before .before .before .before .before .before .before .before .before .before .before .before .before .before .before .before .before .before .record-at .ensures) (some-next (a .scheme) (a .events .now) (a .out .now) (a .fx .now) (a .end) (l .out) (l .fx) (l .words) (stateOf (l .own) (l .slots) (l .next) (l .head) (l .all) (l .outside) (l .handles) (l .queue)) (l .at) (l .j) (l .inv .0) (c .before .before .before .before .before .before .before .before .before .before .before .before .before .before .before .before .before .before .before .before .before .before .before .before .before .before .loop-test .taken)))) (c .before .before .before .before .before .before .before .before .before .before .before .before .before .before .before .before .before .entry-of .ensures) (whole (a .scheme) (a .events .now) (a .out .now) (a .fx .now) (a .end) (l .out) (l .fx) (l .words) (stateOf (l .own) (l .slots) (l .next) (l .head) (l .all) (l .outside) (l .handles) (l .queue)) (l .at) (l .j) (l .inv .0)) (refl, refl, refl)) in (goes-on-told (a .scheme) (a .events .now) (a .out .now) (a .fx .now) (a .end) (l .out) (l .fx) (l .words) (stateOf (l .own) (l .slots) (l .next) (l .head) (l .all) (l .outside) (l .handles) (l .queue)) (l .at) (l .j) (l .inv .0) (c .before .before .before .before .before .before .before .before .before .before .before .before .before .before .before .before .before .before .before .before .before .before .before .before .before .before .loop-test .taken) (c .before .before .before .before .before .before .before .before .before .before .before .before .before .before .before .before .before .before .before .before .before .before .before .size-by .result) (c .before .before .before .before .before .before .before .before .before .before .before .before .before .before .before .before .before .before .before .before .before .before .before .size-by .ensures ∙ ap sizeOf (c .before .before .before .before .before .before .before .before .before .before .before .before .before .before .before .before .before .before .before .before .before .before .before .before .record-at .ensures)) _ _ _ (stateOf (l .own) (set (l .slots) (c .before .before .before .before .before .before .before .before .before .before .before .before .before .before .before .before .before .entry-of .result .tag % 64) (c .before .before .before .before .before .before .before .before .before .before .before .before .entry-turn .result .part .slot)) (set (l .next) (c .before .before .before .before .before .before .before .before .before .before .before .before .before .before .before .before .before .entry-of .result .tag % 64) (c .before .before .before .before .before .before .before .before .before .before .before .before .entry-turn .result .part .next)) (c .before .before .before .before .before .before .before .before .before .before .before .before .entry-turn .result .part .head) (c .before .before .before .before .before .before .before .before .before .before .before .before .entry-turn .result .holds .holds) (c .before .before .before .before .before .before .before .before .before .before .before .before .entry-turn .result .holds .outside) (c .before .before .before .before .before .before .before .before .before .before .before .before .entry-turn .result .handles) (c .before .before .before .before .before .before .before .before .before .before .before .before .entry-turn .result .part .queue)) (c .before .before .before .before .before .before .before .before .before .before .before .before .entry-turn .result .used) (told-of (world (stateOf (l .own) (l .slots) (l .next) (l .head) (l .all) (l .outside) (l .handles) (l .queue)) (l .words)) _ _ _ _ _ _ (write-is (take (length (a .events .now) - l .at) (drop (l .at) (a .events .now))) (length (l .fx)) (c .before .before .before .before .before .before .before .before .before .before .before .before .before .before .before .before .before .before .before .before .before .before .before .before .record-at .result) (c .before .before .before .before .before .before .before .before .before .before .before .before .before .before .before .before .before .before .before .before .before .before .before .before .record-at .ensures) (single-kind (c .before .before .before .before .before .before .before .before .before .before .before .before .before .before .before .before .before .before .before .before .before .before .before .before .record-at .result) (sym (c .before .before .before .before .before .before .before .before .before .before .before .before .before .before .before .before .before .before .before .before .is-single .ensures) ∙ c .before .before .before .before .before .before .before .before .before .before .before .before .before .before .before .before .before .before .before .if2 .taken))) (x .0)) (stored-of (world (stateOf (l .own) (l .slots) (l .next) (l .head) (l .all) (l .outside) (l .handles) (l .queue)) (l .words)) _ _ (l .fx) _ (write-is (take (length (a .events .now) - l .at) (drop (l .at) (a .events .now))) (length (l .fx)) (c .before .before .before .before .before .before .before .before .before .before .before .before .before .before .before .before .before .before .before .before .before .before .before .before .record-at .result) (c .before .before .before .before .before .before .before .before .before .before .before .before .before .before .before .before .before .before .before .before .before .before .before .before .record-at .ensures) (single-kind (c .before .before .before .before .before .before .before .before .before .before .before .before .before .before .before .before .before .before .before .before .before .before .before .before .record-at .result) (sym (c .before .before .before .before .before .before .before .before .before .before .before .before .before .before .before .before .before .before .before .before .is-single .ensures) ∙ c .before .before .before .before .before .before .before .before .before .before .before .before .before .before .before .before .before .before .before .if2 .taken))) (x .1 .0)) (room-of (take (length (a .events .now) - l .at) (drop (l .at) (a .events .now))) (c .before .before .before .before .before .before .before .before .before .before .before .before .before .before .before .before .before .before .before .before .before .before .before .before .record-at .result) (c .before .before .before .before .before .before .before .before .before .before .before .before .entry-turn .result .used) (c .before .before .before .before .before .before .before .before .before .before .before .before .before .before .before .before .before .before .before .before .before .before .before .before .record-at .ensures) (room-write (c .before .before .before .before .before .before .before .before .before .before .before .before .before .before .before .before .before .before .before .before .before .before .before .before .record-at .result) (c .before .before .before .before .before .before .before .before .before .before .before .before .entry-turn .result .used) (subst (λ (n : ℕ). c .before .before .before .before .before .before .before .before .before .before .before .before .entry-turn .result .used ≤ 192 + 27 * n) (tail-counts (take (length (a .events .now) - l .at) (drop (l .at) (a .events .now))) (tailAt (c .before .before .before .before .before .before .before .before .before .before .before .before .before .before .before .before .before .before .before .before .before .before .before .before .record-at .result)) (tailOf (c .before .before .before .before .before .before .before .before .before .before .before .before .before .before .before .before .before .before .before .before .before .before .before .before .record-at .result)) (tail-there (take (length (a .events .now) - l .at) (drop (l .at) (a .events .now))) (c .before .before .before .before .before .before .before .before .before .before .before .before .before .before .before .before .before .before .before .before .before .before .before .before .record-at .result) (c .before .before .before .before .before .before .before .before .before .before .before .before .before .before .before .before .before .before .before .before .before .before .before .before .record-at .ensures) (some-next (a .scheme) (a .events .now) (a .out .now) (a .fx .now) (a .end) (l .out) (l .fx) (l .words) (stateOf (l .own) (l .slots) (l .next) (l .head) (l .all) (l .outside) (l .handles) (l .queue)) (l .at) (l .j) (l .inv .0) (c .before .before .before .before .before .before .before .before .before .before .before .before .before .before .before .before .before .before .before .before .before .before .before .before .before .before .loop-test .taken)))) ((c .before .before .before .before .before .before .before .before .before .before .before .before .entry-turn .ensures (stateOf (l .own) (l .slots) (l .next) (l .head) (l .all) (l .outside) (l .handles) (l .queue)) (l .words) (take (tailOf (c .before .before .before .before .before .before .before .before .before .before .before .before .before .before .before .before .before .before .before .before .before .before .before .before .record-at .result)) (drop (tailAt (c .before .before .before .before .before .before .before .before .before .before .before .before .before .before .before .before .before .before .before .before .before .before .before .before .record-at .result)) (take (length (a .events .now) - l .at) (drop (l .at) (a .events .now))))) (single-one (c .before .before .before .before .before .before .before .before .before .before .before .before .before .before .before .before .before .before .before .before .before .before .before .before .record-at .result) (sym (c .before .before .before .before .before .before .before .before .before .before .before .before .before .before .before .before .before .before .before .before .is-single .ensures) ∙ c .before .before .before .before .before .before .before .before .before .before .before .before .before .before .before .before .before .before .before .if2 .taken) (take (length (a .events .now) - l .at) (drop (l .at) (a .events .now))) (tail-there (take (length (a .events .now) - l .at) (drop (l .at) (a .events .now))) (c .before .before .before .before .before .before .before .before .before .before .before .before .before .before .before .before .before .before .before .before .before .before .before .before .record-at .result) (c .before .before .before .before .before .before .before .before .before .before .before .before .before .before .before .before .before .before .before .before .before .before .before .before .record-at .ensures) (some-next (a .scheme) (a .events .now) (a .out .now) (a .fx .now) (a .end) (l .out) (l .fx) (l .words) (stateOf (l .own) (l .slots) (l .next) (l .head) (l .all) (l .outside) (l .handles) (l .queue)) (l .at) (l .j) (l .inv .0) (c .before .before .before .before .before .before .before .before .before .before .before .before .before .before .before .before .before .before .before .before .before .before .before .before .before .before .loop-test .taken)))) (c .before .before .before .before .before .before .before .before .before .before .before .before .before .before .before .before .before .entry-of .ensures) (whole (a .scheme) (a .events .now) (a .out .now) (a .fx .now) (a .end) (l .out) (l .fx) (l .words) (stateOf (l .own) (l .slots) (l .next) (l .head) (l .all) (l .outside) (l .handles) (l .queue)) (l .at) (l .j) (l .inv .0)) (refl, refl, refl)) .1 .1)))), l .inv .1, l .inv .2, l .inv .3)
+loop-again-2 c = let a = c .before .before .before .before .before .before .before .before .before .before .before .before .before .before .before .before .before .before .before .before .before .before .before .before .before .before .before .before .before .before .before .before .args in let l = c .before .before .before .before .before .before .before .before .before .before .before .before .before .before .before .before .before .before .before .before .before .before .before .before .before .loop in let x = (c .before .before .before .before .before .before .before .before .entry-turn .ensures (stateOf (l .own) (l .slots) (l .next) (l .head) (l .all) (l .outside) (handlesWith (l .handles)) (l .queue)) (l .outside) (l .words) (take (tailOf (c .before .before .before .before .before .before .before .before .before .before .before .before .before .before .before .before .before .before .before .before .before .before .record-at .result)) (drop (tailAt (c .before .before .before .before .before .before .before .before .before .before .before .before .before .before .before .before .before .before .before .before .before .before .record-at .result)) (take (length (a .events .now) - l .at) (drop (l .at) (a .events .now))))) (single-one (c .before .before .before .before .before .before .before .before .before .before .before .before .before .before .before .before .before .before .before .before .before .before .record-at .result) (sym (c .before .before .before .before .before .before .before .before .before .before .before .before .before .before .before .before .before .before .is-single .ensures) ∙ c .before .before .before .before .before .before .before .before .before .before .before .before .before .before .before .before .before .if2 .taken) (take (length (a .events .now) - l .at) (drop (l .at) (a .events .now))) (tail-there (take (length (a .events .now) - l .at) (drop (l .at) (a .events .now))) (c .before .before .before .before .before .before .before .before .before .before .before .before .before .before .before .before .before .before .before .before .before .before .record-at .result) (c .before .before .before .before .before .before .before .before .before .before .before .before .before .before .before .before .before .before .before .before .before .before .record-at .ensures) (some-next (a .scheme) (a .events .now) (a .out .now) (a .fx .now) (a .end) (l .out) (l .fx) (l .words) (stateOf (l .own) (l .slots) (l .next) (l .head) (l .all) (l .outside) (handlesWith (l .handles)) (l .queue)) (l .at) (l .j) (l .inv .0) (c .before .before .before .before .before .before .before .before .before .before .before .before .before .before .before .before .before .before .before .before .before .before .before .before .loop-test .taken)))) (c .before .before .before .before .before .before .before .before .before .before .before .before .before .before .before .entry-of .ensures) (whole (a .scheme) (a .events .now) (a .out .now) (a .fx .now) (a .end) (l .out) (l .fx) (l .words) (stateOf (l .own) (l .slots) (l .next) (l .head) (l .all) (l .outside) (handlesWith (l .handles)) (l .queue)) (l .at) (l .j) (l .inv .0)) (refl, refl, refl)) in (goes-on-told (a .scheme) (a .events .now) (a .out .now) (a .fx .now) (a .end) (l .out) (l .fx) (l .words) (stateOf (l .own) (l .slots) (l .next) (l .head) (l .all) (l .outside) (handlesWith (l .handles)) (l .queue)) (l .at) (l .j) (l .inv .0) (c .before .before .before .before .before .before .before .before .before .before .before .before .before .before .before .before .before .before .before .before .before .before .before .before .loop-test .taken) (c .before .before .before .before .before .before .before .before .before .before .before .before .before .before .before .before .before .before .before .before .before .size-by .result) (c .before .before .before .before .before .before .before .before .before .before .before .before .before .before .before .before .before .before .before .before .before .size-by .ensures ∙ ap sizeOf (c .before .before .before .before .before .before .before .before .before .before .before .before .before .before .before .before .before .before .before .before .before .before .record-at .ensures)) _ _ _ (stateOf (l .own) (set (l .slots) (c .before .before .before .before .before .before .before .before .before .before .before .before .before .before .before .entry-of .result .tag % 64) (c .before .before .before .before .before .before .before .before .entry-turn .result .part .slot)) (set (l .next) (c .before .before .before .before .before .before .before .before .before .before .before .before .before .before .before .entry-of .result .tag % 64) (c .before .before .before .before .before .before .before .before .entry-turn .result .part .next)) (c .before .before .before .before .before .before .before .before .entry-turn .result .part .head) _ (l .outside) (handlesWith _) (c .before .before .before .before .before .before .before .before .entry-turn .result .part .queue)) (c .before .before .before .before .before .before .before .before .entry-turn .result .used) (told-of (world (stateOf (l .own) (l .slots) (l .next) (l .head) (l .all) (l .outside) (handlesWith (l .handles)) (l .queue)) (l .words)) _ _ _ _ _ _ (write-is (take (length (a .events .now) - l .at) (drop (l .at) (a .events .now))) (length (l .fx)) (c .before .before .before .before .before .before .before .before .before .before .before .before .before .before .before .before .before .before .before .before .before .before .record-at .result) (c .before .before .before .before .before .before .before .before .before .before .before .before .before .before .before .before .before .before .before .before .before .before .record-at .ensures) (single-kind (c .before .before .before .before .before .before .before .before .before .before .before .before .before .before .before .before .before .before .before .before .before .before .record-at .result) (sym (c .before .before .before .before .before .before .before .before .before .before .before .before .before .before .before .before .before .before .is-single .ensures) ∙ c .before .before .before .before .before .before .before .before .before .before .before .before .before .before .before .before .before .if2 .taken))) (x .0)) (stored-of (world (stateOf (l .own) (l .slots) (l .next) (l .head) (l .all) (l .outside) (handlesWith (l .handles)) (l .queue)) (l .words)) _ _ (l .fx) _ (write-is (take (length (a .events .now) - l .at) (drop (l .at) (a .events .now))) (length (l .fx)) (c .before .before .before .before .before .before .before .before .before .before .before .before .before .before .before .before .before .before .before .before .before .before .record-at .result) (c .before .before .before .before .before .before .before .before .before .before .before .before .before .before .before .before .before .before .before .before .before .before .record-at .ensures) (single-kind (c .before .before .before .before .before .before .before .before .before .before .before .before .before .before .before .before .before .before .before .before .before .before .record-at .result) (sym (c .before .before .before .before .before .before .before .before .before .before .before .before .before .before .before .before .before .before .is-single .ensures) ∙ c .before .before .before .before .before .before .before .before .before .before .before .before .before .before .before .before .before .if2 .taken))) (x .1 .0)) (room-of (take (length (a .events .now) - l .at) (drop (l .at) (a .events .now))) (c .before .before .before .before .before .before .before .before .before .before .before .before .before .before .before .before .before .before .before .before .before .before .record-at .result) (c .before .before .before .before .before .before .before .before .entry-turn .result .used) (c .before .before .before .before .before .before .before .before .before .before .before .before .before .before .before .before .before .before .before .before .before .before .record-at .ensures) (room-write (c .before .before .before .before .before .before .before .before .before .before .before .before .before .before .before .before .before .before .before .before .before .before .record-at .result) (c .before .before .before .before .before .before .before .before .entry-turn .result .used) (subst (λ (n : ℕ). c .before .before .before .before .before .before .before .before .entry-turn .result .used ≤ 192 + 27 * n) (tail-counts (take (length (a .events .now) - l .at) (drop (l .at) (a .events .now))) (tailAt (c .before .before .before .before .before .before .before .before .before .before .before .before .before .before .before .before .before .before .before .before .before .before .record-at .result)) (tailOf (c .before .before .before .before .before .before .before .before .before .before .before .before .before .before .before .before .before .before .before .before .before .before .record-at .result)) (tail-there (take (length (a .events .now) - l .at) (drop (l .at) (a .events .now))) (c .before .before .before .before .before .before .before .before .before .before .before .before .before .before .before .before .before .before .before .before .before .before .record-at .result) (c .before .before .before .before .before .before .before .before .before .before .before .before .before .before .before .before .before .before .before .before .before .before .record-at .ensures) (some-next (a .scheme) (a .events .now) (a .out .now) (a .fx .now) (a .end) (l .out) (l .fx) (l .words) (stateOf (l .own) (l .slots) (l .next) (l .head) (l .all) (l .outside) (handlesWith (l .handles)) (l .queue)) (l .at) (l .j) (l .inv .0) (c .before .before .before .before .before .before .before .before .before .before .before .before .before .before .before .before .before .before .before .before .before .before .before .before .loop-test .taken)))) ((c .before .before .before .before .before .before .before .before .entry-turn .ensures (stateOf (l .own) (l .slots) (l .next) (l .head) (l .all) (l .outside) (handlesWith (l .handles)) (l .queue)) (l .outside) (l .words) (take (tailOf (c .before .before .before .before .before .before .before .before .before .before .before .before .before .before .before .before .before .before .before .before .before .before .record-at .result)) (drop (tailAt (c .before .before .before .before .before .before .before .before .before .before .before .before .before .before .before .before .before .before .before .before .before .before .record-at .result)) (take (length (a .events .now) - l .at) (drop (l .at) (a .events .now))))) (single-one (c .before .before .before .before .before .before .before .before .before .before .before .before .before .before .before .before .before .before .before .before .before .before .record-at .result) (sym (c .before .before .before .before .before .before .before .before .before .before .before .before .before .before .before .before .before .before .is-single .ensures) ∙ c .before .before .before .before .before .before .before .before .before .before .before .before .before .before .before .before .before .if2 .taken) (take (length (a .events .now) - l .at) (drop (l .at) (a .events .now))) (tail-there (take (length (a .events .now) - l .at) (drop (l .at) (a .events .now))) (c .before .before .before .before .before .before .before .before .before .before .before .before .before .before .before .before .before .before .before .before .before .before .record-at .result) (c .before .before .before .before .before .before .before .before .before .before .before .before .before .before .before .before .before .before .before .before .before .before .record-at .ensures) (some-next (a .scheme) (a .events .now) (a .out .now) (a .fx .now) (a .end) (l .out) (l .fx) (l .words) (stateOf (l .own) (l .slots) (l .next) (l .head) (l .all) (l .outside) (handlesWith (l .handles)) (l .queue)) (l .at) (l .j) (l .inv .0) (c .before .before .before .before .before .before .before .before .before .before .before .before .before .before .before .before .before .before .before .before .before .before .before .before .loop-test .taken)))) (c .before .before .before .before .before .before .before .before .before .before .before .before .before .before .before .entry-of .ensures) (whole (a .scheme) (a .events .now) (a .out .now) (a .fx .now) (a .end) (l .out) (l .fx) (l .words) (stateOf (l .own) (l .slots) (l .next) (l .head) (l .all) (l .outside) (handlesWith (l .handles)) (l .queue)) (l .at) (l .j) (l .inv .0)) (refl, refl, refl)) .1 .1)))), l .inv .1, l .inv .2, l .inv .3)
 
 is-whole-requires : tie.Need-is-whole-requires Inv-loop μ-loop
 is-whole-requires c κs = search needs
@@ -153,28 +154,28 @@ part-whole-turn-end : tie.Need-part-whole-turn-end Inv-loop μ-loop
 part-whole-turn-end c = omega arith
 
 sub-whole-turn-2 : tie.Need-sub-whole-turn-2 Inv-loop μ-loop
-sub-whole-turn-2 c = let a = c .before .before .before .before .before .before .before .before .before .before .before .before .before .before .before .before .before .before .before .before .args in let l = c .before .before .before .before .before .before .before .before .before .before .before .before .before .loop in omega (arith, in-out (a .scheme) (a .events .now) (a .out .now) (a .fx .now) (a .end) (l .out) (l .fx) (l .words) (stateOf (l .own) (l .slots) (l .next) (l .head) (l .all) (l .outside) (l .handles) (l .queue)) (l .at) (l .j) (l .inv .0))
+sub-whole-turn-2 c = let a = c .before .before .before .before .before .before .before .before .before .before .before .before .before .before .before .before .before .before .before .before .args in let l = c .before .before .before .before .before .before .before .before .before .before .before .before .before .loop in omega (arith, in-out (a .scheme) (a .events .now) (a .out .now) (a .fx .now) (a .end) (l .out) (l .fx) (l .words) (stateOf (l .own) (l .slots) (l .next) (l .head) (l .all) (l .outside) (handlesWith (l .handles)) (l .queue)) (l .at) (l .j) (l .inv .0))
 
 part-whole-turn-start-2 : tie.Need-part-whole-turn-start-2 Inv-loop μ-loop
-part-whole-turn-start-2 c = let a = c .before .before .before .before .before .before .before .before .before .before .before .before .before .before .before .before .before .before .before .before .args in let l = c .before .before .before .before .before .before .before .before .before .before .before .before .before .loop in omega (arith, in-out (a .scheme) (a .events .now) (a .out .now) (a .fx .now) (a .end) (l .out) (l .fx) (l .words) (stateOf (l .own) (l .slots) (l .next) (l .head) (l .all) (l .outside) (l .handles) (l .queue)) (l .at) (l .j) (l .inv .0))
+part-whole-turn-start-2 c = let a = c .before .before .before .before .before .before .before .before .before .before .before .before .before .before .before .before .before .before .before .before .args in let l = c .before .before .before .before .before .before .before .before .before .before .before .before .before .loop in omega (arith, in-out (a .scheme) (a .events .now) (a .out .now) (a .fx .now) (a .end) (l .out) (l .fx) (l .words) (stateOf (l .own) (l .slots) (l .next) (l .head) (l .all) (l .outside) (handlesWith (l .handles)) (l .queue)) (l .at) (l .j) (l .inv .0))
 
 part-whole-turn-end-2 : tie.Need-part-whole-turn-end-2 Inv-loop μ-loop
 part-whole-turn-end-2 c = omega arith
 
 whole-turn-requires : tie.Need-whole-turn-requires Inv-loop μ-loop
-whole-turn-requires c κs = let a = c .before .before .before .before .before .before .before .before .before .before .before .before .before .before .before .before .before .before .before .before .before .args in let l = c .before .before .before .before .before .before .before .before .before .before .before .before .before .before .loop in (whole (a .scheme) (a .events .now) (a .out .now) (a .fx .now) (a .end) (l .out) (l .fx) (l .words) (stateOf (l .own) (l .slots) (l .next) (l .head) (l .all) (l .outside) (l .handles) (l .queue)) (l .at) (l .j) (l .inv .0), (some-next (a .scheme) (a .events .now) (a .out .now) (a .fx .now) (a .end) (l .out) (l .fx) (l .words) (stateOf (l .own) (l .slots) (l .next) (l .head) (l .all) (l .outside) (l .handles) (l .queue)) (l .at) (l .j) (l .inv .0) (c .before .before .before .before .before .before .before .before .before .before .before .before .before .loop-test .taken), (c .before .before .before .before .before .before .before .before .before .before .before .record-at .ensures, sym (c .before .before .before .before .before .is-whole .ensures) ∙ c .before .before .before .before .if3 .taken)))
+whole-turn-requires c κs = let a = c .before .before .before .before .before .before .before .before .before .before .before .before .before .before .before .before .before .before .before .before .before .args in let l = c .before .before .before .before .before .before .before .before .before .before .before .before .before .before .loop in (whole (a .scheme) (a .events .now) (a .out .now) (a .fx .now) (a .end) (l .out) (l .fx) (l .words) (stateOf (l .own) (l .slots) (l .next) (l .head) (l .all) (l .outside) (handlesWith (l .handles)) (l .queue)) (l .at) (l .j) (l .inv .0), (some-next (a .scheme) (a .events .now) (a .out .now) (a .fx .now) (a .end) (l .out) (l .fx) (l .words) (stateOf (l .own) (l .slots) (l .next) (l .head) (l .all) (l .outside) (handlesWith (l .handles)) (l .queue)) (l .at) (l .j) (l .inv .0) (c .before .before .before .before .before .before .before .before .before .before .before .before .before .loop-test .taken), (c .before .before .before .before .before .before .before .before .before .before .before .record-at .ensures, sym (c .before .before .before .before .before .is-whole .ensures) ∙ c .before .before .before .before .if3 .taken)))
 
 add-j-3 : tie.Need-add-j-3 Inv-loop μ-loop
-add-j-3 c = let a = c .before .before .before .before .before .before .before .before .before .before .before .before .before .before .before .before .before .before .before .before .before .before .before .before .before .before .before .before .before .before .before .before .before .before .before .before .before .args in let l = c .before .before .before .before .before .before .before .before .before .before .before .before .before .before .before .before .before .before .before .before .before .before .before .before .before .before .before .before .before .before .loop in omega (arith, room-more (a .scheme) (a .events .now) (a .out .now) (a .fx .now) (a .end) (l .out) (l .fx) (l .words) (stateOf (l .own) (l .slots) (l .next) (l .head) (l .all) (l .outside) (l .handles) (l .queue)) (l .at) (l .j) (l .inv .0) (c .before .before .before .before .before .before .before .before .before .before .before .before .before .before .before .before .before .before .before .before .before .before .before .before .before .before .before .before .before .loop-test .taken) (c .before .before .before .before .before .before .before .before .before .before .before .before .before .before .before .before .before .before .before .before .before .before .before .before .before .before .size-by .result) (c .before .before .before .before .before .before .before .before .before .before .before .before .before .before .before .before .before .before .before .before .before .before .before .before .before .before .size-by .ensures ∙ ap sizeOf (c .before .before .before .before .before .before .before .before .before .before .before .before .before .before .before .before .before .before .before .before .before .before .before .before .before .before .before .record-at .ensures)) (c .before .before .before .before .before .before .before .before .before .before .before .before .before .before .before .whole-turn .result .used) (c .before .before .before .before .before .before .before .before .before .before .before .before .before .before .before .whole-turn .ensures .1 .1), c .before .before .before .before .before .before .before .before .before .before .before .before .before .before .before .before .before .before .before .before .before .before .before .before .before .before .before .before .before .before .before .before .before .before .before .before .before .good .1 .1 .1 .0 .0)
+add-j-3 c = let a = c .before .before .before .before .before .before .before .before .before .before .before .before .before .before .before .before .before .before .before .before .before .before .before .before .before .before .before .before .before .before .before .before .before .before .before .before .before .before .args in let l = c .before .before .before .before .before .before .before .before .before .before .before .before .before .before .before .before .before .before .before .before .before .before .before .before .before .before .before .before .before .before .before .loop in omega (arith, room-more (a .scheme) (a .events .now) (a .out .now) (a .fx .now) (a .end) (l .out) (l .fx) (l .words) (stateOf (l .own) (l .slots) (l .next) (l .head) (l .all) (l .outside) (handlesWith (l .handles)) (l .queue)) (l .at) (l .j) (l .inv .0) (c .before .before .before .before .before .before .before .before .before .before .before .before .before .before .before .before .before .before .before .before .before .before .before .before .before .before .before .before .before .before .loop-test .taken) (c .before .before .before .before .before .before .before .before .before .before .before .before .before .before .before .before .before .before .before .before .before .before .before .before .before .before .before .size-by .result) (c .before .before .before .before .before .before .before .before .before .before .before .before .before .before .before .before .before .before .before .before .before .before .before .before .before .before .before .size-by .ensures ∙ ap sizeOf (c .before .before .before .before .before .before .before .before .before .before .before .before .before .before .before .before .before .before .before .before .before .before .before .before .before .before .before .before .record-at .ensures)) (c .before .before .before .before .before .before .before .before .before .before .before .before .before .before .before .before .whole-turn .result .used) (c .before .before .before .before .before .before .before .before .before .before .before .before .before .before .before .before .whole-turn .ensures .1 .1), c .before .before .before .before .before .before .before .before .before .before .before .before .before .before .before .before .before .before .before .before .before .before .before .before .before .before .before .before .before .before .before .before .before .before .before .before .before .before .good .1 .1 .1 .0 .0)
 
 add-at-3 : tie.Need-add-at-3 Inv-loop μ-loop
-add-at-3 c = let a = c .before .before .before .before .before .before .before .before .before .before .before .before .before .before .before .before .before .before .before .before .before .before .before .before .before .before .before .before .before .before .before .before .before .before .before .before .before .args in let l = c .before .before .before .before .before .before .before .before .before .before .before .before .before .before .before .before .before .before .before .before .before .before .before .before .before .before .before .before .before .before .loop in omega (arith, place-more (a .scheme) (a .events .now) (a .out .now) (a .fx .now) (a .end) (l .out) (l .fx) (l .words) (stateOf (l .own) (l .slots) (l .next) (l .head) (l .all) (l .outside) (l .handles) (l .queue)) (l .at) (l .j) (l .inv .0) (c .before .before .before .before .before .before .before .before .before .before .before .before .before .before .before .before .before .before .before .before .before .before .before .before .before .before .before .before .before .loop-test .taken) (c .before .before .before .before .before .before .before .before .before .before .before .before .before .before .before .before .before .before .before .before .before .before .before .before .before .before .size-by .result) (c .before .before .before .before .before .before .before .before .before .before .before .before .before .before .before .before .before .before .before .before .before .before .before .before .before .before .size-by .ensures ∙ ap sizeOf (c .before .before .before .before .before .before .before .before .before .before .before .before .before .before .before .before .before .before .before .before .before .before .before .before .before .before .before .record-at .ensures)), c .before .before .before .before .before .before .before .before .before .before .before .before .before .before .before .before .before .before .before .before .before .before .before .before .before .before .before .before .before .before .before .before .before .before .before .before .before .good .1 .0 .0)
+add-at-3 c = let a = c .before .before .before .before .before .before .before .before .before .before .before .before .before .before .before .before .before .before .before .before .before .before .before .before .before .before .before .before .before .before .before .before .before .before .before .before .before .before .args in let l = c .before .before .before .before .before .before .before .before .before .before .before .before .before .before .before .before .before .before .before .before .before .before .before .before .before .before .before .before .before .before .before .loop in omega (arith, place-more (a .scheme) (a .events .now) (a .out .now) (a .fx .now) (a .end) (l .out) (l .fx) (l .words) (stateOf (l .own) (l .slots) (l .next) (l .head) (l .all) (l .outside) (handlesWith (l .handles)) (l .queue)) (l .at) (l .j) (l .inv .0) (c .before .before .before .before .before .before .before .before .before .before .before .before .before .before .before .before .before .before .before .before .before .before .before .before .before .before .before .before .before .before .loop-test .taken) (c .before .before .before .before .before .before .before .before .before .before .before .before .before .before .before .before .before .before .before .before .before .before .before .before .before .before .before .size-by .result) (c .before .before .before .before .before .before .before .before .before .before .before .before .before .before .before .before .before .before .before .before .before .before .before .before .before .before .before .size-by .ensures ∙ ap sizeOf (c .before .before .before .before .before .before .before .before .before .before .before .before .before .before .before .before .before .before .before .before .before .before .before .before .before .before .before .before .record-at .ensures)), c .before .before .before .before .before .before .before .before .before .before .before .before .before .before .before .before .before .before .before .before .before .before .before .before .before .before .before .before .before .before .before .before .before .before .before .before .before .before .good .1 .0 .0)
 
 loop-less-3 : tie.Need-loop-less-3 Inv-loop μ-loop
-loop-less-3 c = let a = c .before .before .before .before .before .before .before .before .before .before .before .before .before .before .before .before .before .before .before .before .before .before .before .before .before .before .before .before .before .before .before .before .before .before .before .before .before .args in let l = c .before .before .before .before .before .before .before .before .before .before .before .before .before .before .before .before .before .before .before .before .before .before .before .before .before .before .before .before .before .before .loop in omega (arith, place-more (a .scheme) (a .events .now) (a .out .now) (a .fx .now) (a .end) (l .out) (l .fx) (l .words) (stateOf (l .own) (l .slots) (l .next) (l .head) (l .all) (l .outside) (l .handles) (l .queue)) (l .at) (l .j) (l .inv .0) (c .before .before .before .before .before .before .before .before .before .before .before .before .before .before .before .before .before .before .before .before .before .before .before .before .before .before .before .before .before .loop-test .taken) (c .before .before .before .before .before .before .before .before .before .before .before .before .before .before .before .before .before .before .before .before .before .before .before .before .before .before .size-by .result) (c .before .before .before .before .before .before .before .before .before .before .before .before .before .before .before .before .before .before .before .before .before .before .before .before .before .before .size-by .ensures ∙ ap sizeOf (c .before .before .before .before .before .before .before .before .before .before .before .before .before .before .before .before .before .before .before .before .before .before .before .before .before .before .before .record-at .ensures)), some-size (a .scheme) (a .events .now) (a .out .now) (a .fx .now) (a .end) (l .out) (l .fx) (l .words) (stateOf (l .own) (l .slots) (l .next) (l .head) (l .all) (l .outside) (l .handles) (l .queue)) (l .at) (l .j) (l .inv .0) (c .before .before .before .before .before .before .before .before .before .before .before .before .before .before .before .before .before .before .before .before .before .before .before .before .before .before .before .before .before .loop-test .taken) (c .before .before .before .before .before .before .before .before .before .before .before .before .before .before .before .before .before .before .before .before .before .before .before .before .before .before .size-by .result) (c .before .before .before .before .before .before .before .before .before .before .before .before .before .before .before .before .before .before .before .before .before .before .before .before .before .before .size-by .ensures ∙ ap sizeOf (c .before .before .before .before .before .before .before .before .before .before .before .before .before .before .before .before .before .before .before .before .before .before .before .before .before .before .before .record-at .ensures)))
+loop-less-3 c = let a = c .before .before .before .before .before .before .before .before .before .before .before .before .before .before .before .before .before .before .before .before .before .before .before .before .before .before .before .before .before .before .before .before .before .before .before .before .before .before .args in let l = c .before .before .before .before .before .before .before .before .before .before .before .before .before .before .before .before .before .before .before .before .before .before .before .before .before .before .before .before .before .before .before .loop in omega (arith, place-more (a .scheme) (a .events .now) (a .out .now) (a .fx .now) (a .end) (l .out) (l .fx) (l .words) (stateOf (l .own) (l .slots) (l .next) (l .head) (l .all) (l .outside) (handlesWith (l .handles)) (l .queue)) (l .at) (l .j) (l .inv .0) (c .before .before .before .before .before .before .before .before .before .before .before .before .before .before .before .before .before .before .before .before .before .before .before .before .before .before .before .before .before .before .loop-test .taken) (c .before .before .before .before .before .before .before .before .before .before .before .before .before .before .before .before .before .before .before .before .before .before .before .before .before .before .before .size-by .result) (c .before .before .before .before .before .before .before .before .before .before .before .before .before .before .before .before .before .before .before .before .before .before .before .before .before .before .before .size-by .ensures ∙ ap sizeOf (c .before .before .before .before .before .before .before .before .before .before .before .before .before .before .before .before .before .before .before .before .before .before .before .before .before .before .before .before .record-at .ensures)), some-size (a .scheme) (a .events .now) (a .out .now) (a .fx .now) (a .end) (l .out) (l .fx) (l .words) (stateOf (l .own) (l .slots) (l .next) (l .head) (l .all) (l .outside) (handlesWith (l .handles)) (l .queue)) (l .at) (l .j) (l .inv .0) (c .before .before .before .before .before .before .before .before .before .before .before .before .before .before .before .before .before .before .before .before .before .before .before .before .before .before .before .before .before .before .loop-test .taken) (c .before .before .before .before .before .before .before .before .before .before .before .before .before .before .before .before .before .before .before .before .before .before .before .before .before .before .before .size-by .result) (c .before .before .before .before .before .before .before .before .before .before .before .before .before .before .before .before .before .before .before .before .before .before .before .before .before .before .before .size-by .ensures ∙ ap sizeOf (c .before .before .before .before .before .before .before .before .before .before .before .before .before .before .before .before .before .before .before .before .before .before .before .before .before .before .before .before .record-at .ensures)))
 
 loop-again-3 : tie.Need-loop-again-3 Inv-loop μ-loop
-loop-again-3 c = let a = c .before .before .before .before .before .before .before .before .before .before .before .before .before .before .before .before .before .before .before .before .before .before .before .before .before .before .before .before .before .before .before .before .before .before .before .before .before .args in let l = c .before .before .before .before .before .before .before .before .before .before .before .before .before .before .before .before .before .before .before .before .before .before .before .before .before .before .before .before .before .before .loop in (goes-on-told (a .scheme) (a .events .now) (a .out .now) (a .fx .now) (a .end) (l .out) (l .fx) (l .words) (stateOf (l .own) (l .slots) (l .next) (l .head) (l .all) (l .outside) (l .handles) (l .queue)) (l .at) (l .j) (l .inv .0) (c .before .before .before .before .before .before .before .before .before .before .before .before .before .before .before .before .before .before .before .before .before .before .before .before .before .before .before .before .before .loop-test .taken) (c .before .before .before .before .before .before .before .before .before .before .before .before .before .before .before .before .before .before .before .before .before .before .before .before .before .before .size-by .result) (c .before .before .before .before .before .before .before .before .before .before .before .before .before .before .before .before .before .before .before .before .before .before .before .before .before .before .size-by .ensures ∙ ap sizeOf (c .before .before .before .before .before .before .before .before .before .before .before .before .before .before .before .before .before .before .before .before .before .before .before .before .before .before .before .record-at .ensures)) _ _ _ _ (c .before .before .before .before .before .before .before .before .before .before .before .before .before .before .before .whole-turn .result .used) (c .before .before .before .before .before .before .before .before .before .before .before .before .before .before .before .whole-turn .ensures .0) (c .before .before .before .before .before .before .before .before .before .before .before .before .before .before .before .whole-turn .ensures .1 .0) (c .before .before .before .before .before .before .before .before .before .before .before .before .before .before .before .whole-turn .ensures .1 .1), l .inv .1, l .inv .2, l .inv .3)
+loop-again-3 c = let a = c .before .before .before .before .before .before .before .before .before .before .before .before .before .before .before .before .before .before .before .before .before .before .before .before .before .before .before .before .before .before .before .before .before .before .before .before .before .before .args in let l = c .before .before .before .before .before .before .before .before .before .before .before .before .before .before .before .before .before .before .before .before .before .before .before .before .before .before .before .before .before .before .before .loop in (goes-on-told (a .scheme) (a .events .now) (a .out .now) (a .fx .now) (a .end) (l .out) (l .fx) (l .words) (stateOf (l .own) (l .slots) (l .next) (l .head) (l .all) (l .outside) (handlesWith (l .handles)) (l .queue)) (l .at) (l .j) (l .inv .0) (c .before .before .before .before .before .before .before .before .before .before .before .before .before .before .before .before .before .before .before .before .before .before .before .before .before .before .before .before .before .before .loop-test .taken) (c .before .before .before .before .before .before .before .before .before .before .before .before .before .before .before .before .before .before .before .before .before .before .before .before .before .before .before .size-by .result) (c .before .before .before .before .before .before .before .before .before .before .before .before .before .before .before .before .before .before .before .before .before .before .before .before .before .before .before .size-by .ensures ∙ ap sizeOf (c .before .before .before .before .before .before .before .before .before .before .before .before .before .before .before .before .before .before .before .before .before .before .before .before .before .before .before .before .record-at .ensures)) _ _ _ _ (c .before .before .before .before .before .before .before .before .before .before .before .before .before .before .before .before .whole-turn .result .used) (c .before .before .before .before .before .before .before .before .before .before .before .before .before .before .before .before .whole-turn .ensures .0) (c .before .before .before .before .before .before .before .before .before .before .before .before .before .before .before .before .whole-turn .ensures .1 .0) (c .before .before .before .before .before .before .before .before .before .before .before .before .before .before .before .before .whole-turn .ensures .1 .1), l .inv .1, l .inv .2, l .inv .3)
 
 sub-find : tie.Need-sub-find Inv-loop μ-loop
 sub-find c = omega (arith, c .before .before .before .before .before .before .before .before .before .before .loop .inv .0 .place)
@@ -198,13 +199,13 @@ mul-v-2 : tie.Need-mul-v-2 Inv-loop μ-loop
 mul-v-2 c = search needs
 
 array-copy-out-v-3 : tie.Need-array-copy-out-v-3 Inv-loop μ-loop
-array-copy-out-v-3 c = let a = c .before .before .before .before .before .before .before .before .before .before .before .before .before .before .before .before .before .before .before .before .before .before .before .args in let l = c .before .before .before .before .before .before .before .before .before .before .before .before .before .before .before .before .loop in omega (arith, c .before .before .find .ensures .0 .1, whole (a .scheme) (a .events .now) (a .out .now) (a .fx .now) (a .end) (l .out) (l .fx) (l .words) (stateOf (l .own) (l .slots) (l .next) (l .head) (l .all) (l .outside) (l .handles) (l .queue)) (l .at) (l .j) (l .inv .0) .slots)
+array-copy-out-v-3 c = let a = c .before .before .before .before .before .before .before .before .before .before .before .before .before .before .before .before .before .before .before .before .before .before .before .args in let l = c .before .before .before .before .before .before .before .before .before .before .before .before .before .before .before .before .loop in omega (arith, c .before .before .find .ensures .0 .1, whole (a .scheme) (a .events .now) (a .out .now) (a .fx .now) (a .end) (l .out) (l .fx) (l .words) (stateOf (l .own) (l .slots) (l .next) (l .head) (l .all) (l .outside) (handlesWith (l .handles)) (l .queue)) (l .at) (l .j) (l .inv .0) .slots)
 
 known-requires : tie.Need-known-requires Inv-loop μ-loop
 known-requires c κs = search needs
 
-array-read-t130 : tie.Need-array-read-t130 Inv-loop μ-loop
-array-read-t130 c = let a = c .before .before .before .before .before .before .before .before .before .before .before .before .before .before .before .before .before .before .before .before .before .before .before .before .before .args in let l = c .before .before .before .before .before .before .before .before .before .before .before .before .before .before .before .before .before .before .loop in omega (arith, c .before .before .before .before .find .ensures .0 .1, whole (a .scheme) (a .events .now) (a .out .now) (a .fx .now) (a .end) (l .out) (l .fx) (l .words) (stateOf (l .own) (l .slots) (l .next) (l .head) (l .all) (l .outside) (l .handles) (l .queue)) (l .at) (l .j) (l .inv .0) .next)
+array-read-t129 : tie.Need-array-read-t129 Inv-loop μ-loop
+array-read-t129 c = let a = c .before .before .before .before .before .before .before .before .before .before .before .before .before .before .before .before .before .before .before .before .before .before .before .before .before .args in let l = c .before .before .before .before .before .before .before .before .before .before .before .before .before .before .before .before .before .before .loop in omega (arith, c .before .before .before .before .find .ensures .0 .1, whole (a .scheme) (a .events .now) (a .out .now) (a .fx .now) (a .end) (l .out) (l .fx) (l .words) (stateOf (l .own) (l .slots) (l .next) (l .head) (l .all) (l .outside) (handlesWith (l .handles)) (l .queue)) (l .at) (l .j) (l .inv .0) .next)
 
 slice-aggregate-turn : tie.Need-slice-aggregate-turn Inv-loop μ-loop
 slice-aggregate-turn c = let l = c .before .before .before .before .before .before .before .before .before .before .before .before .before .before .before .before .before .before .before .before .before .before .loop in sym (c .before .before .before .before .before .before .before .before .find .ensures .1 .0 .0 ∙ l .inv .2)
@@ -213,10 +214,10 @@ slice-aggregate-turn-2 : tie.Need-slice-aggregate-turn-2 Inv-loop μ-loop
 slice-aggregate-turn-2 c = let l = c .before .before .before .before .before .before .before .before .before .before .before .before .before .before .before .before .before .before .before .before .before .before .before .loop in sym (c .before .before .before .before .before .before .before .before .before .find .ensures .1 .1 .0 ∙ l .inv .3)
 
 sub-turn : tie.Need-sub-turn Inv-loop μ-loop
-sub-turn c = let a = c .before .before .before .before .before .before .before .before .before .before .before .before .before .before .before .before .before .before .before .before .before .before .before .before .before .before .before .before .before .before .args in let l = c .before .before .before .before .before .before .before .before .before .before .before .before .before .before .before .before .before .before .before .before .before .before .before .loop in omega (arith, in-out (a .scheme) (a .events .now) (a .out .now) (a .fx .now) (a .end) (l .out) (l .fx) (l .words) (stateOf (l .own) (l .slots) (l .next) (l .head) (l .all) (l .outside) (l .handles) (l .queue)) (l .at) (l .j) (l .inv .0))
+sub-turn c = let a = c .before .before .before .before .before .before .before .before .before .before .before .before .before .before .before .before .before .before .before .before .before .before .before .before .before .before .before .before .before .before .args in let l = c .before .before .before .before .before .before .before .before .before .before .before .before .before .before .before .before .before .before .before .before .before .before .before .loop in omega (arith, in-out (a .scheme) (a .events .now) (a .out .now) (a .fx .now) (a .end) (l .out) (l .fx) (l .words) (stateOf (l .own) (l .slots) (l .next) (l .head) (l .all) (l .outside) (handlesWith (l .handles)) (l .queue)) (l .at) (l .j) (l .inv .0))
 
 part-turn-start : tie.Need-part-turn-start Inv-loop μ-loop
-part-turn-start c = let a = c .before .before .before .before .before .before .before .before .before .before .before .before .before .before .before .before .before .before .before .before .before .before .before .before .before .before .before .before .before .before .args in let l = c .before .before .before .before .before .before .before .before .before .before .before .before .before .before .before .before .before .before .before .before .before .before .before .loop in omega (arith, in-out (a .scheme) (a .events .now) (a .out .now) (a .fx .now) (a .end) (l .out) (l .fx) (l .words) (stateOf (l .own) (l .slots) (l .next) (l .head) (l .all) (l .outside) (l .handles) (l .queue)) (l .at) (l .j) (l .inv .0))
+part-turn-start c = let a = c .before .before .before .before .before .before .before .before .before .before .before .before .before .before .before .before .before .before .before .before .before .before .before .before .before .before .before .before .before .before .args in let l = c .before .before .before .before .before .before .before .before .before .before .before .before .before .before .before .before .before .before .before .before .before .before .before .loop in omega (arith, in-out (a .scheme) (a .events .now) (a .out .now) (a .fx .now) (a .end) (l .out) (l .fx) (l .words) (stateOf (l .own) (l .slots) (l .next) (l .head) (l .all) (l .outside) (handlesWith (l .handles)) (l .queue)) (l .at) (l .j) (l .inv .0))
 
 part-turn-end : tie.Need-part-turn-end Inv-loop μ-loop
 part-turn-end c = omega arith
@@ -228,28 +229,28 @@ mul-slots-2 : tie.Need-mul-slots-2 Inv-loop μ-loop
 mul-slots-2 c = omega (arith, c .before .before .before .before .before .before .before .before .before .before .before .before .before .before .before .before .find .ensures .0 .1)
 
 array-set-from-slots-2 : tie.Need-array-set-from-slots-2 Inv-loop μ-loop
-array-set-from-slots-2 c = let a = c .before .before .before .before .before .before .before .before .before .before .before .before .before .before .before .before .before .before .before .before .before .before .before .before .before .before .before .before .before .before .before .before .before .before .before .before .before .args in let l = c .before .before .before .before .before .before .before .before .before .before .before .before .before .before .before .before .before .before .before .before .before .before .before .before .before .before .before .before .before .before .loop in omega (arith, c .before .before .before .before .before .before .before .before .before .before .before .before .before .before .before .before .find .ensures .0 .1, whole (a .scheme) (a .events .now) (a .out .now) (a .fx .now) (a .end) (l .out) (l .fx) (l .words) (stateOf (l .own) (l .slots) (l .next) (l .head) (l .all) (l .outside) (l .handles) (l .queue)) (l .at) (l .j) (l .inv .0) .slots)
+array-set-from-slots-2 c = let a = c .before .before .before .before .before .before .before .before .before .before .before .before .before .before .before .before .before .before .before .before .before .before .before .before .before .before .before .before .before .before .before .before .before .before .before .before .before .args in let l = c .before .before .before .before .before .before .before .before .before .before .before .before .before .before .before .before .before .before .before .before .before .before .before .before .before .before .before .before .before .before .loop in omega (arith, c .before .before .before .before .before .before .before .before .before .before .before .before .before .before .before .before .find .ensures .0 .1, whole (a .scheme) (a .events .now) (a .out .now) (a .fx .now) (a .end) (l .out) (l .fx) (l .words) (stateOf (l .own) (l .slots) (l .next) (l .head) (l .all) (l .outside) (handlesWith (l .handles)) (l .queue)) (l .at) (l .j) (l .inv .0) .slots)
 
 array-write-next-2 : tie.Need-array-write-next-2 Inv-loop μ-loop
-array-write-next-2 c = let a = c .before .before .before .before .before .before .before .before .before .before .before .before .before .before .before .before .before .before .before .before .before .before .before .before .before .before .before .before .before .before .before .before .before .before .before .before .before .args in let l = c .before .before .before .before .before .before .before .before .before .before .before .before .before .before .before .before .before .before .before .before .before .before .before .before .before .before .before .before .before .before .loop in omega (arith, c .before .before .before .before .before .before .before .before .before .before .before .before .before .before .before .before .find .ensures .0 .1, whole (a .scheme) (a .events .now) (a .out .now) (a .fx .now) (a .end) (l .out) (l .fx) (l .words) (stateOf (l .own) (l .slots) (l .next) (l .head) (l .all) (l .outside) (l .handles) (l .queue)) (l .at) (l .j) (l .inv .0) .next)
+array-write-next-2 c = let a = c .before .before .before .before .before .before .before .before .before .before .before .before .before .before .before .before .before .before .before .before .before .before .before .before .before .before .before .before .before .before .before .before .before .before .before .before .before .args in let l = c .before .before .before .before .before .before .before .before .before .before .before .before .before .before .before .before .before .before .before .before .before .before .before .before .before .before .before .before .before .before .loop in omega (arith, c .before .before .before .before .before .before .before .before .before .before .before .before .before .before .before .before .find .ensures .0 .1, whole (a .scheme) (a .events .now) (a .out .now) (a .fx .now) (a .end) (l .out) (l .fx) (l .words) (stateOf (l .own) (l .slots) (l .next) (l .head) (l .all) (l .outside) (handlesWith (l .handles)) (l .queue)) (l .at) (l .j) (l .inv .0) .next)
 
 add-j-4 : tie.Need-add-j-4 Inv-loop μ-loop
-add-j-4 c = let a = c .before .before .before .before .before .before .before .before .before .before .before .before .before .before .before .before .before .before .before .before .before .before .before .before .before .before .before .before .before .before .before .before .before .before .before .before .before .before .args in let l = c .before .before .before .before .before .before .before .before .before .before .before .before .before .before .before .before .before .before .before .before .before .before .before .before .before .before .before .before .before .before .before .loop in omega (arith, room-more (a .scheme) (a .events .now) (a .out .now) (a .fx .now) (a .end) (l .out) (l .fx) (l .words) (stateOf (l .own) (l .slots) (l .next) (l .head) (l .all) (l .outside) (l .handles) (l .queue)) (l .at) (l .j) (l .inv .0) (c .before .before .before .before .before .before .before .before .before .before .before .before .before .before .before .before .before .before .before .before .before .before .before .before .before .before .before .before .before .before .loop-test .taken) (c .before .before .before .before .before .before .before .before .before .before .before .before .before .before .before .before .before .before .before .before .before .before .before .before .before .before .before .size-by .result) (c .before .before .before .before .before .before .before .before .before .before .before .before .before .before .before .before .before .before .before .before .before .before .before .before .before .before .before .size-by .ensures ∙ ap sizeOf (c .before .before .before .before .before .before .before .before .before .before .before .before .before .before .before .before .before .before .before .before .before .before .before .before .before .before .before .before .record-at .ensures)) (c .before .before .before .before .before .before .turn .result .used) (room-of (take (length (a .events .now) - l .at) (drop (l .at) (a .events .now))) (c .before .before .before .before .before .before .before .before .before .before .before .before .before .before .before .before .before .before .before .before .before .before .before .before .before .before .before .before .record-at .result) (c .before .before .before .before .before .before .turn .result .used) (c .before .before .before .before .before .before .before .before .before .before .before .before .before .before .before .before .before .before .before .before .before .before .before .before .before .before .before .before .record-at .ensures) (c .before .before .before .before .before .before .turn .ensures .1)), c .before .before .before .before .before .before .before .before .before .before .before .before .before .before .before .before .before .before .before .before .before .before .before .before .before .before .before .before .before .before .before .before .before .before .before .before .before .before .good .1 .1 .1 .0 .0)
+add-j-4 c = let a = c .before .before .before .before .before .before .before .before .before .before .before .before .before .before .before .before .before .before .before .before .before .before .before .before .before .before .before .before .before .before .before .before .before .before .before .before .before .before .args in let l = c .before .before .before .before .before .before .before .before .before .before .before .before .before .before .before .before .before .before .before .before .before .before .before .before .before .before .before .before .before .before .before .loop in omega (arith, room-more (a .scheme) (a .events .now) (a .out .now) (a .fx .now) (a .end) (l .out) (l .fx) (l .words) (stateOf (l .own) (l .slots) (l .next) (l .head) (l .all) (l .outside) (handlesWith (l .handles)) (l .queue)) (l .at) (l .j) (l .inv .0) (c .before .before .before .before .before .before .before .before .before .before .before .before .before .before .before .before .before .before .before .before .before .before .before .before .before .before .before .before .before .before .loop-test .taken) (c .before .before .before .before .before .before .before .before .before .before .before .before .before .before .before .before .before .before .before .before .before .before .before .before .before .before .before .size-by .result) (c .before .before .before .before .before .before .before .before .before .before .before .before .before .before .before .before .before .before .before .before .before .before .before .before .before .before .before .size-by .ensures ∙ ap sizeOf (c .before .before .before .before .before .before .before .before .before .before .before .before .before .before .before .before .before .before .before .before .before .before .before .before .before .before .before .before .record-at .ensures)) (c .before .before .before .before .before .before .turn .result .used) (room-of (take (length (a .events .now) - l .at) (drop (l .at) (a .events .now))) (c .before .before .before .before .before .before .before .before .before .before .before .before .before .before .before .before .before .before .before .before .before .before .before .before .before .before .before .before .record-at .result) (c .before .before .before .before .before .before .turn .result .used) (c .before .before .before .before .before .before .before .before .before .before .before .before .before .before .before .before .before .before .before .before .before .before .before .before .before .before .before .before .record-at .ensures) (c .before .before .before .before .before .before .turn .ensures .1)), c .before .before .before .before .before .before .before .before .before .before .before .before .before .before .before .before .before .before .before .before .before .before .before .before .before .before .before .before .before .before .before .before .before .before .before .before .before .before .good .1 .1 .1 .0 .0)
 
 add-at-4 : tie.Need-add-at-4 Inv-loop μ-loop
-add-at-4 c = let a = c .before .before .before .before .before .before .before .before .before .before .before .before .before .before .before .before .before .before .before .before .before .before .before .before .before .before .before .before .before .before .before .before .before .before .before .before .before .before .args in let l = c .before .before .before .before .before .before .before .before .before .before .before .before .before .before .before .before .before .before .before .before .before .before .before .before .before .before .before .before .before .before .before .loop in omega (arith, place-more (a .scheme) (a .events .now) (a .out .now) (a .fx .now) (a .end) (l .out) (l .fx) (l .words) (stateOf (l .own) (l .slots) (l .next) (l .head) (l .all) (l .outside) (l .handles) (l .queue)) (l .at) (l .j) (l .inv .0) (c .before .before .before .before .before .before .before .before .before .before .before .before .before .before .before .before .before .before .before .before .before .before .before .before .before .before .before .before .before .before .loop-test .taken) (c .before .before .before .before .before .before .before .before .before .before .before .before .before .before .before .before .before .before .before .before .before .before .before .before .before .before .before .size-by .result) (c .before .before .before .before .before .before .before .before .before .before .before .before .before .before .before .before .before .before .before .before .before .before .before .before .before .before .before .size-by .ensures ∙ ap sizeOf (c .before .before .before .before .before .before .before .before .before .before .before .before .before .before .before .before .before .before .before .before .before .before .before .before .before .before .before .before .record-at .ensures)), c .before .before .before .before .before .before .before .before .before .before .before .before .before .before .before .before .before .before .before .before .before .before .before .before .before .before .before .before .before .before .before .before .before .before .before .before .before .before .good .1 .0 .0)
+add-at-4 c = let a = c .before .before .before .before .before .before .before .before .before .before .before .before .before .before .before .before .before .before .before .before .before .before .before .before .before .before .before .before .before .before .before .before .before .before .before .before .before .before .args in let l = c .before .before .before .before .before .before .before .before .before .before .before .before .before .before .before .before .before .before .before .before .before .before .before .before .before .before .before .before .before .before .before .loop in omega (arith, place-more (a .scheme) (a .events .now) (a .out .now) (a .fx .now) (a .end) (l .out) (l .fx) (l .words) (stateOf (l .own) (l .slots) (l .next) (l .head) (l .all) (l .outside) (handlesWith (l .handles)) (l .queue)) (l .at) (l .j) (l .inv .0) (c .before .before .before .before .before .before .before .before .before .before .before .before .before .before .before .before .before .before .before .before .before .before .before .before .before .before .before .before .before .before .loop-test .taken) (c .before .before .before .before .before .before .before .before .before .before .before .before .before .before .before .before .before .before .before .before .before .before .before .before .before .before .before .size-by .result) (c .before .before .before .before .before .before .before .before .before .before .before .before .before .before .before .before .before .before .before .before .before .before .before .before .before .before .before .size-by .ensures ∙ ap sizeOf (c .before .before .before .before .before .before .before .before .before .before .before .before .before .before .before .before .before .before .before .before .before .before .before .before .before .before .before .before .record-at .ensures)), c .before .before .before .before .before .before .before .before .before .before .before .before .before .before .before .before .before .before .before .before .before .before .before .before .before .before .before .before .before .before .before .before .before .before .before .before .before .before .good .1 .0 .0)
 
 loop-less-4 : tie.Need-loop-less-4 Inv-loop μ-loop
-loop-less-4 c = let a = c .before .before .before .before .before .before .before .before .before .before .before .before .before .before .before .before .before .before .before .before .before .before .before .before .before .before .before .before .before .before .before .before .before .before .before .before .before .before .args in let l = c .before .before .before .before .before .before .before .before .before .before .before .before .before .before .before .before .before .before .before .before .before .before .before .before .before .before .before .before .before .before .before .loop in omega (arith, place-more (a .scheme) (a .events .now) (a .out .now) (a .fx .now) (a .end) (l .out) (l .fx) (l .words) (stateOf (l .own) (l .slots) (l .next) (l .head) (l .all) (l .outside) (l .handles) (l .queue)) (l .at) (l .j) (l .inv .0) (c .before .before .before .before .before .before .before .before .before .before .before .before .before .before .before .before .before .before .before .before .before .before .before .before .before .before .before .before .before .before .loop-test .taken) (c .before .before .before .before .before .before .before .before .before .before .before .before .before .before .before .before .before .before .before .before .before .before .before .before .before .before .before .size-by .result) (c .before .before .before .before .before .before .before .before .before .before .before .before .before .before .before .before .before .before .before .before .before .before .before .before .before .before .before .size-by .ensures ∙ ap sizeOf (c .before .before .before .before .before .before .before .before .before .before .before .before .before .before .before .before .before .before .before .before .before .before .before .before .before .before .before .before .record-at .ensures)), some-size (a .scheme) (a .events .now) (a .out .now) (a .fx .now) (a .end) (l .out) (l .fx) (l .words) (stateOf (l .own) (l .slots) (l .next) (l .head) (l .all) (l .outside) (l .handles) (l .queue)) (l .at) (l .j) (l .inv .0) (c .before .before .before .before .before .before .before .before .before .before .before .before .before .before .before .before .before .before .before .before .before .before .before .before .before .before .before .before .before .before .loop-test .taken) (c .before .before .before .before .before .before .before .before .before .before .before .before .before .before .before .before .before .before .before .before .before .before .before .before .before .before .before .size-by .result) (c .before .before .before .before .before .before .before .before .before .before .before .before .before .before .before .before .before .before .before .before .before .before .before .before .before .before .before .size-by .ensures ∙ ap sizeOf (c .before .before .before .before .before .before .before .before .before .before .before .before .before .before .before .before .before .before .before .before .before .before .before .before .before .before .before .before .record-at .ensures)))
+loop-less-4 c = let a = c .before .before .before .before .before .before .before .before .before .before .before .before .before .before .before .before .before .before .before .before .before .before .before .before .before .before .before .before .before .before .before .before .before .before .before .before .before .before .args in let l = c .before .before .before .before .before .before .before .before .before .before .before .before .before .before .before .before .before .before .before .before .before .before .before .before .before .before .before .before .before .before .before .loop in omega (arith, place-more (a .scheme) (a .events .now) (a .out .now) (a .fx .now) (a .end) (l .out) (l .fx) (l .words) (stateOf (l .own) (l .slots) (l .next) (l .head) (l .all) (l .outside) (handlesWith (l .handles)) (l .queue)) (l .at) (l .j) (l .inv .0) (c .before .before .before .before .before .before .before .before .before .before .before .before .before .before .before .before .before .before .before .before .before .before .before .before .before .before .before .before .before .before .loop-test .taken) (c .before .before .before .before .before .before .before .before .before .before .before .before .before .before .before .before .before .before .before .before .before .before .before .before .before .before .before .size-by .result) (c .before .before .before .before .before .before .before .before .before .before .before .before .before .before .before .before .before .before .before .before .before .before .before .before .before .before .before .size-by .ensures ∙ ap sizeOf (c .before .before .before .before .before .before .before .before .before .before .before .before .before .before .before .before .before .before .before .before .before .before .before .before .before .before .before .before .record-at .ensures)), some-size (a .scheme) (a .events .now) (a .out .now) (a .fx .now) (a .end) (l .out) (l .fx) (l .words) (stateOf (l .own) (l .slots) (l .next) (l .head) (l .all) (l .outside) (handlesWith (l .handles)) (l .queue)) (l .at) (l .j) (l .inv .0) (c .before .before .before .before .before .before .before .before .before .before .before .before .before .before .before .before .before .before .before .before .before .before .before .before .before .before .before .before .before .before .loop-test .taken) (c .before .before .before .before .before .before .before .before .before .before .before .before .before .before .before .before .before .before .before .before .before .before .before .before .before .before .before .size-by .result) (c .before .before .before .before .before .before .before .before .before .before .before .before .before .before .before .before .before .before .before .before .before .before .before .before .before .before .before .size-by .ensures ∙ ap sizeOf (c .before .before .before .before .before .before .before .before .before .before .before .before .before .before .before .before .before .before .before .before .before .before .before .before .before .before .before .before .record-at .ensures)))
 
 loop-again-4 : tie.Need-loop-again-4 Inv-loop μ-loop
-loop-again-4 c = let a = c .before .before .before .before .before .before .before .before .before .before .before .before .before .before .before .before .before .before .before .before .before .before .before .before .before .before .before .before .before .before .before .before .before .before .before .before .before .before .args in let l = c .before .before .before .before .before .before .before .before .before .before .before .before .before .before .before .before .before .before .before .before .before .before .before .before .before .before .before .before .before .before .before .loop in (goes-on-told (a .scheme) (a .events .now) (a .out .now) (a .fx .now) (a .end) (l .out) (l .fx) (l .words) (stateOf (l .own) (l .slots) (l .next) (l .head) (l .all) (l .outside) (l .handles) (l .queue)) (l .at) (l .j) (l .inv .0) (c .before .before .before .before .before .before .before .before .before .before .before .before .before .before .before .before .before .before .before .before .before .before .before .before .before .before .before .before .before .before .loop-test .taken) (c .before .before .before .before .before .before .before .before .before .before .before .before .before .before .before .before .before .before .before .before .before .before .before .before .before .before .before .size-by .result) (c .before .before .before .before .before .before .before .before .before .before .before .before .before .before .before .before .before .before .before .before .before .before .before .before .before .before .before .size-by .ensures ∙ ap sizeOf (c .before .before .before .before .before .before .before .before .before .before .before .before .before .before .before .before .before .before .before .before .before .before .before .before .before .before .before .before .record-at .ensures)) _ _ _ _ (c .before .before .before .before .before .before .turn .result .used) (found-is (take (length (a .events .now) - l .at) (drop (l .at) (a .events .now))) (length (l .fx)) (c .before .before .before .before .before .before .before .before .before .before .before .before .before .before .before .before .before .before .before .before .before .before .before .before .before .before .before .before .record-at .result) (c .before .before .before .before .before .before .before .before .before .before .before .before .before .before .before .before .before .before .before .before .before .before .before .before .before .before .before .before .record-at .ensures) (stateOf (l .own) (l .slots) (l .next) (l .head) (l .all) (l .outside) (l .handles) (l .queue)) (record { slot = getD (l .slots) (c .before .before .before .before .before .before .before .before .before .before .before .before .before .before .before .before .before .find .result) noSlot; next = getD (l .next) (c .before .before .before .before .before .before .before .before .before .before .before .before .before .before .before .before .before .find .result) 0; head = l .head; queue = l .queue; scheme = l .own }) (c .before .before .before .before .before .before .turn .result .part) _ (world (stateOf (l .own) (l .slots) (l .next) (l .head) (l .all) (l .outside) (l .handles) (l .queue)) (l .words)) _ _ _ _ (c .before .before .before .before .before .before .before .before .before .before .before .before .before .before .before .before .before .find .result) _ _ (c .before .before .before .before .before .before .before .before .before .before .before .before .before .before .before .before .before .find .ensures .1 .0 .1) (c .before .before .before .before .before .before .before .before .before .before .before .before .before .before .before .before .before .find .ensures .1 .1 .1) (c .before .before .before .before .before .before .before .before .before .before .before .before .before .before .before .before .before .find .ensures .0 .0) (c .before .before .before .before .before .before .turn .ensures .0 (stateOf (l .own) (l .slots) (l .next) (l .head) (l .all) (l .outside) (l .handles) (l .queue)) (take (tailOf (c .before .before .before .before .before .before .before .before .before .before .before .before .before .before .before .before .before .before .before .before .before .before .before .before .before .before .before .before .record-at .result)) (drop (tailAt (c .before .before .before .before .before .before .before .before .before .before .before .before .before .before .before .before .before .before .before .before .before .before .before .before .before .before .before .before .record-at .result)) (take (length (a .events .now) - l .at) (drop (l .at) (a .events .now))))) (length (l .fx)) (c .before .before .before .before .before .before .before .before .before .before .before .before .before .known .ensures)) (refl, refl, refl)) (stored-of (world (stateOf (l .own) (l .slots) (l .next) (l .head) (l .all) (l .outside) (l .handles) (l .queue)) (l .words)) _ _ (l .fx) _ (list-is (take (length (a .events .now) - l .at) (drop (l .at) (a .events .now))) (length (l .fx)) (c .before .before .before .before .before .before .before .before .before .before .before .before .before .before .before .before .before .before .before .before .before .before .before .before .before .before .before .before .record-at .result) (c .before .before .before .before .before .before .before .before .before .before .before .before .before .before .before .before .before .before .before .before .before .before .before .before .before .before .before .before .record-at .ensures)) (list-stores (take (length (a .events .now) - l .at) (drop (l .at) (a .events .now))) (length (l .fx)) (c .before .before .before .before .before .before .before .before .before .before .before .before .before .before .before .before .before .before .before .before .before .before .before .before .before .before .before .before .record-at .result) (c .before .before .before .before .before .before .before .before .before .before .before .before .before .before .before .before .before .before .before .before .before .before .before .before .before .before .before .before .record-at .ensures) (world (stateOf (l .own) (l .slots) (l .next) (l .head) (l .all) (l .outside) (l .handles) (l .queue)) (l .words)) (l .fx) (part-high ((c .before .before .before .before .before .before .before .before .before .before .before .before .before .before .before .before .before .before .before .before .before .before .before .before .before .before .before .before .record-at .result) .kind) (sym (c .before .before .before .before .before .before .before .before .before .before .before .before .before .before .before .before .before .before .before .before .before .before .is-whole .ensures) ∙ c .before .before .before .before .before .before .before .before .before .before .before .before .before .before .before .before .before .before .before .before .before .if3 .left) .1))) (room-of (take (length (a .events .now) - l .at) (drop (l .at) (a .events .now))) (c .before .before .before .before .before .before .before .before .before .before .before .before .before .before .before .before .before .before .before .before .before .before .before .before .before .before .before .before .record-at .result) (c .before .before .before .before .before .before .turn .result .used) (c .before .before .before .before .before .before .before .before .before .before .before .before .before .before .before .before .before .before .before .before .before .before .before .before .before .before .before .before .record-at .ensures) (c .before .before .before .before .before .before .turn .ensures .1)), l .inv .1, c .before .before .before .before .before .before .before .before .before .before .before .before .before .before .before .before .before .find .ensures .1 .0 .0 ∙ l .inv .2, c .before .before .before .before .before .before .before .before .before .before .before .before .before .before .before .before .before .find .ensures .1 .1 .0 ∙ l .inv .3)
+loop-again-4 c = let a = c .before .before .before .before .before .before .before .before .before .before .before .before .before .before .before .before .before .before .before .before .before .before .before .before .before .before .before .before .before .before .before .before .before .before .before .before .before .before .args in let l = c .before .before .before .before .before .before .before .before .before .before .before .before .before .before .before .before .before .before .before .before .before .before .before .before .before .before .before .before .before .before .before .loop in (goes-on-told (a .scheme) (a .events .now) (a .out .now) (a .fx .now) (a .end) (l .out) (l .fx) (l .words) (stateOf (l .own) (l .slots) (l .next) (l .head) (l .all) (l .outside) (handlesWith (l .handles)) (l .queue)) (l .at) (l .j) (l .inv .0) (c .before .before .before .before .before .before .before .before .before .before .before .before .before .before .before .before .before .before .before .before .before .before .before .before .before .before .before .before .before .before .loop-test .taken) (c .before .before .before .before .before .before .before .before .before .before .before .before .before .before .before .before .before .before .before .before .before .before .before .before .before .before .before .size-by .result) (c .before .before .before .before .before .before .before .before .before .before .before .before .before .before .before .before .before .before .before .before .before .before .before .before .before .before .before .size-by .ensures ∙ ap sizeOf (c .before .before .before .before .before .before .before .before .before .before .before .before .before .before .before .before .before .before .before .before .before .before .before .before .before .before .before .before .record-at .ensures)) _ _ _ _ (c .before .before .before .before .before .before .turn .result .used) (found-is (take (length (a .events .now) - l .at) (drop (l .at) (a .events .now))) (length (l .fx)) (c .before .before .before .before .before .before .before .before .before .before .before .before .before .before .before .before .before .before .before .before .before .before .before .before .before .before .before .before .record-at .result) (c .before .before .before .before .before .before .before .before .before .before .before .before .before .before .before .before .before .before .before .before .before .before .before .before .before .before .before .before .record-at .ensures) (stateOf (l .own) (l .slots) (l .next) (l .head) (l .all) (l .outside) (handlesWith (l .handles)) (l .queue)) (record { slot = getD (l .slots) (c .before .before .before .before .before .before .before .before .before .before .before .before .before .before .before .before .before .find .result) noSlot; next = getD (l .next) (c .before .before .before .before .before .before .before .before .before .before .before .before .before .before .before .before .before .find .result) 0; head = l .head; queue = l .queue; scheme = l .own }) (c .before .before .before .before .before .before .turn .result .part) _ (world (stateOf (l .own) (l .slots) (l .next) (l .head) (l .all) (l .outside) (handlesWith (l .handles)) (l .queue)) (l .words)) _ _ _ _ (c .before .before .before .before .before .before .before .before .before .before .before .before .before .before .before .before .before .find .result) _ _ (c .before .before .before .before .before .before .before .before .before .before .before .before .before .before .before .before .before .find .ensures .1 .0 .1) (c .before .before .before .before .before .before .before .before .before .before .before .before .before .before .before .before .before .find .ensures .1 .1 .1) (c .before .before .before .before .before .before .before .before .before .before .before .before .before .before .before .before .before .find .ensures .0 .0) (c .before .before .before .before .before .before .turn .ensures .0 (stateOf (l .own) (l .slots) (l .next) (l .head) (l .all) (l .outside) (handlesWith (l .handles)) (l .queue)) (take (tailOf (c .before .before .before .before .before .before .before .before .before .before .before .before .before .before .before .before .before .before .before .before .before .before .before .before .before .before .before .before .record-at .result)) (drop (tailAt (c .before .before .before .before .before .before .before .before .before .before .before .before .before .before .before .before .before .before .before .before .before .before .before .before .before .before .before .before .record-at .result)) (take (length (a .events .now) - l .at) (drop (l .at) (a .events .now))))) (length (l .fx)) (c .before .before .before .before .before .before .before .before .before .before .before .before .before .known .ensures)) (refl, refl, refl)) (stored-of (world (stateOf (l .own) (l .slots) (l .next) (l .head) (l .all) (l .outside) (handlesWith (l .handles)) (l .queue)) (l .words)) _ _ (l .fx) _ (list-is (take (length (a .events .now) - l .at) (drop (l .at) (a .events .now))) (length (l .fx)) (c .before .before .before .before .before .before .before .before .before .before .before .before .before .before .before .before .before .before .before .before .before .before .before .before .before .before .before .before .record-at .result) (c .before .before .before .before .before .before .before .before .before .before .before .before .before .before .before .before .before .before .before .before .before .before .before .before .before .before .before .before .record-at .ensures)) (list-stores (take (length (a .events .now) - l .at) (drop (l .at) (a .events .now))) (length (l .fx)) (c .before .before .before .before .before .before .before .before .before .before .before .before .before .before .before .before .before .before .before .before .before .before .before .before .before .before .before .before .record-at .result) (c .before .before .before .before .before .before .before .before .before .before .before .before .before .before .before .before .before .before .before .before .before .before .before .before .before .before .before .before .record-at .ensures) (world (stateOf (l .own) (l .slots) (l .next) (l .head) (l .all) (l .outside) (handlesWith (l .handles)) (l .queue)) (l .words)) (l .fx) (part-high ((c .before .before .before .before .before .before .before .before .before .before .before .before .before .before .before .before .before .before .before .before .before .before .before .before .before .before .before .before .record-at .result) .kind) (sym (c .before .before .before .before .before .before .before .before .before .before .before .before .before .before .before .before .before .before .before .before .before .before .is-whole .ensures) ∙ c .before .before .before .before .before .before .before .before .before .before .before .before .before .before .before .before .before .before .before .before .before .if3 .left) .1))) (room-of (take (length (a .events .now) - l .at) (drop (l .at) (a .events .now))) (c .before .before .before .before .before .before .before .before .before .before .before .before .before .before .before .before .before .before .before .before .before .before .before .before .before .before .before .before .record-at .result) (c .before .before .before .before .before .before .turn .result .used) (c .before .before .before .before .before .before .before .before .before .before .before .before .before .before .before .before .before .before .before .before .before .before .before .before .before .before .before .before .record-at .ensures) (c .before .before .before .before .before .before .turn .ensures .1)), l .inv .1, c .before .before .before .before .before .before .before .before .before .before .before .before .before .before .before .before .before .find .ensures .1 .0 .0 ∙ l .inv .2, c .before .before .before .before .before .before .before .before .before .before .before .before .before .before .before .before .before .find .ensures .1 .1 .0 ∙ l .inv .3)
 
 sub-put-state : tie.Need-sub-put-state Inv-loop μ-loop
-sub-put-state c = let a = c .before .before .before .before .before .before .before .before .args in let l = c .before .loop in omega (arith, in-out (a .scheme) (a .events .now) (a .out .now) (a .fx .now) (a .end) (l .out) (l .fx) (l .words) (stateOf (l .own) (l .slots) (l .next) (l .head) (l .all) (l .outside) (l .handles) (l .queue)) (l .at) (l .j) (l .inv .0))
+sub-put-state c = let a = c .before .before .before .before .before .before .before .before .args in let l = c .before .loop in omega (arith, in-out (a .scheme) (a .events .now) (a .out .now) (a .fx .now) (a .end) (l .out) (l .fx) (l .words) (stateOf (l .own) (l .slots) (l .next) (l .head) (l .all) (l .outside) (handlesWith (l .handles)) (l .queue)) (l .at) (l .j) (l .inv .0))
 
 part-put-state-start : tie.Need-part-put-state-start Inv-loop μ-loop
-part-put-state-start c = let a = c .before .before .before .before .before .before .before .before .args in let l = c .before .loop in omega (arith, in-out (a .scheme) (a .events .now) (a .out .now) (a .fx .now) (a .end) (l .out) (l .fx) (l .words) (stateOf (l .own) (l .slots) (l .next) (l .head) (l .all) (l .outside) (l .handles) (l .queue)) (l .at) (l .j) (l .inv .0))
+part-put-state-start c = let a = c .before .before .before .before .before .before .before .before .args in let l = c .before .loop in omega (arith, in-out (a .scheme) (a .events .now) (a .out .now) (a .fx .now) (a .end) (l .out) (l .fx) (l .words) (stateOf (l .own) (l .slots) (l .next) (l .head) (l .all) (l .outside) (handlesWith (l .handles)) (l .queue)) (l .at) (l .j) (l .inv .0))
 
 part-put-state-end : tie.Need-part-put-state-end Inv-loop μ-loop
 part-put-state-end c = omega arith
@@ -260,17 +261,17 @@ put-state-requires c κs = search needs
 number-at-requires : tie.Need-number-at-requires Inv-loop μ-loop
 number-at-requires c κs = search needs
 
-add-t158 : tie.Need-add-t158 Inv-loop μ-loop
-add-t158 c = let a = c .before .before .before .before .before .before .before .before .before .before .before .before .before .args in let l = c .before .before .before .before .before .before .loop in omega (arith, end-room (a .scheme) (a .events .now) (a .out .now) (a .fx .now) (a .end) (l .out) (l .fx) (l .words) (stateOf (l .own) (l .slots) (l .next) (l .head) (l .all) (l .outside) (l .handles) (l .queue)) (l .at) (l .j) (l .inv .0) (c .before .before .before .before .before .loop-test .left), c .before .before .before .before .before .before .before .before .before .before .before .before .before .good .1 .1 .1 .0 .0)
+add-t160 : tie.Need-add-t160 Inv-loop μ-loop
+add-t160 c = let a = c .before .before .before .before .before .before .before .before .before .before .before .before .before .args in let l = c .before .before .before .before .before .before .loop in omega (arith, end-room (a .scheme) (a .events .now) (a .out .now) (a .fx .now) (a .end) (l .out) (l .fx) (l .words) (stateOf (l .own) (l .slots) (l .next) (l .head) (l .all) (l .outside) (handlesWith (l .handles)) (l .queue)) (l .at) (l .j) (l .inv .0) (c .before .before .before .before .before .loop-test .left), c .before .before .before .before .before .before .before .before .before .before .before .before .before .good .1 .1 .1 .0 .0)
 
 same-length : tie.Need-same-length Inv-loop μ-loop
-same-length c = let a = c .before .before .before .before .before .before .before .before .before .before .before .before .before .args in let l = c .before .before .before .before .before .before .loop in ap length (behind (l .out) (stateBytes (world (stateOf (l .own) (l .slots) (l .next) (l .head) (l .all) (l .outside) (l .handles) (l .queue)) (l .words))) _ (l .j) (in-out (a .scheme) (a .events .now) (a .out .now) (a .fx .now) (a .end) (l .out) (l .fx) (l .words) (stateOf (l .own) (l .slots) (l .next) (l .head) (l .all) (l .outside) (l .handles) (l .queue)) (l .at) (l .j) (l .inv .0)) (c .before .before .before .put-state .ensures .0 (l .words))) ∙ length-sets (l .out) (l .j) (stateBytes (world (stateOf (l .own) (l .slots) (l .next) (l .head) (l .all) (l .outside) (l .handles) (l .queue)) (l .words))) ∙ out-length (a .scheme) (a .events .now) (a .out .now) (a .fx .now) (a .end) (l .out) (l .fx) (l .words) (stateOf (l .own) (l .slots) (l .next) (l .head) (l .all) (l .outside) (l .handles) (l .queue)) (l .at) (l .j) (l .inv .0)
+same-length c = let a = c .before .before .before .before .before .before .before .before .before .before .before .before .before .args in let l = c .before .before .before .before .before .before .loop in ap length (behind (l .out) (stateBytes (world (stateOf (l .own) (l .slots) (l .next) (l .head) (l .all) (l .outside) (handlesWith (l .handles)) (l .queue)) (l .words))) _ (l .j) (in-out (a .scheme) (a .events .now) (a .out .now) (a .fx .now) (a .end) (l .out) (l .fx) (l .words) (stateOf (l .own) (l .slots) (l .next) (l .head) (l .all) (l .outside) (handlesWith (l .handles)) (l .queue)) (l .at) (l .j) (l .inv .0)) (c .before .before .before .put-state .ensures .0 (l .words))) ∙ length-sets (l .out) (l .j) (stateBytes (world (stateOf (l .own) (l .slots) (l .next) (l .head) (l .all) (l .outside) (handlesWith (l .handles)) (l .queue)) (l .words))) ∙ out-length (a .scheme) (a .events .now) (a .out .now) (a .fx .now) (a .end) (l .out) (l .fx) (l .words) (stateOf (l .own) (l .slots) (l .next) (l .head) (l .all) (l .outside) (handlesWith (l .handles)) (l .queue)) (l .at) (l .j) (l .inv .0)
 
 same-length-2 : tie.Need-same-length-2 Inv-loop μ-loop
-same-length-2 c = let a = c .before .before .before .before .before .before .before .before .before .before .before .before .before .args in let l = c .before .before .before .before .before .before .loop in fx-length (a .scheme) (a .events .now) (a .out .now) (a .fx .now) (a .end) (l .out) (l .fx) (l .words) (stateOf (l .own) (l .slots) (l .next) (l .head) (l .all) (l .outside) (l .handles) (l .queue)) (l .at) (l .j) (l .inv .0)
+same-length-2 c = let a = c .before .before .before .before .before .before .before .before .before .before .before .before .before .args in let l = c .before .before .before .before .before .before .loop in fx-length (a .scheme) (a .events .now) (a .out .now) (a .fx .now) (a .end) (l .out) (l .fx) (l .words) (stateOf (l .own) (l .slots) (l .next) (l .head) (l .all) (l .outside) (handlesWith (l .handles)) (l .queue)) (l .at) (l .j) (l .inv .0)
 
 returns : tie.Need-returns Inv-loop μ-loop
-returns c = let a = c .before .before .before .before .before .before .before .before .before .before .before .before .before .args in let l = c .before .before .before .before .before .before .loop in (end-is (a .scheme) (a .events .now) (a .out .now) (a .fx .now) (a .end) (l .out) (l .fx) (l .words) (stateOf (l .own) (l .slots) (l .next) (l .head) (l .all) (l .outside) (l .handles) (l .queue)) (l .at) (l .j) (l .inv .0) (c .before .before .before .before .before .loop-test .left) _ (c .before .before .before .put-state .ensures .1 (l .words)) (behind (l .out) (stateBytes (world (stateOf (l .own) (l .slots) (l .next) (l .head) (l .all) (l .outside) (l .handles) (l .queue)) (l .words))) _ (l .j) (in-out (a .scheme) (a .events .now) (a .out .now) (a .fx .now) (a .end) (l .out) (l .fx) (l .words) (stateOf (l .own) (l .slots) (l .next) (l .head) (l .all) (l .outside) (l .handles) (l .queue)) (l .at) (l .j) (l .inv .0)) (c .before .before .before .put-state .ensures .0 (l .words))) _ (c .number-at .ensures), (out-is (a .scheme) (a .events .now) (a .out .now) (a .fx .now) (a .end) (l .out) (l .fx) (l .words) (stateOf (l .own) (l .slots) (l .next) (l .head) (l .all) (l .outside) (l .handles) (l .queue)) (l .at) (l .j) (l .inv .0) (c .before .before .before .before .before .loop-test .left) _ (c .before .before .before .put-state .ensures .1 (l .words)) (behind (l .out) (stateBytes (world (stateOf (l .own) (l .slots) (l .next) (l .head) (l .all) (l .outside) (l .handles) (l .queue)) (l .words))) _ (l .j) (in-out (a .scheme) (a .events .now) (a .out .now) (a .fx .now) (a .end) (l .out) (l .fx) (l .words) (stateOf (l .own) (l .slots) (l .next) (l .head) (l .all) (l .outside) (l .handles) (l .queue)) (l .at) (l .j) (l .inv .0)) (c .before .before .before .put-state .ensures .0 (l .words))), (fx-is (a .scheme) (a .events .now) (a .out .now) (a .fx .now) (a .end) (l .out) (l .fx) (l .words) (stateOf (l .own) (l .slots) (l .next) (l .head) (l .all) (l .outside) (l .handles) (l .queue)) (l .at) (l .j) (l .inv .0) (c .before .before .before .before .before .loop-test .left), omega (arith, end-room (a .scheme) (a .events .now) (a .out .now) (a .fx .now) (a .end) (l .out) (l .fx) (l .words) (stateOf (l .own) (l .slots) (l .next) (l .head) (l .all) (l .outside) (l .handles) (l .queue)) (l .at) (l .j) (l .inv .0) (c .before .before .before .before .before .loop-test .left)))))
+returns c = let a = c .before .before .before .before .before .before .before .before .before .before .before .before .before .args in let l = c .before .before .before .before .before .before .loop in (end-is (a .scheme) (a .events .now) (a .out .now) (a .fx .now) (a .end) (l .out) (l .fx) (l .words) (stateOf (l .own) (l .slots) (l .next) (l .head) (l .all) (l .outside) (handlesWith (l .handles)) (l .queue)) (l .at) (l .j) (l .inv .0) (c .before .before .before .before .before .loop-test .left) _ (c .before .before .before .put-state .ensures .1 (l .words)) (behind (l .out) (stateBytes (world (stateOf (l .own) (l .slots) (l .next) (l .head) (l .all) (l .outside) (handlesWith (l .handles)) (l .queue)) (l .words))) _ (l .j) (in-out (a .scheme) (a .events .now) (a .out .now) (a .fx .now) (a .end) (l .out) (l .fx) (l .words) (stateOf (l .own) (l .slots) (l .next) (l .head) (l .all) (l .outside) (handlesWith (l .handles)) (l .queue)) (l .at) (l .j) (l .inv .0)) (c .before .before .before .put-state .ensures .0 (l .words))) _ (c .number-at .ensures), (out-is (a .scheme) (a .events .now) (a .out .now) (a .fx .now) (a .end) (l .out) (l .fx) (l .words) (stateOf (l .own) (l .slots) (l .next) (l .head) (l .all) (l .outside) (handlesWith (l .handles)) (l .queue)) (l .at) (l .j) (l .inv .0) (c .before .before .before .before .before .loop-test .left) _ (c .before .before .before .put-state .ensures .1 (l .words)) (behind (l .out) (stateBytes (world (stateOf (l .own) (l .slots) (l .next) (l .head) (l .all) (l .outside) (handlesWith (l .handles)) (l .queue)) (l .words))) _ (l .j) (in-out (a .scheme) (a .events .now) (a .out .now) (a .fx .now) (a .end) (l .out) (l .fx) (l .words) (stateOf (l .own) (l .slots) (l .next) (l .head) (l .all) (l .outside) (handlesWith (l .handles)) (l .queue)) (l .at) (l .j) (l .inv .0)) (c .before .before .before .put-state .ensures .0 (l .words))), (fx-is (a .scheme) (a .events .now) (a .out .now) (a .fx .now) (a .end) (l .out) (l .fx) (l .words) (stateOf (l .own) (l .slots) (l .next) (l .head) (l .all) (l .outside) (handlesWith (l .handles)) (l .queue)) (l .at) (l .j) (l .inv .0) (c .before .before .before .before .before .loop-test .left), omega (arith, end-room (a .scheme) (a .events .now) (a .out .now) (a .fx .now) (a .end) (l .out) (l .fx) (l .words) (stateOf (l .own) (l .slots) (l .next) (l .head) (l .all) (l .outside) (handlesWith (l .handles)) (l .queue)) (l .at) (l .j) (l .inv .0) (c .before .before .before .before .before .loop-test .left)))))
 
 pub run-all-spec : {M : Type 1} → statement M
 run-all-spec =
@@ -287,7 +288,7 @@ run-all-spec =
     size-by-requires
     is-queue-requires
     array-copy-out-v
-    array-read-t65
+    array-read-t62
     slice-aggregate-queue-turn
     sub-queue-turn
     part-queue-turn-start
@@ -305,7 +306,7 @@ run-all-spec =
     cast-n
     mul-v
     array-copy-out-v-2
-    array-read-t86
+    array-read-t81
     sub-entry-turn
     part-entry-turn-start
     part-entry-turn-end
@@ -338,7 +339,7 @@ run-all-spec =
     mul-v-2
     array-copy-out-v-3
     known-requires
-    array-read-t130
+    array-read-t129
     slice-aggregate-turn
     slice-aggregate-turn-2
     sub-turn
@@ -357,7 +358,7 @@ run-all-spec =
     part-put-state-end
     put-state-requires
     number-at-requires
-    add-t158
+    add-t160
     same-length
     same-length-2
     returns)

@@ -35,7 +35,7 @@ same-length : tie.Need-same-length
 same-length c = search needs
 
 returns : tie.Need-returns
-returns c = let a = c .before .before .before .before .before .before .before .before .before .before .before .before .before .before .before .before .before .before .before .args in λ ws bs one ee. let x = c .before .before .before .before .before .before .before .before .entry .ensures (a .s) ws bs one ee (refl, refl, refl) in (c .write-words .ensures ∙ x .0, (x .1 .0, (x .1 .1 .0, x .1 .1 .1)))
+returns c = let a = c .before .before .before .before .before .before .before .before .before .before .before .before .before .before .before .before .before .before .before .before .before .before .args in λ ws bs one ee. let x = c .before .before .before .before .before .before .entry .ensures (a .s) (a .s .table .holds .outside) ws bs one ee (refl, refl, refl) in (c .write-words .ensures ∙ x .0, (x .1 .0, (x .1 .1 .0, x .1 .1 .1)))
 
 pub entry-spec : {M : Type 1} → statement M
 entry-spec =
