@@ -1,11 +1,11 @@
 -- The decisions by the tests that the code makes. Assumes nothing.
-use Prim.Native.Nat.{ℕ, suc, _+_, _-_, _*_, _≤_}
+use Prim.Native.Nat.{ℕ, _-_, _*_, _≤_}
 use mathlib.Core.Path.{_≡_, refl, sym, ap, ap₂, _∙_}
-use mathlib.Core.Bool.{Bool, true, false, cond}
+use mathlib.Core.Bool.{Bool, true, false}
 use mathlib.Core.List.{List, [], _∷_}
 use native.Mathlib.Omega.{arith}
 use lib.Dec.{eqb}
-use lib.ListN.{length, set}
+use lib.ListN.{length}
 use lib.Seq.{sets}
 use borrow.Author.Tests.{eq-eqb, ne-eqb}
 use Rattle.closes.specs.declared.Reason.the-variants.{Refused, Unusable}
@@ -29,7 +29,7 @@ use Rattle.slot.specs.declared.Phase.the-variants.{Vacant, Placeholder, Waiting
 use Rattle.slot.specs.declared.Slot.{Slot}
 use Rattle.slot.specs.Slots.{phaseOf, withFdsOf}
 use Rattle.events.specs.Complete.{one, closesOf}
-use Rattle.handle_fd.specs.HandleFd.{Handled, decided, refusedOf, handled, inHandle, byTag, byTagFx, byHandle, byHandleFx, descriptorOf, descriptorFx, obtainedFrom, closesFrom, obtainedOf, obtainBy, obtainOf, obtainFxBy, obtainFx}
+use Rattle.handle_fd.specs.HandleFd.{Handled, decided, refusedOf, handled, inHandle, byTag, byTagFx, byHandle, byHandleFx, descriptorOf, descriptorFx, closesFrom, obtainBy, obtainOf, obtainFxBy, obtainFx}
 
 -- a refused reply entry makes no effect of its own
 served-zero : (b : Bool) (v : Slot) (t x : ℕ) (h : Holds) → servedOf b v t (partsOf v (one x)) h .number ≡ 0

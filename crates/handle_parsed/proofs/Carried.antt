@@ -1,6 +1,6 @@
 -- What the definition of an entry does is the decision on its slot, carried out. Assumes that descriptions have 64 counts.
-use Prim.Native.Nat.{ℕ, _-_, _<_, _≤_}
-use mathlib.Core.Path.{_≡_, refl, sym, ap, ap₂, _∙_}
+use Prim.Native.Nat.{ℕ, _-_, _<_}
+use mathlib.Core.Path.{_≡_, refl, sym, ap, _∙_}
 use mathlib.Core.Bool.{Bool, true, false, not, cond, _||_}
 use mathlib.Core.List.{List, [], _∷_, _++_}
 use native.Mathlib.Omega.{arith}
@@ -11,9 +11,8 @@ use borrow.Author.Tests.{ltb-true}
 use Rattle.closes.specs.declared.Reason.{Reason}
 use Rattle.closes.specs.declared.Reason.the-variants.{Ended, Refused}
 use Rattle.closes.specs.Closes.{closing, only, closes}
-use Rattle.counts.specs.Counts.{less, lasts, last}
+use Rattle.counts.specs.Counts.{lasts}
 use Rattle.counts.proofs.Laws.{lessAll-length}
-use Rattle.error.specs.declared.Result.{Result}
 use Rattle.error.specs.declared.Result.the-variants.{Ok, Err}
 use Rattle.fd_list.specs.Lists.{numbers, listOf}
 use Rattle.flag.specs.Flags.{within, eventFlags, fobtainFdFlags}
@@ -23,7 +22,7 @@ use Rattle.holds.specs.declared.Holds.{Holds}
 use Rattle.holds.specs.Holds.{holdsWith}
 use Rattle.parse_cqe.specs.declared.ParsedCqe.{ParsedCqe}
 use Rattle.parse_cqe.specs.Parsed.{parsedBy, parsedOf, eventIf, obtainIf}
-use Rattle.respond.specs.Respond.{Decided, servedOf, servedFx, respondOf, respondFx}
+use Rattle.respond.specs.Respond.{servedOf, servedFx, respondOf, respondFx}
 use Rattle.reply_parts.specs.Parts.{namedOf, partsOf}
 use Rattle.schemev2.specs.declared.Cqe.{Cqe}
 use Rattle.schemev2.specs.declared.CqeOpcode.{CqeOpcode}
@@ -32,14 +31,12 @@ use Rattle.schemev2.specs.Entry.{kindOf, extraOf, cqeOpcodeOf}
 use Rattle.slot.specs.declared.Phase.{Phase}
 use Rattle.slot.specs.declared.Phase.the-variants.{Vacant, Placeholder, Waiting, Responded, Fmap}
 use Rattle.slot.specs.declared.Slot.{Slot}
-use Rattle.slot.specs.Slots.{vacantSlot}
 use Rattle.table.specs.Table.{vacateAt}
 use Rattle.events.specs.World.{World, tableOf, holdsOf, handlesOf, slotIn, phaseIn, withTable, tableWith, withHandles, withHolds}
-use Rattle.events.specs.Complete.{Entered, accepted, rejected, reject, Offer, result, one, listed, dropped, closesOf, droppedFds, releaseOf, servedBy, respondBy, inHandle, byDescriptor, obtained, isVacant, isWaiting, entryBy, entryOf}
-use Rattle.events.specs.Wake.{heldIn}
+use Rattle.events.specs.Complete.{accepted, rejected, reject, Offer, result, one, listed, dropped, closesOf, releaseOf, servedBy, respondBy, inHandle, byDescriptor, obtained, isVacant, isWaiting, entryBy, entryOf}
 use Rattle.handle_fd.specs.HandleFd as decision
 use Rattle.handle_parsed.specs.Handled.{handledOf, handledFx, carried}
-use Rattle.handle_fd.specs.HandleFd.{Handled, decided, handled, byTag, byTagFx, byHandle, byHandleFx, obtainFxBy}
+use Rattle.handle_fd.specs.HandleFd.{handled, byTag, byTagFx, byHandle, byHandleFx, obtainFxBy}
 
 -- a word that names no description has no holds to drop
 module _ (h : Holds) (size : length (h .holds) ≡ 64) (d : ℕ) where

@@ -3,14 +3,14 @@ use Prim.Native.Nat.{ℕ, suc}
 use mathlib.Core.Bool.{Bool, true, false, cond, _&&_}
 use mathlib.Core.List.{List, [], _∷_}
 use lib.Dec.{leb, eqb}
-use lib.ListN.{getD, set}
+use lib.ListN.{getD, set, length}
 use Rattle.fd_list.specs.declared.List.{List as Sent}
 use Rattle.fd_list.specs.Lists.{numbers, restOf}
 use Rattle.counts.specs.Counts.{lasts}
 use Rattle.closes.specs.declared.Reason.the-variants.{Unusable}
 use Rattle.closes.specs.Closes.{closing, only, closes}
 use Rattle.holds.specs.declared.Holds.{Holds}
-use Rattle.holds.specs.Holds.{droppedOf}
+use Rattle.holds.specs.Holds.{discardedOf}
 use Rattle.handles.specs.declared.Handles.{Handles}
 
 -- handles in words that are lent
@@ -44,7 +44,7 @@ obtained c l n h = record { count = c; list = l; handles = n; holds = h }
 abbrev pub obtainBy : Bool → Holds → Handles → Sent → ℕ → ℕ → Gained
 obtainBy true h n l k d = obtained 0 (restOf l) (into n k d) h
 obtainBy false h n l k d =
-    obtained (droppedOf h (d ∷ []) (closing Unusable) .count) (restOf l) n (droppedOf h (d ∷ []) (closing Unusable) .holds)
+    obtained (length (only (closing Unusable) (lasts (h .holds) (d ∷ [])))) (restOf l) n (discardedOf h (d ∷ []))
 
 abbrev pub obtainIn : List ℕ → Holds → Handles → Sent → ℕ → Gained
 obtainIn [] h n l k = obtained 0 l n h

@@ -5,31 +5,23 @@ use mathlib.Core.Bool.{Bool, true, false}
 use mathlib.Core.List.{List}
 use native.Mathlib.Omega.{arith}
 use native.Mathlib.Decide.{decLt}
-use lib.ListN.{getD, length}
-use lib.Seq.{sets}
+use lib.ListN.{getD}
 use borrow.Author.Tests.{lt-ltb, le-ltb, eq-eqb, ne-eqb}
 use Rattle.ids.specs.declared.Description.{Description}
 use Rattle.ids.specs.declared.DescriptionFound.{DescriptionFound}
 use Rattle.ids.specs.declared.DescriptionFound.the-variants as found
 use Rattle.ids.specs.Ids.{descriptionIf, descriptionOf}
 use Rattle.fd_list.specs.Lists.{desc}
-use Rattle.counts.specs.Counts.{lessAll, moreAll, lasts}
-use Rattle.closes.specs.Closes.{only, closes}
+use Rattle.counts.specs.Counts.{lessAll, moreAll}
 use Rattle.holds.specs.declared.Holds.{Holds}
-use Rattle.holds.specs.Holds.{holdsWith, discardedOf, droppedOf, outsideOf, unheld, heldIf, heldOf}
+use Rattle.holds.specs.Holds.{holdsWith, discardedOf, outsideOf, unheld, heldIf, heldOf}
 
 module _ (h : Holds) where
-  pub dropped-is : (ds : List ℕ) (t u : Bool) (k : ℕ) (a : List ℕ) → t ≡ u → k ≡ length (only t (lasts (h .holds) ds)) → a ≡ lessAll (h .holds) ds → record { count = k; holds = holdsWith a (h .outside) } ≡ droppedOf h ds u
-  dropped-is ds t u k a p q e = rw (q, e, p) refl
-
   pub discarded-is : (ds a : List ℕ) → a ≡ lessAll (h .holds) ds → holdsWith a (h .outside) ≡ discardedOf h ds
   discarded-is ds a e = rw e refl
 
   pub outside-is : (ds o : List ℕ) → o ≡ moreAll (h .outside) ds → holdsWith (h .holds) o ≡ outsideOf h ds
   outside-is ds o e = rw e refl
-
-pub dropped-words : (a ds : List ℕ) (t u : Bool) (fx gx : List ℕ) (at : ℕ) → t ≡ u → gx ≡ sets fx at (closes (only t (lasts a ds))) → gx ≡ sets fx at (closes (only u (lasts a ds)))
-dropped-words a ds t u fx gx at p q = q ∙ ap (λ (x : Bool). sets fx at (closes (only x (lasts a ds)))) p
 
 -- the description that a word names, if it has an outside hold
 module _ (all left : List ℕ) (w : ℕ) where

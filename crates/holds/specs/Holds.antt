@@ -3,23 +3,18 @@ use Prim.Native.Nat.{ℕ}
 use mathlib.Core.Bool.{Bool, true, false, _||_}
 use mathlib.Core.List.{List}
 use lib.Dec.{ltb, eqb}
-use lib.ListN.{getD, length}
+use lib.ListN.{getD}
 use Rattle.ids.specs.declared.DescriptionFound.{DescriptionFound}
 use Rattle.ids.specs.declared.DescriptionFound.the-variants as found
 use Rattle.fd_list.specs.Lists.{desc}
-use Rattle.counts.specs.Counts.{lessAll, moreAll, lasts}
-use Rattle.closes.specs.Closes.{only}
+use Rattle.counts.specs.Counts.{lessAll, moreAll}
 use Rattle.holds.specs.declared.Holds.{Holds}
-use Rattle.holds.specs.declared.Dropped.{Dropped}
 
 abbrev pub holdsWith : List ℕ → List ℕ → Holds
 holdsWith a o = record { holds = a; outside = o }
 
 abbrev pub discardedOf : Holds → List ℕ → Holds
 discardedOf h ds = holdsWith (lessAll (h .holds) ds) (h .outside)
-
-abbrev pub droppedOf : Holds → List ℕ → Bool → Dropped
-droppedOf h ds t = record { count = length (only t (lasts (h .holds) ds)); holds = discardedOf h ds }
 
 abbrev pub outsideOf : Holds → List ℕ → Holds
 outsideOf h ds = holdsWith (h .holds) (moreAll (h .outside) ds)

@@ -1,16 +1,11 @@
 // The hold counts of the 64 descriptions: a list of holds dropped, and a list given back to the host.
-use closes::Reason;
 use fd_list::List;
 use ids::Description;
 use ids::DescriptionFound;
 ghost use mathlib.Core.Path.{_≡_};
-ghost use Prim.Native.Nat.{_≤_};
 ghost use lib.ListN.{getD};
-ghost use lib.Seq.{sets};
-ghost use Rattle.closes.specs.Closes.{closing, only, closes};
-ghost use Rattle.counts.specs.Counts.{lasts};
 ghost use Rattle.fd_list.specs.Lists.{numbers};
-ghost use Rattle.holds.specs.Holds.{droppedOf, discardedOf, outsideOf, heldOf};
+ghost use Rattle.holds.specs.Holds.{discardedOf, outsideOf, heldOf};
 
 // For each description all its holds, and how many of them are outside.
 #[repr(C)]
@@ -19,33 +14,7 @@ pub struct Holds {
     pub outside: [u16; 64],
 }
 
-// How many closes follow.
-#[repr(C)]
-pub struct Dropped {
-    pub count: usize,
-    pub holds: Holds,
-}
-
-// A list's holds dropped. The closes that follow are stored from word `at`, in list order.
-pub fn drop_list(h: Holds, l: List, why: Reason, fx: &mut [u64], at: usize) -> Dropped
-    ensures { λ r. ⌜ r ≡ droppedOf h (numbers l) (closing why) ⌝ }
-    ensures { λ r. ⌜ now (fx .exit) ≡ sets (now (fx .entry)) at (closes (only (closing why) (lasts (h .holds) (numbers l)))) ⌝ }
-    ensures { λ r. ⌜ r .count ≤ 16 ⌝ }
-{
-    let follows = closes::is_closing(why);
-    let mut a = h.holds;
-    let k = closes::drop_all(&mut a, l, follows, fx, at);
-    let o = h.outside;
-    Dropped {
-        count: k,
-        holds: Holds {
-            holds: a,
-            outside: o,
-        },
-    }
-}
-
-// The same drop, and what it says of closes is discarded.
+// A list's holds dropped; what follows of closes is discarded.
 pub fn discard_list(h: Holds, l: List) -> Holds
     ensures { λ r. ⌜ r ≡ discardedOf h (numbers l) ⌝ }
 {

@@ -13,7 +13,6 @@ use Rattle.slot.specs.declared.Slot.{Slot}
 use Rattle.slot.specs.Slots.{vacantSlot}
 use Rattle.state.specs.declared.Driver.{Driver}
 use Rattle.state.specs.declared.State.{State}
-use Rattle.table.specs.declared.Table.{Table}
 use Rattle.table.specs.Table.{noSlot, noHolds}
 use Rattle.wait_queue.specs.declared.WaitQueue.{WaitQueue}
 use Rattle.part.specs.declared.Part.{Part}

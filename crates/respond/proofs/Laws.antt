@@ -1,45 +1,34 @@
 -- Effects stored one run after the other, and the decision by the slot's phase. Assumes nothing.
-use Prim.Native.Nat.{ℕ, zero, suc, min, _+_, _*_, _<_, _≤_}
+use Prim.Native.Nat.{ℕ, min, _+_, _*_, _<_, _≤_}
 use mathlib.Core.Path.{_≡_, refl, sym, ap, ap₂, _∙_}
-use mathlib.Core.Bool.{Bool, true, false, cond}
+use mathlib.Core.Bool.{Bool}
 use mathlib.Core.List.{List, [], _∷_, _++_}
 use native.Mathlib.Omega.{arith}
 use native.Mathlib.Decide.{decLt}
-use lib.Dec.{eqb, ltb}
+use lib.Dec.{eqb}
 use lib.ListN.{length, length-append}
 use lib.Seq.{sets}
-use borrow.Author.Tests.{eq-eqb, ne-eqb, lt-ltb, le-ltb}
-use Rattle.answer.specs.Answer.{numberOf}
+use borrow.Author.Tests.{eq-eqb, ne-eqb}
 use Rattle.closes.specs.declared.Reason.{Reason}
-use Rattle.closes.specs.declared.Reason.the-variants.{Replied, Ended}
+use Rattle.closes.specs.declared.Reason.the-variants.{Ended}
 use Rattle.closes.specs.Closes.{closing, only, closes}
-use Rattle.closes.proofs.Laws.{closes-length, only-length}
+use Rattle.closes.proofs.Laws.{closes-length}
 use Rattle.counts.specs.Counts.{lasts}
-use Rattle.counts.proofs.Laws.{lasts-length}
-use Rattle.error.specs.declared.Error.{Error}
-use Rattle.error.specs.declared.Result.{Result}
-use Rattle.error.specs.declared.Result.the-variants.{Ok, Err}
-use Rattle.error.specs.Errors.{resultAnswer}
-use Rattle.fd_list.specs.declared.List.{List as Fds}
-use Rattle.fd_list.specs.Lists.{numbers, listOf}
-use Rattle.fd_list.proofs.Laws.{numbers-most}
+use Rattle.fd_list.specs.Lists.{numbers}
 use Rattle.holds.specs.declared.Holds.{Holds}
-use Rattle.holds.specs.Holds.{holdsWith}
 use Rattle.word_put.proofs.Stores.{sets-past, behind}
 use Rattle.slot.specs.declared.PageSpan.{PageSpan}
 use Rattle.slot.specs.declared.Phase.{Phase}
 use Rattle.slot.specs.declared.Phase.the-variants.{Waiting}
-use Rattle.slot.specs.declared.Reply.{Reply}
 use Rattle.slot.specs.declared.Slot.{Slot}
-use Rattle.slot.specs.Slots.{phaseOf, noFds, vacantSlot, respondedOf}
-use Rattle.events.specs.Outcome.{wakeEffect}
+use Rattle.slot.specs.Slots.{phaseOf, vacantSlot, respondedOf}
 use Rattle.events.specs.Complete as complete
-use Rattle.events.specs.Complete.{storedErrno, storedResult, storedAs, unmapOf, closesOf, dropped}
+use Rattle.events.specs.Complete.{unmapOf, closesOf, dropped}
 use Rattle.respond.specs.declared.Act.the-variants.{Store, Vacate}
 use Rattle.reply_parts.specs.declared.Offer.{Offer}
 use Rattle.reply_parts.specs.declared.Parts.{Parts}
 use Rattle.respond.specs.Respond.{Decided, decided, releasedFx, storedFx, storedOf, lostFx, lostOf, servedOf, servedFx, respondOf, respondFx}
-use Rattle.reply_parts.specs.Parts.{offered, namedOf, partsOf}
+use Rattle.reply_parts.specs.Parts.{offered, partsOf}
 
 -- a place past the end is as good as the end
 pub place-same : (l xs : List ℕ) (i : ℕ) → sets l (min i (length l)) xs ≡ sets l i xs

@@ -1,13 +1,13 @@
 -- One turn of the loop: what is left to do from here is the whole. Assumes nothing.
-use Prim.Native.Nat.{ℕ, zero, suc, _+_, _-_, _*_, _/_, _%_, _<_, _≤_}
+use Prim.Native.Nat.{ℕ, suc, _+_, _-_, _*_, _/_, _%_, _<_, _≤_}
 use mathlib.Core.Path.{_≡_, refl, sym, ap, ap₂, _∙_, subst}
 use mathlib.Core.Logic.{_⊎_, inl, inr}
 use mathlib.Core.Bool.{Bool, true, false, cond}
-use mathlib.Core.List.{List, [], _∷_, _++_, append-nil}
+use mathlib.Core.List.{List, [], _∷_, _++_}
 use native.Mathlib.Omega.{arith}
 use native.Mathlib.Numerals.{add-one}
 use lib.Dec.{eqb, ltb}
-use lib.ListN.{getD, set, length, drop, take, length-append, length-drop}
+use lib.ListN.{getD, set, length, drop, length-append}
 use lib.Seq.{sets, set-getD, drop-drop}
 use borrow.Author.Tests.{eq-eqb, ne-eqb, ltb-true, lt-ltb, le-ltb}
 use Rattle.closes.specs.declared.Reason.the-variants.{Unusable}
@@ -40,7 +40,7 @@ use Rattle.slot.specs.Slots.{phaseOf, vacantSlot}
 use Rattle.state.specs.declared.Driver.{Driver}
 use Rattle.state.specs.declared.State.{State}
 use Rattle.table.specs.declared.Table.{Table}
-use Rattle.table.specs.Table.{noSlot, slotAt, putAt, stored, vacated, vacateAt}
+use Rattle.table.specs.Table.{noSlot, slotAt, stored, vacated}
 use Rattle.events.specs.World.{World, world, tableWith}
 use Rattle.events.specs.Outcome.{Answer, Outcome, outcome, ok, refuse}
 use Rattle.events.specs.Complete.{Entered, accepted, rejected, Offer, one, entryOf, cut, entriesOf, stopped, onEntered, writeOn, writeOf}
