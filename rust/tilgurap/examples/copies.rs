@@ -66,7 +66,14 @@ const STEPS: [&str; 22] = [
 ];
 
 /// Events of runs, each many times.
-const RUNS: [&str; 4] = ["close 5", "read 64 262144", "fmap 1 2 3 4 5 6 7", "ended 1"];
+const RUNS: [&str; 6] = [
+    "close 5",
+    "read 64 262144",
+    "fmap 1 2 3 4 5 6 7",
+    "write 54 02000000010000000900000000000000",
+    "write 108 0200000001000000090000000000000002000000010000000900000000000000",
+    "ended 1",
+];
 const TIMES: u64 = 50;
 
 fn main() {
@@ -85,9 +92,9 @@ fn main() {
         let record = record.expect("a record");
         let ran = |times: u64| {
             let events = record.repeat(times as usize);
-            let mut out = vec![0; 1_608 + times as usize * (192 + 64)];
+            let mut out = vec![0; 1_608 + times as usize * (192 + 27 * 32)];
             copies(|| {
-                let end = numbers::run(7, &events, &mut out, &mut [0; 54]);
+                let end = numbers::run(7, &events, &mut out, &mut [0; 108]);
                 assert_eq!(end.number, 0, "{line}");
             })
         };
