@@ -1,30 +1,34 @@
--- The conditions of the refusals as the definitions and as claim 3 write them, on a well-formed state. Assumes nothing.
-use Prim.Native.Nat.{ℕ, zero, suc, _<_}
+-- The conditions of the refusals as the definitions and as the claim write them. Assumes nothing.
+use Prim.Native.Nat.{ℕ, zero, suc, _*_, _<_}
 use mathlib.Core.Path.{_≡_, refl, sym, ap, ap₂, _∙_}
-use mathlib.Core.Bool.{Bool, true, false, not, cond, _||_, _&&_}
+use mathlib.Core.Bool.{Bool, true, false, not, _||_, _&&_}
 use mathlib.Core.List.{List, [], _∷_}
 use native.Mathlib.Omega.{arith}
 use native.Mathlib.Decide.{decLt}
 use lib.Dec.{leb, ltb, eqb, leb·suc-suc}
 use lib.ListN.{length, getD}
-use borrow.Author.Tests.{eq-eqb, ne-eqb, lt-ltb, le-ltb, le-leb, lt-leb}
+use borrow.Author.Tests.{eq-eqb, ne-eqb, lt-ltb, le-ltb, le-leb, lt-leb, eqb-true, leb-false}
 use Rattle.handles.specs.Handles.{isFree}
 use Rattle.holds.specs.Holds.{unheld}
 use Rattle.slot.specs.declared.Phase.{Phase}
 use Rattle.slot.specs.declared.Phase.the-variants.{Vacant, Placeholder, Waiting, Responded, Fmap}
 use Rattle.slot.specs.declared.Slot.{Slot}
-use Rattle.slot.specs.Slots.{phaseNamed, phaseOf, vacantSlot}
-use Rattle.status.specs.Status.{bit, countOf}
-use Rattle.table.specs.Table.{noSlot, slotAt}
-use Rattle.table.proofs.Access.{Sized}
-use Rattle.table.proofs.Chain.{head-vacant, empty-full}
-use Rattle.events.specs.World.{World, tableOf, queueOf, holdsOf, handlesOf, slotIn, phaseIn, queueFull}
+use Rattle.slot.specs.Slots.{phaseOf}
+use Rattle.table.specs.Reached.{Linked}
+use Rattle.wait_queue.specs.Queue.{wordsFrom}
+use Rattle.wait_queue.proofs.Unread.{length-bytes, length-words}
+use Rattle.events.specs.World.{World, tableOf, queueOf, holdsOf, handlesOf, slotIn, phaseIn, queueFull, unreadIn}
 use Rattle.events.specs.Submit.{badOpcode, tableFull, isPlaceholder, submittable, wrongKind}
 use Rattle.events.specs.Wake.{awaits, wakeable}
 use Rattle.events.specs.Descriptors.{requestOf, wrongWords}
 use Rattle.events.specs.Complete.{isVacant, isWaiting}
-use Rattle.events.specs.Whole.{Whole}
-use Rattle.events.specs.Exactly.{inState, vacant, noSlotVacant, all128Unread, holdsIn, outsideIn, lacks, handleAt, wrongOpcode, wrongFsKind}
+use Rattle.events.specs.History.{Fact, Stage, free, reserved, waits, replied, mapping, book}
+use Rattle.events.specs.WellFormed.{WellFormed}
+use Rattle.events.specs.Exactly.{state, inState, vacantTags, noTagVacant, nextTag, all128Unread, holdsIn, outsideIn, lacks, handleAt, wrongOpcode, wrongFsKind}
+use Rattle.events.proofs.Entries.{InvOf, waiting-is}
+use Rattle.events.proofs.Inv.{phase-is, in-stage, in-phase}
+use Rattle.events.proofs.Stage.{Core, clash, phaseAt, callerIs, cancelingIs, endedIs, returnedIs}
+use Rattle.events.proofs.Stored.{shape}
 
 -- conditions on numbers, as the definitions and as the claim write them
 not-and : (a b : Bool) → not (a && b) ≡ not a || not b
@@ -80,15 +84,26 @@ kind-same k = go (decLt k 1) (decLt k 9) (decLt k 10) (decLt k 17)
     go (no a) (no b) (no c) (no d) =
         rw (le-leb 10 k (omega arith), lt-leb k 16 (omega arith), lt-leb k 8 (omega arith), le-leb 1 k (omega arith), ne-eqb k 0 (omega arith), ne-eqb k 9 (omega arith), lt-ltb 16 k (omega arith))
 
--- with at most 128 entries
-pub queue-same : (w : World) → Whole w → queueFull w ≡ all128Unread w
+-- 64 bytes an entry, at most 128 entries
+pub unread-length : (w : World) → length (unreadIn w) ≡ queueOf w .len * 64
+unread-length w =
+    omega (arith, length-bytes (wordsFrom (queueOf w) (w .words) 0 (queueOf w .len * 8)), length-words (queueOf w) (w .words) (queueOf w .len * 8) 0)
+
+pub queue-same : (w : World) → WellFormed w → queueFull w ≡ all128Unread w
 queue-same w i = go (decLt (queueOf w .len) 128)
   where
     go : Dec (queueOf w .len < 128) → queueFull w ≡ all128Unread w
-    go (yes h) = lt-leb 128 (queueOf w .len) h ∙ sym (ne-eqb (queueOf w .len) 128 (omega arith))
-    go (no h) = le-leb 128 (queueOf w .len) (omega arith) ∙ sym (eq-eqb (queueOf w .len) 128 (omega (arith, i .room)))
+    go (yes h) = lt-leb 128 (queueOf w .len) h ∙ sym (ne-eqb (length (unreadIn w)) 8192 (λ e. omega (arith, h, e, unread-length w)))
+    go (no h) = le-leb 128 (queueOf w .len) (omega arith) ∙ sym (eq-eqb (length (unreadIn w)) 8192 (omega (arith, i .room, unread-length w)))
 
--- a slot's phase and its stored number
+pub empty-same : (w : World) → eqb (queueOf w .len) 0 ≡ eqb (length (unreadIn w)) 0
+empty-same w = go (decLt 0 (queueOf w .len))
+  where
+    go : Dec (0 < queueOf w .len) → eqb (queueOf w .len) 0 ≡ eqb (length (unreadIn w)) 0
+    go (yes h) = ne-eqb (queueOf w .len) 0 (λ e. omega (arith, h, e)) ∙ sym (ne-eqb (length (unreadIn w)) 0 (λ e. omega (arith, h, e, unread-length w)))
+    go (no h) = eq-eqb (queueOf w .len) 0 (omega arith) ∙ sym (eq-eqb (length (unreadIn w)) 0 (omega (arith, unread-length w)))
+
+-- a slot's phase, and the state that its history tells
 abbrev pub isResponded : Phase → Bool
 isResponded Vacant = false
 isResponded Placeholder = false
@@ -103,81 +118,32 @@ isFmap Waiting = false
 isFmap Responded = false
 isFmap Fmap = true
 
-pub record Named (n : ℕ) : Type 0 where
-  pub vacant : isVacant (phaseNamed n) ≡ not (leb 1 n && leb n 4)
-  pub placeholder : isPlaceholder (phaseNamed n) ≡ eqb n 1
-  pub waiting : isWaiting (phaseNamed n) ≡ eqb n 2
-  pub responded : isResponded (phaseNamed n) ≡ eqb n 3
-  pub mapping : isFmap (phaseNamed n) ≡ eqb n 4
+pub record Named (p : Phase) (k : ℕ) : Type 0 where
+  pub vacant : isVacant p ≡ eqb k 0
+  pub placeholder : isPlaceholder p ≡ eqb k 1
+  pub waiting : isWaiting p ≡ eqb k 2
+  pub responded : isResponded p ≡ eqb k 3
+  pub mapping : isFmap p ≡ eqb k 4
 
-named : (n : ℕ) → Named n
-named zero = record { vacant = refl; placeholder = refl; waiting = refl; responded = refl; mapping = refl }
-named (suc zero) = record { vacant = refl; placeholder = refl; waiting = refl; responded = refl; mapping = refl }
-named (suc (suc zero)) = record { vacant = refl; placeholder = refl; waiting = refl; responded = refl; mapping = refl }
-named (suc (suc (suc zero))) = record { vacant = refl; placeholder = refl; waiting = refl; responded = refl; mapping = refl }
-named (suc (suc (suc (suc zero)))) = record { vacant = refl; placeholder = refl; waiting = refl; responded = refl; mapping = refl }
-named (suc (suc (suc (suc (suc n))))) =
-    let m : ℕ = suc (suc (suc (suc (suc n)))) in
-    record {
-      vacant = rw (le-leb 1 m (omega arith), lt-leb m 4 (omega arith));
-      placeholder = sym (ne-eqb m 1 (omega arith));
-      waiting = sym (ne-eqb m 2 (omega arith));
-      responded = sym (ne-eqb m 3 (omega arith));
-      mapping = sym (ne-eqb m 4 (omega arith));
-    }
+named : (s : Stage) → Named (phaseAt s) (state s)
+named free = record { vacant = refl; placeholder = refl; waiting = refl; responded = refl; mapping = refl }
+named reserved = record { vacant = refl; placeholder = refl; waiting = refl; responded = refl; mapping = refl }
+named waits = record { vacant = refl; placeholder = refl; waiting = refl; responded = refl; mapping = refl }
+named (replied r) = record { vacant = refl; placeholder = refl; waiting = refl; responded = refl; mapping = refl }
+named mapping = record { vacant = refl; placeholder = refl; waiting = refl; responded = refl; mapping = refl }
 
-pub slot-named : (v : Slot) → Named (v .state)
-slot-named v = named (v .state)
+-- where a test holds, two conditions under it are the same
+guarded : (a x y : Bool) → (a ≡ true → not x ≡ y) → not (a && x) ≡ not a || y
+guarded true x y f = f refl
+guarded false x y f = refl
 
--- the chain is empty exactly where no slot is vacant
-abbrev count : List Slot → ℕ
-count s = countOf (λ v. bit (vacant v)) s
+placeholder-is : (p : Phase) → isPlaceholder p ≡ true → p ≡ Placeholder
+placeholder-is Vacant e = clash false e refl
+placeholder-is Placeholder e = refl
+placeholder-is Waiting e = clash false e refl
+placeholder-is Responded e = clash false e refl
+placeholder-is Fmap e = clash false e refl
 
-vacant-counts : (v : Slot) → phaseOf v ≡ Vacant → vacant v ≡ true
-vacant-counts v e = sym (slot-named v .vacant) ∙ ap isVacant e
-
-counts-vacant : (v : Slot) → (phaseOf v ≡ Vacant → ⊥) → vacant v ≡ false
-counts-vacant v ne = sym (slot-named v .vacant) ∙ go (phaseOf v) ne
-  where
-    go : (p : Phase) → (p ≡ Vacant → ⊥) → isVacant p ≡ false
-    go Vacant ne = absurd (ne refl)
-    go Placeholder ne = refl
-    go Waiting ne = refl
-    go Responded ne = refl
-    go Fmap ne = refl
-
-count-none : (s : List Slot) → ((m : ℕ) → m < length s → phaseOf (getD s m noSlot) ≡ Vacant → ⊥) → count s ≡ 0
-count-none [] h = refl
-count-none (v ∷ s) h =
-    omega (arith, ap bit (counts-vacant v (h 0 (omega arith))), count-none s (λ m b. h (suc m) (omega arith)))
-
-count-some : (s : List Slot) (m : ℕ) → m < length s → phaseOf (getD s m noSlot) ≡ Vacant → 0 < count s
-count-some [] m b e = absurd (omega arith)
-count-some (v ∷ s) zero b e = omega (arith, ap bit (vacant-counts v e))
-count-some (v ∷ s) (suc m) b e = omega (arith, count-some s m (omega arith) e)
-
-pub table-same : (w : World) → Whole w → tableFull w ≡ noSlotVacant w
-table-same w i = go (decLt (tableOf w .head) 64)
-  where
-    size : Sized (tableOf w)
-    size = record { slots = i .slots; next = i .next }
-
-    here : (m : ℕ) → m < 64 → phaseOf (slotAt (tableOf w) m) ≡ phaseOf (getD (tableOf w .slots) m noSlot)
-    here m b = ap (λ (x : Bool). phaseOf (cond x (getD (tableOf w .slots) m noSlot) vacantSlot)) (lt-ltb m 64 b)
-
-    go : Dec (tableOf w .head < 64) → tableFull w ≡ noSlotVacant w
-    go (yes h) =
-        lt-leb 64 (tableOf w .head) h
-        ∙ sym
-        (ne-eqb (count (tableOf w .slots)) 0
-        (omega (arith, count-some (tableOf w .slots) (tableOf w .head) (omega (arith, i .slots)) (sym (here (tableOf w .head) h) ∙ head-vacant (tableOf w) size h (i .chain)))))
-    go (no h) =
-        le-leb 64 (tableOf w .head) (omega arith)
-        ∙ sym
-        (eq-eqb (count (tableOf w .slots)) 0
-        (count-none (tableOf w .slots) (λ m b e. let c : m < 64 = omega (arith, i .slots) in empty-full (tableOf w) (omega arith) (i .chain) m c (here m c ∙ e))))
-
--- conditions on a slot, a description, a handle and metadata words
 not-and-not : (a b : Bool) → not (a && not b) ≡ not a || b
 not-and-not true true = refl
 not-and-not true false = refl
@@ -187,40 +153,64 @@ or-assoc : (a b c : Bool) → (a || b) || c ≡ a || (b || c)
 or-assoc true b c = refl
 or-assoc false b c = refl
 
-pub submit-same : (v : Slot) (c : ℕ) → not (submittable v c) ≡ not (inState 1 v) || (not (eqb (v .caller) c) || v .ended)
-submit-same v c =
-    not-and (isPlaceholder (phaseOf v)) (eqb (v .caller) c && not (v .ended))
-    ∙ ap₂ (λ (a b : Bool). not a || b) (slot-named v .placeholder) (not-and-not (eqb (v .caller) c) (v .ended))
+module _ (w : World) (h : List Fact) (i : InvOf w h) where
+  pub slot-named : (n : ℕ) → Named (phaseIn w n) (state (book h n .stage))
+  slot-named n =
+      let t = named (book h n .stage) in
+      let p = phase-is (shape (tableOf w)) h i n in
+      record {
+        vacant = ap isVacant p ∙ t .vacant;
+        placeholder = ap isPlaceholder p ∙ t .placeholder;
+        waiting = ap isWaiting p ∙ t .waiting;
+        responded = ap isResponded p ∙ t .responded;
+        mapping = ap isFmap p ∙ t .mapping;
+      }
 
-pub wake-same : (v : Slot) (c : ℕ) → not (wakeable v c) ≡ not (eqb (v .caller) c) || (v .ended || v .returned)
-wake-same v c = go (eqb (v .caller) c) (v .ended) (v .returned)
-  where
-    go : (a b c : Bool) → not (a && (not b && not c)) ≡ not a || (b || c)
-    go true true c = refl
-    go true false true = refl
-    go true false false = refl
-    go false b c = refl
+  -- the chain is empty exactly where no tag is vacant, and its head is the next tag
+  pub table-same : tableFull w ≡ noTagVacant h
+  table-same = go (vacantTags h) (i .chain)
+    where
+      go : (l : List ℕ) → Linked (tableOf w .next) (tableOf w .head) l → leb 64 (tableOf w .head) ≡ eqb (length l) 0
+      go [] p = le-leb 64 (tableOf w .head) p
+      go (x ∷ l) p = lt-leb 64 (tableOf w .head) (omega (arith, p .0, p .1)) ∙ sym (ne-eqb (suc (length l)) 0 (λ e. omega (arith, e)))
 
-pub awaits-same : (v : Slot) → awaits (phaseOf v) ≡ inState 2 v || inState 3 v
-awaits-same v = go (phaseOf v) ∙ ap₂ _||_ (slot-named v .waiting) (slot-named v .responded)
-  where
-    go : (p : Phase) → awaits p ≡ isWaiting p || isResponded p
-    go Vacant = refl
-    go Placeholder = refl
-    go Waiting = refl
-    go Responded = refl
-    go Fmap = refl
+  pub next-tag : tableFull w ≡ false → tableOf w .head ≡ nextTag h
+  next-tag full = go (vacantTags h) (i .chain)
+    where
+      go : (l : List ℕ) → Linked (tableOf w .next) (tableOf w .head) l → tableOf w .head ≡ getD l 0 0
+      go [] p = absurd (omega (arith, p, leb-false 64 (tableOf w .head) full))
+      go (x ∷ l) p = p .0
+
+  -- conditions on a tag's slot
+  pub submit-same : (n c : ℕ) → not (submittable (slotIn w n) c) ≡ not (inState 1 h n) || (not (eqb (book h n .caller) c) || book h n .ended)
+  submit-same n c =
+      guarded (isPlaceholder (phaseIn w n)) (eqb (slotIn w n .caller) c && not (slotIn w n .ended)) (not (eqb (book h n .caller) c) || book h n .ended) at
+      ∙ ap (λ (b : Bool). not b || (not (eqb (book h n .caller) c) || book h n .ended)) (slot-named n .placeholder)
+    where
+      at : isPlaceholder (phaseIn w n) ≡ true → not (eqb (slotIn w n .caller) c && not (slotIn w n .ended)) ≡ not (eqb (book h n .caller) c) || book h n .ended
+      at q =
+          let p = placeholder-is (phaseIn w n) q in
+          let d = in-phase (shape (tableOf w)) h i n Placeholder reserved p (in-stage (shape (tableOf w)) h i n Placeholder p) in
+          not-and-not (eqb (slotIn w n .caller) c) (slotIn w n .ended)
+          ∙ ap₂ (λ (x : ℕ) (b : Bool). not (eqb x c) || b) (ap callerIs d) (ap endedIs d)
+
+  pub words-same :
+      (verb : ℕ) (ms : List ℕ)
+      → wrongWords verb ms || isVacant (phaseIn w (requestOf ms))
+      ≡ not (eqb (length ms) 2) || (not (eqb (getD ms 0 0) verb) || inState 0 h (getD ms 1 0))
+  words-same verb ms =
+      or-assoc (not (eqb (length ms) 2)) (not (eqb (getD ms 0 0) verb)) (isVacant (phaseIn w (requestOf ms)))
+      ∙ ap (λ (b : Bool). not (eqb (length ms) 2) || (not (eqb (getD ms 0 0) verb) || b)) (slot-named (requestOf ms) .vacant)
+
+-- who may be woken, by what the slot and by what the history says
+pub wake-same : (o e r : Bool) → not (o && (not e && not r)) ≡ not o || (e || r)
+wake-same true true c = refl
+wake-same true false true = refl
+wake-same true false false = refl
+wake-same false b c = refl
 
 pub lacks-same : (w : World) (d : ℕ) → unheld (holdsOf w .holds) (holdsOf w .outside) d ≡ lacks w 1 d
 lacks-same w d j = ltb 63 d || (eqb (holdsIn w d) 0 || none-same (outsideIn w d) j)
 
 pub free-same : (w : World) (k : ℕ) → not (isFree (handlesOf w) k) ≡ ltb 63 k || not (eqb (handleAt w k) 0)
 free-same w k = not-and (leb k 63) (eqb (handleAt w k) 0) ∙ ap (λ (b : Bool). b || not (eqb (handleAt w k) 0)) (not-leb k 63)
-
-pub words-same :
-    (w : World) (verb : ℕ) (ms : List ℕ)
-    → wrongWords verb ms || isVacant (phaseIn w (requestOf ms))
-    ≡ not (eqb (length ms) 2) || (not (eqb (getD ms 0 0) verb) || vacant (slotIn w (getD ms 1 0)))
-words-same w verb ms =
-    or-assoc (not (eqb (length ms) 2)) (not (eqb (getD ms 0 0) verb)) (isVacant (phaseIn w (requestOf ms)))
-    ∙ ap (λ (b : Bool). not (eqb (length ms) 2) || (not (eqb (getD ms 0 0) verb) || b)) (slot-named (slotIn w (requestOf ms)) .vacant)

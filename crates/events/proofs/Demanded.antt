@@ -1,6 +1,6 @@
--- Demand 3 holds of every run. Assumes nothing.
+-- Demand 3 and the claim on answers hold of all that a host's steps come to, and so of every run. Assumes nothing.
 use Prim.Native.Nat.{ℕ, zero, suc}
-use mathlib.Core.Path.{_≡_, refl}
+use mathlib.Core.Path.{_≡_, refl, sym, subst}
 use mathlib.Core.Bool.{Bool, true, false, cond}
 use mathlib.Core.List.{List, [], _∷_}
 use native.Mathlib.Omega.{arith}
@@ -10,38 +10,35 @@ use Rattle.slot.specs.Slots.{vacantSlot}
 use Rattle.status.specs.declared.Status.the-variants as status
 use Rattle.status.specs.Status.{isIn}
 use Rattle.status.proofs.Words.{in-le, ones-count}
-use Rattle.table.specs.Table.{freshTable, noSlot, slotAt}
+use Rattle.table.specs.Table.{rising, freshTable, noSlot, slotAt}
+use Rattle.table.proofs.Chain.{linked-rising}
 use Rattle.events.specs.World.{tableOf}
+use Rattle.events.specs.Outcome.{Outcome}
 use Rattle.events.specs.Event.{Event, step}
-use Rattle.events.specs.Run.{Run, next, runFrom, run}
-use Rattle.events.specs.Demand3.{Right, All, Demanded, Demand3}
-use Rattle.events.specs.Whole.{Whole}
+use Rattle.events.specs.Run.{Run, begin, told, next, runFrom, run, Steps, fresh, then}
+use Rattle.events.specs.Demand3.{Demanded, Demand3}
+use Rattle.events.specs.WellFormed.{WellFormed}
+use Rattle.events.specs.Exactly.{ExactAt, Exactly}
 use Rattle.events.proofs.Entries.{InvOf}
-use Rattle.events.proofs.Once.{Sorted, tell-sorted, all-apart, all-sourced}
+use Rattle.events.proofs.Exact.{exact-at}
+use Rattle.events.proofs.Once.{Sorted, event-sorted, all-apart, all-sourced}
 use Rattle.events.proofs.Stage.{core}
 use Rattle.events.proofs.Steps.{event-ok}
-use Rattle.events.proofs.Whole.{whole-fresh, whole-entry, whole-step}
+use Rattle.events.proofs.WellFormed.{formed-fresh, formed-step}
 
 -- what every run keeps
-record Kept (r : Run) : Type 0 where
-  whole : Whole (r .world)
-  inv : InvOf (r .world) (r .facts)
-  sorted : Sorted (r .number) 0 (r .facts)
-  turns : All Right (r .turns)
+pub record Kept (r : Run) : Type 0 where
+  pub formed : WellFormed (r .world)
+  pub inv : InvOf (r .world) (r .facts)
+  pub sorted : Sorted (r .number) 0 (r .facts)
 
 kept-next : (r : Run) (e : Event) → Kept r → Kept (next r e)
 kept-next r e k =
-    let o = event-ok whole-entry (r .number) (r .world) (r .facts) (k .whole) (k .inv) e in
     record {
-      whole = whole-step (r .world) e (k .whole);
-      inv = o .inv;
-      sorted = tell-sorted (r .number) e (r .world) (step (r .world) e .answer) (r .facts) (k .sorted);
-      turns = (record { hand = o .hand; queue = o .queue }, k .turns);
+      formed = formed-step (r .world) e (k .formed);
+      inv = event-ok r (k .formed) (k .inv) e .inv;
+      sorted = event-sorted (r .number) e (r .world) (step (r .world) e .answer) (r .facts) (k .sorted);
     }
-
-kept-run : (es : List Event) (r : Run) → Kept r → Kept (runFrom r es)
-kept-run [] r k = k
-kept-run (e ∷ es) r k = kept-run es (next r e) (kept-next r e k)
 
 fresh-slot : (n : ℕ) → core (slotAt freshTable n) ≡ core vacantSlot
 fresh-slot n = go (ltb n 64)
@@ -55,24 +52,36 @@ fresh-slot n = go (ltb n 64)
     go true = at 64 n
     go false = refl
 
-kept-fresh : (scheme : ℕ) (words : List ℕ) → length words ≡ 1024 → Kept (run scheme words [])
+kept-fresh : (scheme : ℕ) (words : List ℕ) → length words ≡ 1024 → Kept (begin scheme words)
 kept-fresh scheme words size =
     record {
-      whole = whole-fresh scheme words size;
-      inv = record { fits = fresh-slot; balance = refl; every = tt };
+      formed = formed-fresh scheme words size;
+      inv = record { fits = fresh-slot; chain = linked-rising 64 0 refl; balance = refl; every = tt };
       sorted = (tt, tt);
-      turns = tt;
     }
 
-demanded : (r : Run) → Kept r → Demanded r
-demanded r k =
+pub kept : (r : Run) → Steps r → Kept r
+kept r (fresh scheme words size) = kept-fresh scheme words size
+kept r (then q e o s p) = subst (λ (x : Outcome). Kept (told q e x)) (sym p) (kept-next q e (kept q s))
+
+pub demand3 : Demand3
+demand3 r s =
+    let k = kept r s in
     record {
       facts = k .inv .every;
       entries = all-apart (r .facts) (k .inv .every) (k .sorted .1);
       replies = all-sourced (r .facts) (k .inv .every);
-      turns = k .turns;
+      turn = λ e. event-ok r (k .formed) (k .inv) e .right;
       balance = omega (arith, k .inv .balance, ones-count (isIn status.Responded) (in-le status.Responded) (tableOf (r .world) .slots));
     }
 
-pub demand3 : Demand3
-demand3 scheme words size es = demanded (run scheme words es) (kept-run es (run scheme words []) (kept-fresh scheme words size))
+pub exactly : Exactly
+exactly r s = let k = kept r s in exact-at r (k .formed) (k .inv)
+
+-- a run over a list of events is such steps
+steps-from : (es : List Event) (r : Run) → Steps r → Steps (runFrom r es)
+steps-from [] r s = s
+steps-from (e ∷ es) r s = steps-from es (next r e) (then r e (step (r .world) e) s refl)
+
+pub run-steps : (scheme : ℕ) (words : List ℕ) → length words ≡ 1024 → (es : List Event) → Steps (run scheme words es)
+run-steps scheme words size es = steps-from es (begin scheme words) (fresh scheme words size)

@@ -1,45 +1,48 @@
--- Each completion entry, and so each write, keeps the invariant and leaves the queue alone. Assumes nothing.
-use Prim.Native.Nat.{ℕ, zero, suc, _+_, _*_, _/_, _<_}
-use mathlib.Core.Path.{_≡_, refl, sym, ap, _∙_, subst}
+-- Each completion entry keeps the invariant, leaves the queue alone and wakes whom it has to. Assumes nothing.
+use Prim.Native.Nat.{ℕ, _<_}
+use mathlib.Core.Path.{_≡_, refl, sym, ap, ap₂, _∙_}
 use mathlib.Core.Bool.{Bool, true, false, not, cond, _||_}
-use mathlib.Core.List.{List, [], _∷_, _++_}
+use mathlib.Core.List.{List, [], _∷_, _++_, map}
 use native.Mathlib.Omega.{arith}
-use native.Mathlib.Nat.{add-zero}
 use lib.Dec.{eqb}
 use lib.ListN.{length}
+use Rattle.closes.specs.Closes.{closing, only}
+use Rattle.closes.specs.declared.Reason.the-variants.{Replied, Ended, Refused}
+use Rattle.counts.specs.Counts.{lasts}
 use Rattle.error.specs.declared.Result.the-variants.{Ok, Err}
 use Rattle.fd_list.specs.declared.List.{List as Fds}
 use Rattle.fd_list.specs.Lists.{numbers}
 use Rattle.flag.specs.Flags.{within, eventFlags, fobtainFdFlags}
 use Rattle.handles.specs.declared.Handles.{Handles}
-use Rattle.handles.specs.Handles.{obtainOf}
+use Rattle.handles.specs.Handles.{obtainOf, obtainLasts}
 use Rattle.holds.specs.declared.Holds.{Holds}
 use Rattle.parse_cqe.specs.Parsed.{parsedBy, eventIf, obtainIf}
 use Rattle.schemev2.specs.declared.Cqe.{Cqe}
 use Rattle.schemev2.specs.declared.CqeOpcode.{CqeOpcode}
 use Rattle.schemev2.specs.declared.CqeOpcode.the-variants.{RespondRegular, RespondWithFd, SendFevent, ObtainFd, RespondWithMultipleFds, RespondAndNotifyOnDetach, Unknown}
 use Rattle.schemev2.specs.Entry.{kindOf, extraOf, cqeOpcodeOf}
+use Rattle.slot.specs.declared.PageSpan.{PageSpan}
 use Rattle.slot.specs.declared.Phase.{Phase}
 use Rattle.slot.specs.declared.Phase.the-variants.{Vacant, Placeholder, Waiting, Responded, Fmap}
 use Rattle.slot.specs.declared.Slot.{Slot}
 use Rattle.slot.specs.Slots.{phaseOf, respondedOf, withFdsOf}
 use Rattle.table.specs.Reached.{idle}
-use Rattle.table.specs.Table.{slotAt, putAt, vacateAt}
+use Rattle.table.specs.Table.{putAt, vacateAt}
 use Rattle.table.proofs.Chain.{occupied-within}
-use Rattle.events.specs.World.{World, tableOf, holdsOf, handlesOf, slotIn, phaseIn, withTable, tableWith, withHandles}
-use Rattle.events.specs.Outcome.{Outcome, outcome}
-use Rattle.events.specs.Wake.{responseOf}
-use Rattle.events.specs.Complete.{Entered, accepted, rejected, reject, Offer, result, one, listed, responseTo, storedAs, keptFds, isWaiting, inHandle, servedBy, respondBy, handleRows, byDescriptor, obtainRows, obtained, obtainEntryOf, entryBy, entryOf, stopped, onEntered, writeOn}
-use Rattle.events.specs.History.{Place, Fact, serve, hands, counted, isReply, offerOf, reading, worldOf, pour}
-use Rattle.events.specs.Demand3.{unreadIn}
-use Rattle.events.specs.Whole.{Whole}
+use Rattle.events.specs.World.{World, tableOf, schemeOf, holdsOf, handlesOf, slotIn, phaseIn, withTable, tableWith, withHandles, unreadIn}
+use Rattle.events.specs.Wake.{heldIn, responseOf}
+use Rattle.events.specs.Complete.{Entered, accepted, rejected, reject, closesOf, Offer, result, one, listed, responseTo, storedAs, keptFds, droppedFds, dropped, unmapOf, releaseOf, isWaiting, inHandle, servedBy, respondBy, handleRows, byDescriptor, obtainRows, obtained, obtainEntryOf, entryBy, entryOf}
+use Rattle.events.specs.History.{Fact, to, serve, waits, book, offers, served}
+use Rattle.events.specs.Demand3.{wakesFor, wakesIn}
+use Rattle.events.specs.WellFormed.{WellFormed}
 use Rattle.events.proofs.Checked.{checked-cases}
-use Rattle.events.proofs.Inv.{Inv, inv-same, inv-serve, inv-lose}
-use Rattle.events.proofs.Stage.{core, coreBy}
-use Rattle.events.proofs.Stored.{heldOf, put-stored, vacate-stored}
+use Rattle.events.proofs.Effects.{Triples, Silent, triples-append, silent-none, silent-append, silent-closes, wakes-append}
+use Rattle.events.proofs.Inv.{Inv, in-stage, in-phase, inv-same, inv-serve, inv-lose}
+use Rattle.events.proofs.Stage.{Core, core, coreBy, callerIs, endedIs}
+use Rattle.events.proofs.Stored.{shape, put-stored, vacate-stored}
 
 abbrev pub InvOf : World → List Fact → Type 0
-InvOf w h = Inv (slotIn w) (heldOf (tableOf w)) h
+InvOf w h = Inv (shape (tableOf w)) h
 
 -- an occupied slot's tag is in range
 pub in-range : (w : World) (n : ℕ) (p : Phase) → phaseIn w n ≡ p → idle p ≡ 0 → n < 64
@@ -63,145 +66,122 @@ waiting-is Waiting e = refl
 waiting-is Responded e = absurd (let z : _≡_ {A = ℕ} 0 1 = cc in omega arith)
 waiting-is Fmap e = absurd (let z : _≡_ {A = ℕ} 0 1 = cc in omega arith)
 
--- what an entry leaves: the history with what it tells if it is accepted, else as it was; the queue in either case
-abbrev Entered-ok : World → List Fact → List Fact → Entered → Type 0
-Entered-ok w h told (accepted fx u) = InvOf u told × (unreadIn u ≡ unreadIn w)
-Entered-ok w h told (rejected k fx u) = InvOf u h × (unreadIn u ≡ unreadIn w)
+-- queue and scheme number stay
+pub record Same (w u : World) : Type 0 where
+  pub queue : unreadIn u ≡ unreadIn w
+  pub scheme : schemeOf u ≡ schemeOf w
 
-module _ (w : World) (h : List Fact) (whole : Whole w) (i : InvOf w h) where
+pub same : {w : World} → Same w w
+same = record { queue = refl; scheme = refl }
+
+-- what an entry leaves: the history with what it tells if it is accepted, else as it was; and whom it wakes
+abbrev pub Entered-ok : World → List Fact → List Fact → Entered → Type 0
+Entered-ok w h told (accepted fx u) = InvOf u (told ++ h) × Same w u × Triples fx × (wakesIn fx ≡ wakesFor h told)
+Entered-ok w h told (rejected k fx u) = InvOf u h × Same w u × Silent fx
+
+unmap-silent : (b : Bool) (s : PageSpan) → Silent (unmapOf b s)
+unmap-silent true s = silent-none
+unmap-silent false s = record { whole = (1, refl); none = refl }
+
+module _ (w : World) (h : List Fact) (whole : WellFormed w) (i : InvOf w h) where
   -- a reply entry: w' is what a refusal leaves, u what it is served on; both differ from w in handles and holds alone
-  module _ (q : Place) (n : ℕ) (o : Offer) (k' k : Handles) (g' g : Holds) (fx : List ℕ) where
+  module _ (e j n : ℕ) (o : Offer) (k' k : Handles) (g' g : Holds) (fx : List ℕ) (quiet : Silent fx) where
     abbrev left : World
     left = withHandles (withTable w (tableWith (tableOf w) g')) k'
 
     abbrev used : World
     used = withHandles (withTable w (tableWith (tableOf w) g)) k
 
-    abbrev Replied : Entered → Type 0
-    Replied e = Entered-ok w h (serve q n (responseTo (slotIn w n) o) ∷ h) e
+    abbrev told : List Fact
+    told = to n (serve e j (responseTo (slotIn w n) o)) ∷ []
 
-    serve-go : (b : Bool) → phaseIn w n ≡ Waiting → slotIn w n .ended ≡ b → Replied (servedBy b used n o)
-    serve-go false p e =
-        let b = in-range w n Waiting p refl in
-        let v = respondedOf (slotIn w n) (storedAs (responseTo (slotIn w n) o)) (keptFds o (slotIn w n)) in (
-          inv-serve (slotIn w) (heldOf (tableOf w)) h i n q (responseTo (slotIn w n) o) (storedAs (responseTo (slotIn w n) o)) (keptFds o (slotIn w n)) (slotAt (putAt (tableOf used) n v)) (heldOf (putAt (tableOf used) n v))
-              (put-stored (tableOf used) (whole .slots) n v b) p e (reads-back (slotIn w n) o),
-          refl,
+    release-silent : Silent (releaseOf used (slotIn w n) o)
+    release-silent =
+        silent-append (unmapOf (eqb (slotIn w n .span .count) 0) (slotIn w n .span)) (closesOf Replied g (droppedFds o (slotIn w n)))
+        (unmap-silent (eqb (slotIn w n .span .count) 0) (slotIn w n .span)) (silent-closes (only (closing Replied) (lasts (g .holds) (droppedFds o (slotIn w n)))))
+
+    serve-go : (b : Bool) → phaseIn w n ≡ Waiting → slotIn w n .ended ≡ b → Entered-ok w h told (servedBy b used n o)
+    serve-go false p q =
+        let m = in-range w n Waiting p refl in
+        let c = in-phase (shape (tableOf w)) h i n Waiting waits p (in-stage (shape (tableOf w)) h i n Waiting p) in
+        let v = respondedOf (slotIn w n) (storedAs (responseTo (slotIn w n) o)) (keptFds o (slotIn w n)) in
+        let ke : book h n .ended ≡ false = ap endedIs (sym c) ∙ q in (
+          inv-serve (shape (tableOf w)) h i n e j (responseTo (slotIn w n) o) (storedAs (responseTo (slotIn w n) o)) (keptFds o (slotIn w n)) (shape (putAt (tableOf used) n v))
+              (put-stored (tableOf used) (whole .slots) n v m) p q (reads-back (slotIn w n) o),
+          record { queue = refl; scheme = refl },
+          triples-append (1 ∷ slotIn w n .caller ∷ n ∷ []) (releaseOf used (slotIn w n) o) (1, refl) (release-silent .whole),
+          ap (λ (l : List ℕ). 1 ∷ slotIn w n .caller ∷ n ∷ l) (release-silent .none) ∙ ap (λ (x : ℕ). 1 ∷ x ∷ n ∷ []) (ap callerIs c)
+              ∙ sym (ap (λ (b : Bool). cond b [] (1 ∷ book h n .caller ∷ n ∷ [])) ke),
         )
-    serve-go true p e =
-        let b = in-range w n Waiting p refl in (
-          inv-lose (slotIn w) (heldOf (tableOf w)) h i n q (responseTo (slotIn w n) o) (slotAt (vacateAt (tableOf used) n)) (heldOf (vacateAt (tableOf used) n))
-              (vacate-stored (tableOf used) (whole .slots) n b) p e,
-          refl,
+    serve-go true p q =
+        let m = in-range w n Waiting p refl in
+        let c = in-phase (shape (tableOf w)) h i n Waiting waits p (in-stage (shape (tableOf w)) h i n Waiting p) in
+        let ke : book h n .ended ≡ true = ap endedIs (sym c) ∙ q in
+        let s =
+        silent-append (releaseOf used (slotIn w n) o) (closesOf Ended (dropped g (droppedFds o (slotIn w n))) (heldIn (responseTo (slotIn w n) o)))
+        release-silent (silent-closes (only (closing Ended) (lasts (dropped g (droppedFds o (slotIn w n)) .holds) (heldIn (responseTo (slotIn w n) o))))) in (
+          inv-lose (shape (tableOf w)) h i n e j (responseTo (slotIn w n) o) (shape (vacateAt (tableOf used) n))
+              (vacate-stored (tableOf used) (whole .slots) n m (whole .next) (whole .chain) (ap idle p)) p q,
+          record { queue = refl; scheme = refl },
+          s .whole,
+          s .none ∙ sym (ap (λ (b : Bool). cond b [] (1 ∷ book h n .caller ∷ n ∷ [])) ke),
         )
 
-    respond-go : (p : Phase) → phaseIn w n ≡ p → Replied (respondBy p left fx used n o)
-    respond-go Vacant e = (i, refl)
-    respond-go Placeholder e = (i, refl)
-    respond-go Waiting e = serve-go (slotIn w n .ended) e refl
-    respond-go Responded e = (i, refl)
-    respond-go Fmap e = (i, refl)
+    respond-go : (p : Phase) → phaseIn w n ≡ p → Entered-ok w h told (respondBy p left fx used n o)
+    respond-go Vacant q = (i, record { queue = refl; scheme = refl }, quiet)
+    respond-go Placeholder q = (i, record { queue = refl; scheme = refl }, quiet)
+    respond-go Waiting q = serve-go (slotIn w n .ended) q refl
+    respond-go Responded q = (i, record { queue = refl; scheme = refl }, quiet)
+    respond-go Fmap q = (i, record { queue = refl; scheme = refl }, quiet)
 
-  obtain-ok : (n k : ℕ) → Entered-ok w h h (obtainEntryOf w n k)
+  obtain-ok : (n k : ℕ) → Entered-ok w h [] (obtainEntryOf w n k)
   obtain-ok n k =
-      checked-cases (Entered-ok w h h) (reject w) (obtainRows w n) (obtained w n k) (λ m. (i, refl))
-      (λ f. go (waiting-is (phaseIn w n) (waits (isWaiting (phaseIn w n)) (eqb (length (numbers (slotIn w n .fds))) 0) (f .1 .0))))
+      checked-cases (Entered-ok w h []) (reject w) (obtainRows w n) (obtained w n k) (λ m. (i, same, silent-none))
+      (λ f. go (waiting-is (phaseIn w n) (waiting (isWaiting (phaseIn w n)) (eqb (length (numbers (slotIn w n .fds))) 0) (f .1 .0))))
     where
-      waits : (a b : Bool) → not a || b ≡ false → a ≡ true
-      waits true b e = refl
-      waits false b e = absurd (let z : _≡_ {A = ℕ} 0 1 = cc in omega arith)
+      waiting : (a b : Bool) → not a || b ≡ false → a ≡ true
+      waiting true b e = refl
+      waiting false b e = absurd (let z : _≡_ {A = ℕ} 0 1 = cc in omega arith)
 
-      go : phaseIn w n ≡ Waiting → Entered-ok w h h (obtained w n k)
+      go : phaseIn w n ≡ Waiting → Entered-ok w h [] (obtained w n k)
       go p =
-          let v = withFdsOf (slotIn w n) (obtainOf (holdsOf w) (handlesOf w) (slotIn w n .fds) k .list) in (
-            inv-same (slotIn w) (heldOf (tableOf w)) h i n v (slotAt (putAt (tableOf w) n v)) (heldOf (putAt (tableOf w) n v))
-                (put-stored (tableOf w) (whole .slots) n v (in-range w n Waiting p refl)) Waiting p p (same-core (slotIn w n) (v .fds) Waiting p refl),
-            refl,
+          let v = withFdsOf (slotIn w n) (obtainOf (holdsOf w) (handlesOf w) (slotIn w n .fds) k .list) in
+          let s = silent-closes (obtainLasts (numbers (slotIn w n .fds)) (holdsOf w) (handlesOf w) k) in (
+            inv-same (shape (tableOf w)) (shape (putAt (tableOf w) n v)) h n v i (put-stored (tableOf w) (whole .slots) n v (in-range w n Waiting p refl)) Waiting p p
+                (same-core (slotIn w n) (v .fds) Waiting p refl),
+            record { queue = refl; scheme = refl },
+            s .whole,
+            s .none,
           )
 
-  module _ (q : Place) (e : Cqe) where
+  module _ (e j : ℕ) (c : Cqe) where
     -- told of an entry of this kind
     abbrev toldBy : CqeOpcode → List Fact
-    toldBy k = cond (isReply k) (serve q (e .tag) (responseTo (slotIn w (e .tag)) (offerOf k w e)) ∷ h) h
+    toldBy k = map (λ o. to (c .tag) (serve e j (responseTo (slotIn w (c .tag)) o))) (offers k w c)
 
-    event-go : (b : Bool) → Entered-ok w h h (entryBy (eventIf b e) w)
-    event-go true = (i, refl)
-    event-go false = (i, refl)
+    event-go : (b : Bool) → Entered-ok w h [] (entryBy (eventIf b c) w)
+    event-go true = (i, same, (1, refl), refl)
+    event-go false = (i, same, silent-none)
 
-    obtain-go : (b : Bool) → Entered-ok w h h (entryBy (obtainIf b e) w)
-    obtain-go true = obtain-ok (e .tag) (e .result)
-    obtain-go false = (i, refl)
+    obtain-go : (b : Bool) → Entered-ok w h [] (entryBy (obtainIf b c) w)
+    obtain-go true = obtain-ok (c .tag) (c .result)
+    obtain-go false = (i, same, silent-none)
 
-    kind-go : (k : CqeOpcode) → Entered-ok w h (toldBy k) (entryBy (parsedBy k e) w)
-    kind-go RespondRegular = respond-go q (e .tag) (offerOf RespondRegular w e) (handlesOf w) (handlesOf w) (holdsOf w) (holdsOf w) [] (phaseIn w (e .tag)) refl
+    regular-go : (o : Offer) → Entered-ok w h (to (c .tag) (serve e j (responseTo (slotIn w (c .tag)) o)) ∷ []) (respondBy (phaseIn w (c .tag)) w [] w (c .tag) o)
+    regular-go o = respond-go e j (c .tag) o (handlesOf w) (handlesOf w) (holdsOf w) (holdsOf w) [] silent-none (phaseIn w (c .tag)) refl
+
+    kind-go : (k : CqeOpcode) → Entered-ok w h (toldBy k) (entryBy (parsedBy k c) w)
+    kind-go RespondRegular = regular-go _
     kind-go RespondWithFd =
-        checked-cases (Entered-ok w h (toldBy RespondWithFd)) (reject w) (handleRows w (e .result)) (byDescriptor w (e .tag) (e .result)) (λ m. (i, refl))
-        (λ f. respond-go q (e .tag) (one (inHandle w (e .result))) _ _ _ _ _ (phaseIn w (e .tag)) refl)
-    kind-go SendFevent = event-go (within eventFlags (e .tag))
-    kind-go ObtainFd = obtain-go (within fobtainFdFlags (extraOf e))
-    kind-go RespondWithMultipleFds = respond-go q (e .tag) listed (handlesOf w) (handlesOf w) (holdsOf w) (holdsOf w) [] (phaseIn w (e .tag)) refl
-    kind-go RespondAndNotifyOnDetach =
-        respond-go q (e .tag) (offerOf RespondAndNotifyOnDetach w e) (handlesOf w) (handlesOf w) (holdsOf w) (holdsOf w) [] (phaseIn w (e .tag)) refl
-    kind-go Unknown = (i, refl)
+        checked-cases (Entered-ok w h (toldBy RespondWithFd)) (reject w) (handleRows w (c .result)) (byDescriptor w (c .tag) (c .result)) (λ m. (i, same, silent-none))
+        (λ f.
+        respond-go e j (c .tag) (one (inHandle w (c .result))) _ _ _ _ _
+        (silent-closes (only (closing Refused) (lasts (holdsOf w .holds) (inHandle w (c .result) ∷ [])))) (phaseIn w (c .tag)) refl)
+    kind-go SendFevent = event-go (within eventFlags (c .tag))
+    kind-go ObtainFd = obtain-go (within fobtainFdFlags (extraOf c))
+    kind-go RespondWithMultipleFds = regular-go listed
+    kind-go RespondAndNotifyOnDetach = regular-go _
+    kind-go Unknown = (i, same, silent-none)
 
-    entry-ok : Entered-ok w h (toldBy (cqeOpcodeOf (kindOf e))) (entryOf w e)
-    entry-ok = kind-go (cqeOpcodeOf (kindOf e))
-
--- a write, entry after entry: m more entries are counted, and they are the first m
-abbrev pub Wrote : World → List Fact → List Cqe → ℕ → ℕ → ℕ → Outcome → Type 0
-Wrote w h es j q n o =
-    (m : ℕ) × (counted (o .answer) ≡ n + m) × InvOf (o .world) (pour j q m es w h) × (hands (o .answer) ≡ false) × (unreadIn (o .world) ≡ unreadIn w)
-
-sixteenth : (n : ℕ) → 16 * n / 16 ≡ n
-sixteenth n = omega arith
-
-stopped-count : (n k : ℕ) → counted (stopped n k) ≡ n + 0
-stopped-count zero k = refl
-stopped-count (suc n) k = sixteenth (suc n) ∙ sym (add-zero (suc n))
-
-stopped-hands : (n k : ℕ) → hands (stopped n k) ≡ false
-stopped-hands zero k = refl
-stopped-hands (suc n) k = refl
-
--- each entry keeps a state well-formed (proofs/Whole.antt)
-abbrev pub Keeps : Type 0
-Keeps = (w : World) (e : Cqe) → Whole w → Whole (worldOf (entryOf w e))
-
-pub write-ok : Keeps → (es : List Cqe) (j : ℕ) (w : World) (h : List Fact) → Whole w → InvOf w h → (q n : ℕ) (fx : List ℕ) → Wrote w h es j q n (writeOn w es n fx)
-write-ok keep [] j w h whole i q n fx = (0, sixteenth n ∙ sym (add-zero n), i, refl, refl)
-write-ok keep (e ∷ es) j w h whole i q n fx = land (write-ok keep es j)
-  where
-    place : Place
-    place = record { event = j; entry = q }
-
-    told : List Fact
-    told = cond (isReply (cqeOpcodeOf (kindOf e))) (serve (record { event = j; entry = q }) (e .tag) (reading w e) ∷ h) h
-
-    -- what the first m of e ∷ es tell, where e lands as x
-    toldOf : Entered → ℕ → List Fact
-    toldOf x zero = h
-    toldOf x (suc m) = pour j (suc q) m es (worldOf x) told
-
-    told-is : (m : ℕ) → toldOf (entryOf w e) m ≡ pour j q m (e ∷ es) w h
-    told-is zero = refl
-    told-is (suc m) = refl
-
-    go :
-        ((u : World) (h : List Fact) → Whole u → InvOf u h → (q n : ℕ) (fx : List ℕ) → Wrote u h es j q n (writeOn u es n fx))
-        → (x : Entered) → Whole (worldOf x) → Entered-ok w h told x
-        → (m : ℕ)
-        × (counted (onEntered x (λ gx u. writeOn u es (suc n) (fx ++ gx)) (λ k gx u. outcome (stopped n k) (fx ++ gx) u) .answer) ≡ n + m)
-        × InvOf (onEntered x (λ gx u. writeOn u es (suc n) (fx ++ gx)) (λ k gx u. outcome (stopped n k) (fx ++ gx) u) .world) (toldOf x m)
-        × (hands (onEntered x (λ gx u. writeOn u es (suc n) (fx ++ gx)) (λ k gx u. outcome (stopped n k) (fx ++ gx) u) .answer) ≡ false)
-        × (unreadIn (onEntered x (λ gx u. writeOn u es (suc n) (fx ++ gx)) (λ k gx u. outcome (stopped n k) (fx ++ gx) u) .world) ≡ unreadIn w)
-    go more (accepted gx u) s g =
-        let r = more u told s (g .0) (suc q) (suc n) (fx ++ gx) in
-        (suc (r .0), omega (arith, r .1), r .2, r .3, r .4 ∙ g .1)
-    go more (rejected k gx u) s g = (0, stopped-count n k, g .0, stopped-hands n k, g .1)
-
-    land :
-        ((u : World) (h : List Fact) → Whole u → InvOf u h → (q n : ℕ) (fx : List ℕ) → Wrote u h es j q n (writeOn u es n fx))
-        → Wrote w h (e ∷ es) j q n (writeOn w (e ∷ es) n fx)
-    land more =
-        let r = go more (entryOf w e) (keep w e whole) (entry-ok w h whole i place e) in
-        (r .0, r .1, subst (λ (f : List Fact). InvOf (writeOn w (e ∷ es) n fx .world) f) {x = toldOf (entryOf w e) (r .0)} (told-is (r .0)) (r .2), r .3, r .4)
+    pub entry-ok : Entered-ok w h (served e j w c) (entryOf w c)
+    entry-ok = kind-go (cqeOpcodeOf (kindOf c))

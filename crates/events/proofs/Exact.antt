@@ -1,22 +1,20 @@
--- Each number is answered exactly when its row's condition holds and no earlier row's does (claim 3). Assumes nothing.
-use Prim.Native.Nat.{ℕ, zero, suc, _+_, _*_, _/_, _%_, _≤_}
-use mathlib.Core.Path.{_≡_, refl, ap, _∙_, subst}
+-- What each event answers, by the rows of the claim and by what happened. Assumes nothing.
+use Prim.Native.Nat.{ℕ, zero, suc, min, _+_, _*_, _/_, _%_, _≤_}
+use mathlib.Core.Path.{_≡_, refl, sym, ap, ap₂, _∙_, subst}
 use mathlib.Core.Bool.{Bool, true, false, not, cond, _||_, _&&_, true≢false, false≢true}
 use mathlib.Core.List.{List, [], _∷_, _++_}
 use native.Mathlib.Omega.{arith}
-use lib.Dec.{ltb, eqb}
-use lib.ListN.{length, length-append, drop}
-use borrow.Author.Tests.{lt-ltb, ltb-false, eqb-true}
+use lib.Dec.{ltb, leb, eqb}
+use lib.ListN.{length, length-append, drop, getD}
+use borrow.Author.Tests.{lt-ltb, ltb-false, eqb-true, not-true}
 use Rattle.counts.specs.Counts.{lasts}
 use Rattle.closes.specs.declared.Reason.the-variants.{Replied, Ended, Refused, Unusable}
 use Rattle.closes.specs.Closes.{closing, only, closes}
 use Rattle.closes.proofs.Laws.{closes-room}
 use Rattle.error.specs.declared.Result.the-variants.{Ok, Err}
-use Rattle.error.specs.Errors.{demuxOf}
 use Rattle.fd_list.specs.declared.List.{List as Fds}
 use Rattle.fd_list.specs.Lists.{numbers}
 use Rattle.fd_list.proofs.Laws.{numbers-most}
-use Rattle.flag.specs.Flags.{within, eventFlags, fobtainFdFlags}
 use Rattle.handles.specs.declared.Handles.{Handles}
 use Rattle.handles.specs.Handles.{isFree, obtainLasts, obtainCloses}
 use Rattle.holds.specs.declared.Holds.{Holds}
@@ -27,201 +25,43 @@ use Rattle.host_holds.specs.declared.DropAnswer.the-variants as dropping
 use Rattle.host_holds.specs.Host.{opened, copied, dropped, openAnswer, copyAnswer, dropAnswer}
 use Rattle.host_put.specs.declared.PutAnswer.the-variants as putting
 use Rattle.host_put.specs.Put.{put, putAnswer}
-use Rattle.parse_cqe.specs.Parsed.{eventIf, obtainIf, parsedBy, parsedOf}
+use Rattle.parse_cqe.specs.Parsed.{parsedOf}
 use Rattle.parse_cqe.specs.declared.ParsedCqe.{ParsedCqe}
 use Rattle.parse_cqe.specs.declared.ParsedCqe.the-variants as parsed
 use Rattle.schemev2.specs.declared.Cqe.{Cqe}
-use Rattle.schemev2.specs.declared.CqeOpcode.{CqeOpcode}
-use Rattle.schemev2.specs.declared.CqeOpcode.the-variants.{RespondRegular, RespondWithFd, SendFevent, ObtainFd, RespondWithMultipleFds, RespondAndNotifyOnDetach, Unknown}
-use Rattle.schemev2.specs.Entry.{kindOf, extraOf, cqeOpcodeOf}
 use Rattle.slot.specs.declared.PageSpan.{PageSpan}
 use Rattle.slot.specs.declared.Phase.{Phase}
 use Rattle.slot.specs.declared.Phase.the-variants.{Vacant, Placeholder, Waiting, Responded, Fmap}
 use Rattle.wait_queue.specs.declared.WaitQueue.{WaitQueue}
 use Rattle.wait_queue_receive.specs.Receive.{receiveAnswer, emptyBy, receivedIf}
-use Rattle.events.specs.World.{World, queueOf, holdsOf, handlesOf, slotIn, phaseIn, withHandles, queueFull}
-use Rattle.events.specs.Outcome.{Answer, ok, answered, Outcome, outcome, Row, row, checked, refuse}
-use Rattle.events.specs.Submit.{reserveRows, submitRows, callRows, genericRows, stdfsRows, fmapRows, queueRows, longList, kindByte, isPlaceholder}
-use Rattle.events.specs.Wake.{heldIn, awaits, wakeable, wakeRows, blockedBy, waitedBy, wokenBy}
+use Rattle.events.specs.World.{World, tableOf, queueOf, holdsOf, handlesOf, slotIn, phaseIn, queueFull, unreadIn}
+use Rattle.events.specs.Outcome.{Answer, ok, no, wait, blocked, reply, answered, Outcome, outcome, Row, row, checked, refuse}
+use Rattle.events.specs.Submit.{reserveRows, submitRows, callRows, genericRows, stdfsRows, fmapRows, queueRows, longList, kindByte, isPlaceholder, tableFull}
+use Rattle.events.specs.Wake.{heldIn, responseOf, wakeable, wakeRows, blockedBy, waitedBy, wokenBy}
 use Rattle.events.specs.Descriptors.{requestOf, requestRows, listRows}
 use Rattle.events.specs.Supply.{wrongPages, pageRows, suppliedAs, suppliedBy}
-use Rattle.events.specs.Complete.{handleRows, obtainRows, writeRows, Entered, accepted, rejected, reject, closesOf, Offer, result, one, listed, responseTo, droppedFds, unmapOf, releaseOf, servedBy, respondBy, inHandle, isVacant, isWaiting, entryBy, entryOf, cut, entriesOf, stopped, onEntered, writeOn}
-use Rattle.events.specs.Event.{Event, hostOpen, hostCopy, hostDrop, hostPut, hostEnded, reserve, submit, call, generic, stdfs, fmap, close, detach, wake, read, write, move, obtain, supply, step}
-use Rattle.events.specs.Whole.{Whole}
-use Rattle.events.specs.Exactly.{entryEffects, EntryExact, Along, ExactAt, Exactly, firstRows, waitsFor, isWrite, listLacks, Verdict, goes, refusedWith, first, entryVerdict, respondRows, entryRows, verdict, isWait, rowsOf, vacant, holdsIn}
-use Rattle.events.specs.History.{worldOf}
-use Rattle.events.specs.Run.{run}
-use Rattle.events.proofs.Whole.{whole-handles, whole-entry, whole-run}
+use Rattle.events.specs.Complete.{handleRows, obtainRows, writeRows, Entered, accepted, rejected, worldOf, reject, closesOf, Offer, result, one, listed, responseTo, droppedFds, unmapOf, releaseOf, servedBy, respondBy, inHandle, isVacant, isWaiting, entryBy, entryOf, cut, entriesOf, stopped, onEntered, writeOn}
+use Rattle.events.specs.Event.{DriverEvent, hostPut, reserve, submit, call, generic, stdfs, fmap, close, detach, wake, read, write, move, obtain, supply, Event, hostOpen, hostCopy, hostDrop, hostEnded, on, step}
+use Rattle.events.specs.History.{Fact, Stage, free, reserved, waits, replied, mapping, Call, book}
+use Rattle.events.specs.Run.{Run}
+use Rattle.events.specs.WellFormed.{WellFormed}
+use Rattle.events.specs.Exactly.{ruled, state, inState, noTagVacant, nextTag, all128Unread, holdsIn, listLacks, woken, firstRows, goodEntries, driverAnswer, answerTo, ExactAt}
 use Rattle.events.proofs.Checked.{Passed, checked-cases}
-use Rattle.events.proofs.Refused.{wrote}
-use Rattle.events.proofs.Conditions.{opcode-same, not-ltb, some-same, odd-same, count-same, kind-same, queue-same, isResponded, isFmap, slot-named, table-same, submit-same, wake-same, awaits-same, lacks-same, free-same, words-same}
+use Rattle.events.proofs.Conditions.{Named, opcode-same, not-ltb, some-same, odd-same, count-same, kind-same, unread-length, queue-same, empty-same, isResponded, isFmap, slot-named, table-same, next-tag, submit-same, wake-same, lacks-same, free-same, words-same}
+use Rattle.events.proofs.Entries.{InvOf}
+use Rattle.events.proofs.Inv.{in-stage, in-phase, replied-is}
+use Rattle.events.proofs.Stage.{Core, coreBy, dress, Told, callerIs, cancelingIs, endedIs, returnedIs}
+use Rattle.events.proofs.Steps.{both, or-split}
+use Rattle.events.proofs.Stored.{shape}
+use Rattle.events.proofs.WellFormed.{formed-handles, formed-entry}
+use Rattle.events.proofs.Writes.{ruled-checked, write-ok}
 
--- what the claim says of an event's answer and effects: rows, would wait, is a write
-record Told (a : Answer) (fx : List ℕ) (rows : List Row) (waits many : Bool) : Type 0 where
-  number : verdict a ≡ first rows
-  waiting : isWait a ≡ waits
-  one : many ≡ false → length fx ≤ 3
+abbrev entryEffects : Entered → List ℕ
+entryEffects (accepted fx w) = fx
+entryEffects (rejected k fx w) = fx
 
-done : {v : ℕ} {fx : List ℕ} → length fx ≤ 3 → Told (ok v) fx [] false false
-done h = record { number = refl; waiting = refl; one = λ e. h }
-
-quiet : {a : Answer} {rows : List Row} {b : Bool} → verdict a ≡ first rows → isWait a ≡ b → Told a [] rows b false
-quiet p q = record { number = p; waiting = q; one = λ e. omega arith }
-
-under : {a : Answer} {fx : List ℕ} {rows claimed : List Row} {b m : Bool} → Told a fx rows b m → rows ≡ claimed → Told a fx claimed b m
-under {a} {fx} {b = b} {m} t p = subst (λ (rs : List Row). Told a fx rs b m) p t
-
--- the first row that is due is answered, and where none is, the rest says
-first-checked :
-    {A : Type 0} (f : A → Verdict) (turn : ℕ → A) → ((k : ℕ) → f (turn k) ≡ refusedWith k)
-    → (rows rest : List Row) (o : A) → (Passed rows → f o ≡ first rest) → f (checked turn rows o) ≡ first (rows ++ rest)
-first-checked f turn bad [] rest o good = good tt
-first-checked f turn bad (r ∷ rs) rest o good = go (r .due) refl (first-checked f turn bad rs rest o)
-  where
-    go :
-        (b : Bool) → r .due ≡ b → ((Passed rs → f o ≡ first rest) → f (checked turn rs o) ≡ first (rs ++ rest))
-        → f (cond b (turn (r .number)) (checked turn rs o)) ≡ first (row (r .number) b ∷ rs ++ rest)
-    go true e more = bad (r .number)
-    go false e more = more (λ p. good (e, p))
-
-told-checked :
-    (w : World) (rows : List Row) {rest : List Row} {m : Bool} (o : Outcome) → (Passed rows → Told (o .answer) (o .effects) rest false m)
-    → Told (checked (refuse w) rows o .answer) (checked (refuse w) rows o .effects) (rows ++ rest) false m
-told-checked w rows {rest} o good =
-    record {
-      number = first-checked (λ (u : Outcome). verdict (u .answer)) (refuse w) (λ k. refl) rows rest o (λ p. good p .number);
-      waiting = checked-cases (λ (u : Outcome). isWait (u .answer) ≡ false) (refuse w) rows o (λ k. refl) (λ p. good p .waiting);
-      one = λ e. checked-cases (λ (u : Outcome). length (u .effects) ≤ 3) (refuse w) rows o (λ k. omega arith) (λ p. good p .one e);
-    }
-
--- the host's events
-open-told : (b : Bool) (h k : Holds) → Told (answered (openAnswer (cond b (opened opening.BadArgument h) (opened opening.Opened k) .answer))) [] (row 205 b ∷ []) false false
-open-told true h k = quiet refl refl
-open-told false h k = quiet refl refl
-
-copy-told :
-    (b c : Bool) (h k l : Holds)
-    → Told (answered (copyAnswer (cond b (copied copying.BadArgument h) (cond c (copied copying.TooManyHolds k) (copied copying.Copied l)) .answer))) []
-    (row 205 b ∷ row 207 c ∷ []) false false
-copy-told true c h k l = quiet refl refl
-copy-told false true h k l = quiet refl refl
-copy-told false false h k l = quiet refl refl
-
-drop-told : (b : Bool) (h k : Holds) → Told (answered (dropAnswer (cond b (dropped dropping.BadArgument h) (dropped dropping.Dropped k) .answer))) [] (row 205 b ∷ []) false false
-drop-told true h k = quiet refl refl
-drop-told false h k = quiet refl refl
-
-put-told :
-    (b : Bool) (n m : Handles) (h k : Holds)
-    → Told (answered (putAnswer (cond b (put putting.BadArgument n h) (put putting.Put m k) .answer))) [] (row 205 b ∷ []) false false
-put-told true n m h k = quiet refl refl
-put-told false n m h k = quiet refl refl
-
--- a wake that its rows let pass
-module _ (w : World) (n killed : ℕ) (span : PageSpan) where
-  blocked-told :
-      (x f : Bool)
-      → Told (blockedBy x f w n .answer) (blockedBy x f w n .effects) (row 4 false ∷ row 203 (not x && f) ∷ []) false false
-  blocked-told true f = quiet refl refl
-  blocked-told false true = quiet refl refl
-  blocked-told false false = record { number = refl; waiting = refl; one = λ e. omega arith }
-
-  waited-told :
-      (k : Bool)
-      → Told (waitedBy k w n span .answer) (waitedBy k w n span .effects) (row 4 k ∷ row 203 (not (slotIn w n .canceling) && queueFull w) ∷ []) false false
-  waited-told true = quiet refl refl
-  waited-told false = blocked-told (slotIn w n .canceling) (queueFull w)
-
-  woken-told :
-      (p : Phase) → not (awaits p) ≡ false
-      → Told (wokenBy p w n killed span .answer) (wokenBy p w n killed span .effects)
-      (row 4 (isWaiting p && eqb killed 1) ∷ row 203 (isWaiting p && (not (slotIn w n .canceling) && queueFull w)) ∷ []) false false
-  woken-told Vacant e = absurd (true≢false e)
-  woken-told Placeholder e = absurd (true≢false e)
-  woken-told Waiting e = waited-told (eqb killed 1)
-  woken-told Responded e = quiet refl refl
-  woken-told Fmap e = absurd (true≢false e)
-
--- a map supply, by the slot's phase
-module _ (w : World) (n : ℕ) where
-  ended-told : (b : Bool) → Told (suppliedAs b) [] (row 3 b ∷ []) false false
-  ended-told true = quiet refl refl
-  ended-told false = quiet refl refl
-
-  supplied-told :
-      (p : Phase)
-      → Told (suppliedBy p w n .answer) (suppliedBy p w n .effects)
-      (row 22 (isVacant p || (isWaiting p || isResponded p)) ∷ row 77 (isPlaceholder p) ∷ row 3 (slotIn w n .ended) ∷ []) false false
-  supplied-told Vacant = quiet refl refl
-  supplied-told Placeholder = quiet refl refl
-  supplied-told Waiting = quiet refl refl
-  supplied-told Responded = quiet refl refl
-  supplied-told Fmap = let t = ended-told (slotIn w n .ended) in quiet (t .number) (t .waiting)
-
--- a read: by whether the queue is empty, the read blocks, no byte is lent, and fewer than 64 are
-empty-told :
-    (x none short : Bool) → (none ≡ true → short ≡ true)
-    → Told (answered (receiveAnswer (emptyBy x none short))) [] (row 22 (not x && (not none && short)) ∷ row 11 (not x && not short) ∷ []) x false
-empty-told true none short h = quiet refl refl
-empty-told false true true h = quiet refl refl
-empty-told false true false h = absurd (false≢true (h refl))
-empty-told false false true h = quiet refl refl
-empty-told false false false h = quiet refl refl
-
-read-told :
-    (q : WaitQueue) (n flags : ℕ) (b x : Bool) → eqb (flags / 0x4_0000 % 2) 0 ≡ x
-    → Told (answered (receiveAnswer (receivedIf b q n flags .answer))) []
-    (row 22 ((b && not x) && (not (eqb n 0) && ltb n 64)) ∷ row 11 ((b && not x) && not (ltb n 64)) ∷ []) (b && x) false
-read-told q n flags true x e =
-    rw e (empty-told x (eqb n 0) (ltb n 64) (λ z. lt-ltb n 64 (omega (arith, eqb-true n 0 z))))
-read-told q n flags false x e = quiet refl refl
-
--- the number of a completion entry
-served-goes : (b : Bool) (w : World) (n : ℕ) (o : Offer) → entryVerdict (servedBy b w n o) ≡ goes
-served-goes true w n o = refl
-served-goes false w n o = refl
-
-respond-number : (w u : World) (fx : List ℕ) (n : ℕ) (o : Offer) → entryVerdict (respondBy (phaseIn w n) u fx w n o) ≡ first (respondRows (slotIn w n))
-respond-number w u fx n o =
-    let t = slot-named (slotIn w n) in
-    go (phaseIn w n) ∙ ap first (λ j. row 77 (t .vacant j || t .placeholder j) ∷ row 22 (t .responded j || t .mapping j) ∷ [])
-  where
-    go : (p : Phase) → entryVerdict (respondBy p u fx w n o) ≡ first (row 77 (isVacant p || isPlaceholder p) ∷ row 22 (isResponded p || isFmap p) ∷ [])
-    go Vacant = refl
-    go Placeholder = refl
-    go Waiting = served-goes (slotIn w n .ended) w n o
-    go Responded = refl
-    go Fmap = refl
-
-module _ (w : World) (e : Cqe) where
-  event-number : (b : Bool) → entryVerdict (entryBy (eventIf b e) w) ≡ first (row 22 (not b) ∷ [])
-  event-number true = refl
-  event-number false = refl
-
-  obtain-number : (b : Bool) → entryVerdict (entryBy (obtainIf b e) w) ≡ first (row 22 (not b) ∷ obtainRows w (e .tag))
-  obtain-number true = first-checked entryVerdict (reject w) (λ k. refl) (obtainRows w (e .tag)) [] _ (λ p. refl)
-  obtain-number false = refl
-
-  entry-number : (op : CqeOpcode) → entryVerdict (entryBy (parsedBy op e) w) ≡ first (entryRows op w e)
-  entry-number RespondRegular = respond-number w w [] (e .tag) (result (demuxOf (e .result)) (e .«extra_raw» .0) false)
-  entry-number RespondWithFd =
-      first-checked entryVerdict (reject w) (λ k. refl) (handleRows w (e .result)) (respondRows (slotIn w (e .tag))) _
-      (λ p. respond-number (withHandles w _) _ _ (e .tag) (one (inHandle w (e .result))))
-  entry-number SendFevent = event-number (within eventFlags (e .tag))
-  entry-number ObtainFd =
-      obtain-number (within fobtainFdFlags (extraOf e))
-      ∙ ap first
-      (λ j.
-      row 22 (not (within fobtainFdFlags (extraOf e)))
-      ∷ row 22 (slot-named (slotIn w (e .tag)) .vacant j)
-      ∷ row 2 (not (slot-named (slotIn w (e .tag)) .waiting j) || eqb (length (numbers (slotIn w (e .tag) .fds))) 0)
-      ∷ [])
-  entry-number RespondWithMultipleFds = respond-number w w [] (e .tag) listed
-  entry-number RespondAndNotifyOnDetach = respond-number w w [] (e .tag) (result (demuxOf (e .result)) (e .«extra_raw» .0) true)
-  entry-number Unknown = refl
-
--- its effects, three words each: a wake, an unmap and a close of each of at most 16 listed descriptions; with no wake, of one more
-module _ (w : World) (i : Whole w) where
+-- an entry's effects, three words each: a wake, an unmap and a close of each of at most 16 listed descriptions; with no wake, of one more
+module _ (w : World) (i : WellFormed w) where
   abbrev Holding : ℕ → Offer → Type 0
   Holding n o =
       (length (droppedFds o (slotIn w n)) ≤ 16) × (length (droppedFds o (slotIn w n)) + length (heldIn (responseTo (slotIn w n) o)) ≤ 17)
@@ -279,13 +119,13 @@ module _ (w : World) (i : Whole w) where
       go [] = omega arith
       go (d ∷ ds) = by (isFree k n) d
 
-entry-most : (w : World) → Whole w → (p : ParsedCqe) → length (entryEffects (entryBy p w)) ≤ 54
+entry-most : (w : World) → WellFormed w → (p : ParsedCqe) → length (entryEffects (entryBy p w)) ≤ 54
 entry-most w i (parsed.TriggerFevent number flags) = omega arith
 entry-most w i (parsed.RegularResponse t r x) = respond-most w i w [] (t .0) (result r x false) (omega arith) (phaseIn w (t .0))
 entry-most w i (parsed.ResponseWithFd t k) =
     checked-cases (λ (y : Entered). length (entryEffects y) ≤ 54) (reject w) (handleRows w (k .0)) _ (λ k. omega arith)
     (λ p.
-    respond-most _ (whole-handles w i _) _ _ (t .0) (one (inHandle w (k .0)))
+    respond-most _ (formed-handles w i _) _ _ (t .0) (one (inHandle w (k .0)))
     (omega (arith, closes-room (closing Refused) (inHandle w (k .0) ∷ []) (holdsOf w .holds))) (phaseIn w (t .0)))
 entry-most w i (parsed.ResponseWithMultipleFds t n) = respond-most w i w [] (t .0) listed (omega arith) (phaseIn w (t .0))
 entry-most w i (parsed.ObtainFd t flags k) =
@@ -296,131 +136,274 @@ entry-most w i parsed.UnknownKind = omega arith
 entry-most w i parsed.UnknownEventFlags = omega arith
 entry-most w i parsed.UnknownObtainFlags = omega arith
 
-entry-exact : (w : World) → Whole w → (e : Cqe) → EntryExact w e
-entry-exact w i e = record { number = entry-number w e (cqeOpcodeOf (kindOf e)); most = entry-most w i (parsedOf e) }
-
-entries-exact : (w : World) → Whole w → (es : List Cqe) → Along EntryExact w es
-entries-exact w i [] = tt
-entries-exact w i (e ∷ es) = (entry-exact w i e, entries-exact (worldOf (entryOf w e)) (whole-entry w e i) es)
-
 -- the effects of a write: at most 54 words for each entry
 cut-length : (n : ℕ) (bs : List ℕ) → length (cut n bs) ≡ n
 cut-length zero bs = refl
 cut-length (suc n) bs = ap suc (cut-length n (drop 16 bs))
 
-written-most : (es : List Cqe) (w : World) → Whole w → (n : ℕ) (fx : List ℕ) → length (writeOn w es n fx .effects) ≤ length fx + 54 * length es
+written-most : (es : List Cqe) (w : World) → WellFormed w → (n : ℕ) (fx : List ℕ) → length (writeOn w es n fx .effects) ≤ length fx + 54 * length es
 written-most [] w i n fx = omega arith
-written-most (e ∷ es) w i n fx = go (entryOf w e) (entry-exact w i e .most) (whole-entry w e i) (written-most es)
+written-most (e ∷ es) w i n fx = go (entryOf w e) (entry-most w i (parsedOf e)) (formed-entry w e i) (written-most es)
   where
     go :
-        (x : Entered) → length (entryEffects x) ≤ 54 → Whole (worldOf x)
-        → ((u : World) → Whole u → (n : ℕ) (fx : List ℕ) → length (writeOn u es n fx .effects) ≤ length fx + 54 * length es)
+        (x : Entered) → length (entryEffects x) ≤ 54 → WellFormed (worldOf x)
+        → ((u : World) → WellFormed u → (n : ℕ) (fx : List ℕ) → length (writeOn u es n fx .effects) ≤ length fx + 54 * length es)
         → length (onEntered x (λ gx u. writeOn u es (suc n) (fx ++ gx)) (λ k gx u. outcome (stopped n k) (fx ++ gx) u) .effects) ≤ length fx + 54 * suc (length es)
     go (accepted gx u) m j more = omega (arith, more u j (suc n) (fx ++ gx), length-append fx gx)
     go (rejected k gx u) m j more = omega (arith, length-append fx gx)
 
-write-room : (w : World) → Whole w → (words : ℕ) (bs : List ℕ) → length (step w (write words bs) .effects) ≤ words
+-- at most 54 words for each entry of a write
+write-most : (w : World) → WellFormed w → (words : ℕ) (bs : List ℕ) → length (step w (on (write words bs)) .effects) ≤ 54 * (length bs / 16)
+write-most w i words bs =
+    checked-cases (λ (o : Outcome). length (o .effects) ≤ 54 * (length bs / 16)) (refuse w) (writeRows words bs) (writeOn w (entriesOf bs) 0 []) (λ k. omega arith)
+    (λ p. omega (arith, written-most (entriesOf bs) w i 0 [], cut-length (length bs / 16) bs))
+
+write-room : (w : World) → WellFormed w → (words : ℕ) (bs : List ℕ) → length (step w (on (write words bs)) .effects) ≤ words
 write-room w i words bs =
     checked-cases (λ (o : Outcome). length (o .effects) ≤ words) (refuse w) (writeRows words bs) (writeOn w (entriesOf bs) 0 []) (λ k. omega arith)
     (λ p. omega (arith, ltb-false words (54 * (length bs / 16)) (p .0), written-most (entriesOf bs) w i 0 [], cut-length (length bs / 16) bs))
 
--- a write answers its first entry's number, and none after an accepted one
-write-told : (w : World) (es : List Cqe) → Told (writeOn w es 0 [] .answer) (writeOn w es 0 [] .effects) (firstRows w es) false true
-write-told w [] = record { number = refl; waiting = refl; one = λ z. absurd (true≢false z) }
-write-told w (e ∷ es) = go (entryOf w e) (entry-number w e (cqeOpcodeOf (kindOf e)))
+-- an event's rows are those of the claim, and what it answers where none is due
+answer-checked : (w : World) (rows : List Row) (o : Outcome) → checked (refuse w) rows o .answer ≡ ruled rows (o .answer)
+answer-checked w rows o = ruled-checked (λ (u : Outcome). u .answer) (refuse w) (λ k. refl) rows o
+
+under : {a : Answer} {rows claimed : List Row} (x : Answer) → a ≡ ruled rows x → rows ≡ claimed → a ≡ ruled claimed x
+under x e p = e ∙ ap (λ (rs : List Row). ruled rs x) p
+
+-- a row, and what follows where it is not due
+row-same : (k : ℕ) {b c : Bool} {x y : Answer} → b ≡ c → (c ≡ false → x ≡ y) → cond b (no k) x ≡ cond c (no k) y
+row-same k {b} {c} {x} {y} e f = ap (λ (z : Bool). cond z (no k) x) e ∙ go c f
   where
-    now : Entered → Outcome
-    now x = onEntered x (λ gx u. writeOn u es 1 ([] ++ gx)) (λ k gx u. outcome (stopped 0 k) ([] ++ gx) u)
+    go : (c : Bool) → (c ≡ false → x ≡ y) → cond c (no k) x ≡ cond c (no k) y
+    go true f = refl
+    go false f = f refl
 
-    go : (x : Entered) → entryVerdict x ≡ first (firstRows w (e ∷ es)) → Told (now x .answer) (now x .effects) (firstRows w (e ∷ es)) false true
-    go (accepted gx u) q = let r = wrote es u 0 gx in record { number = r .0 ∙ q; waiting = r .1; one = λ z. absurd (true≢false z) }
-    go (rejected k gx u) q = record { number = q; waiting = refl; one = λ z. absurd (true≢false z) }
+-- the host's events
+open-answer : (b : Bool) (h k : Holds) → answered (openAnswer (cond b (opened opening.BadArgument h) (opened opening.Opened k) .answer)) ≡ ruled (row 205 b ∷ []) (ok 0)
+open-answer true h k = refl
+open-answer false h k = refl
 
-told : (w : World) → Whole w → (e : Event) → Told (step w e .answer) (step w e .effects) (rowsOf w e) (waitsFor w e) (isWrite e)
-told w i (hostOpen d) = open-told (ltb 63 d || not (eqb (holdsIn w d) 0)) _ _
-told w i (hostCopy d) =
-    under (copy-told (unheld (holdsOf w .holds) (holdsOf w .outside) d) (eqb (holdsIn w d) 65535) _ _ _)
-    (λ j. row 205 (lacks-same w d j) ∷ row 207 (eqb (holdsIn w d) 65535) ∷ [])
-told w i (hostDrop d) = under (drop-told (unheld (holdsOf w .holds) (holdsOf w .outside) d) _ _) (λ j. row 205 (lacks-same w d j) ∷ [])
-told w i (hostPut d k) =
-    under (put-told (unheld (holdsOf w .holds) (holdsOf w .outside) d || not (isFree (handlesOf w) k)) _ _ _ _)
-    (λ j. row 205 (lacks-same w d j || free-same w k j) ∷ [])
-told w i (hostEnded c) = done (omega arith)
-told w i (reserve c) = under (told-checked w (reserveRows w) _ (λ p. done (omega arith))) (λ j. row 202 (table-same w i j) ∷ [])
-told w i (submit n c op fl args pid ds) =
-    under (told-checked w (submitRows w n c op ds) _ (λ p. done (omega arith)))
-    (λ j.
-    row 205 (opcode-same op j || listLacks w ds)
-    ∷ row 206 (longList ds)
-    ∷ row 201 (submit-same (slotIn w n) c j)
-    ∷ row 203 (queue-same w i j)
-    ∷ [])
-told w i (call c op args uid gid pid ds) =
-    under (told-checked w (callRows w op ds) _ (λ p. done (omega arith)))
-    (λ j. row 205 (opcode-same op j || listLacks w ds) ∷ row 206 (longList ds) ∷ row 202 (table-same w i j) ∷ row 203 (queue-same w i j) ∷ [])
-told w i (generic c pid fds base len ms) =
-    under (told-checked w (genericRows w fds) _ (λ p. done (omega arith)))
-    (λ j. row 22 (count-same (length fds) j) ∷ row 202 (table-same w i j) ∷ row 203 (queue-same w i j) ∷ [])
-told w i (stdfs c pid fds base len ms) =
-    under (told-checked w (stdfsRows w fds ms) _ (λ p. done (omega arith)))
-    (λ j.
-    row 22 (ltb (length ms) 3)
-    ∷ row 95 (kind-same (kindByte ms) j)
-    ∷ row 22 (count-same (length fds) j)
-    ∷ row 202 (table-same w i j)
-    ∷ row 203 (queue-same w i j)
-    ∷ [])
-told w i (fmap c id pages flags uid gid pid) =
-    under (told-checked w (fmapRows w) _ (λ p. done (omega arith))) (λ j. row 202 (table-same w i j) ∷ row 203 (queue-same w i j) ∷ [])
-told w i (close id) = under (told-checked w (queueRows w) _ (λ p. done (omega arith))) (λ j. row 203 (queue-same w i j) ∷ [])
-told w i (detach id pid) = under (told-checked w (queueRows w) _ (λ p. done (omega arith))) (λ j. row 203 (queue-same w i j) ∷ [])
-told w i (wake n c killed base count) =
-    under (told-checked w (wakeRows (ltb 1 killed) (phaseIn w n) (wakeable (slotIn w n) c)) _ (λ p. woken-told w n killed _ (phaseIn w n) (p .1 .0)))
-    (λ j.
-    row 205 (ltb 1 killed)
-    ∷ row 77 (not (awaits-same (slotIn w n) j))
-    ∷ row 201 (wake-same (slotIn w n) c j)
-    ∷ row 4 (slot-named (slotIn w n) .waiting j && eqb killed 1)
-    ∷ row 203 (slot-named (slotIn w n) .waiting j && (not (slotIn w n .canceling) && queue-same w i j))
-    ∷ [])
-told w i (read len flags) =
-    let odd = odd-same (flags / 0x4_0000 % 2) (omega arith) in
-    under (read-told (queueOf w) len flags (eqb (queueOf w .len) 0) (eqb (flags / 0x4_0000 % 2) 0) refl)
-    (λ j.
-    row 22 ((eqb (queueOf w .len) 0 && odd j) && (some-same len j && ltb len 64))
-    ∷ row 11 ((eqb (queueOf w .len) 0 && odd j) && not-ltb len 64 j)
-    ∷ [])
-told w i (write words bs) = told-checked w (writeRows words bs) _ (λ p. write-told w (entriesOf bs))
-told w i (move ms ds) =
-    under (told-checked w (listRows w ds) _ (λ p. told-checked _ (requestRows w 1 ms) _ (λ q. done (omega arith))))
-    (λ j.
-    row 205 (listLacks w ds)
-    ∷ row 206 (longList ds)
-    ∷ row 22 (words-same w 1 ms j)
-    ∷ row 2 (not (slot-named (slotIn w (requestOf ms)) .waiting j))
-    ∷ [])
-told w i (obtain ms) =
-    under (told-checked w (requestRows w 0 ms) _ (λ p. done (omega arith)))
-    (λ j. row 22 (words-same w 0 ms j) ∷ row 2 (not (slot-named (slotIn w (requestOf ms)) .waiting j)) ∷ [])
-told w i (supply n offset base count) =
-    let t = slot-named (slotIn w n) in
-    under (told-checked w (pageRows offset base count) _ (λ p. supplied-told w n (phaseIn w n)))
-    (λ j.
-    row 22 (wrongPages offset base count)
-    ∷ row 22 (t .vacant j || (t .waiting j || t .responded j))
-    ∷ row 77 (t .placeholder j)
-    ∷ row 3 (slotIn w n .ended)
-    ∷ [])
+copy-answer :
+    (b c : Bool) (h k l : Holds)
+    → answered (copyAnswer (cond b (copied copying.BadArgument h) (cond c (copied copying.TooManyHolds k) (copied copying.Copied l)) .answer))
+    ≡ ruled (row 205 b ∷ row 207 c ∷ []) (ok 0)
+copy-answer true c h k l = refl
+copy-answer false true h k l = refl
+copy-answer false false h k l = refl
 
-pub exact-at : (w : World) → Whole w → ExactAt w
-exact-at w i =
-    record {
-      number = λ e. told w i e .number;
-      waiting = λ e. told w i e .waiting;
-      entries = λ es. entries-exact w i es;
-      one = λ e. told w i e .one;
-      room = write-room w i;
-    }
+drop-answer : (b : Bool) (h k : Holds) → answered (dropAnswer (cond b (dropped dropping.BadArgument h) (dropped dropping.Dropped k) .answer)) ≡ ruled (row 205 b ∷ []) (ok 0)
+drop-answer true h k = refl
+drop-answer false h k = refl
 
-pub exactly : Exactly
-exactly scheme words l es = exact-at (run scheme words es .world) (whole-run scheme words l es)
+put-answer :
+    (b : Bool) (n m : Handles) (h k : Holds)
+    → answered (putAnswer (cond b (put putting.BadArgument n h) (put putting.Put m k) .answer)) ≡ ruled (row 205 b ∷ []) (ok 0)
+put-answer true n m h k = refl
+put-answer false n m h k = refl
+
+-- a map supply, by the slot's phase
+supplied-answer :
+    (w : World) (n : ℕ) (p : Phase)
+    → suppliedBy p w n .answer ≡ ruled (row 22 (isVacant p || (isWaiting p || isResponded p)) ∷ row 77 (isPlaceholder p) ∷ row 3 (slotIn w n .ended) ∷ []) (ok 0)
+supplied-answer w n Vacant = refl
+supplied-answer w n Placeholder = refl
+supplied-answer w n Waiting = refl
+supplied-answer w n Responded = refl
+supplied-answer w n Fmap = go (slotIn w n .ended)
+  where
+    go : (b : Bool) → suppliedAs b ≡ ruled (row 3 b ∷ []) (ok 0)
+    go true = refl
+    go false = refl
+
+-- a read: by whether the queue is empty, the read blocks, no byte is lent, and fewer than 64 are
+empty-answer :
+    (x none short : Bool) (n : ℕ) → n ≡ 0 → (none ≡ true → short ≡ true)
+    → answered (receiveAnswer (emptyBy x none short)) ≡ ruled (row 22 (not x && (not none && short)) ∷ row 11 (not x && not short) ∷ []) (cond x wait (ok n))
+empty-answer true none short n z h = refl
+empty-answer false true true n z h = ap ok (sym z)
+empty-answer false true false n z h = absurd (false≢true (h refl))
+empty-answer false false true n z h = refl
+empty-answer false false false n z h = refl
+
+read-answer :
+    (q : WaitQueue) (n flags : ℕ) (b x : Bool) → eqb (q .len) 0 ≡ b → eqb (flags / 0x4_0000 % 2) 0 ≡ x
+    → answered (receiveAnswer (receivedIf b q n flags .answer))
+    ≡ ruled (row 22 ((b && not x) && (not (eqb n 0) && ltb n 64)) ∷ row 11 ((b && not x) && not (ltb n 64)) ∷ []) (cond (b && x) wait (ok (min n (q .len * 64))))
+read-answer q n flags true x z e =
+    rw e (empty-answer x (eqb n 0) (ltb n 64) (min n (q .len * 64)) (omega (arith, eqb-true (q .len) 0 z)) (λ y. lt-ltb n 64 (omega (arith, eqb-true n 0 y))))
+read-answer q n flags false x z e = refl
+
+module _ (r : Run) (i : WellFormed (r .world)) (inv : InvOf (r .world) (r .facts)) where
+  abbrev w : World
+  w = r .world
+
+  abbrev h : List Fact
+  h = r .facts
+
+  -- 202, then whatever follows, at the next tag
+  give-answer : (x : Answer) (y : Answer) → (tableFull w ≡ false → x ≡ y) → cond (tableFull w) (no 202) x ≡ cond (noTagVacant h) (no 202) y
+  give-answer x y f = row-same 202 (table-same w h inv) (λ q. f (table-same w h inv ∙ q))
+
+  begun-answer : tableFull w ≡ false → ruled (row 203 (queueFull w) ∷ []) (ok (tableOf w .head)) ≡ ruled (row 203 (all128Unread w) ∷ []) (ok (nextTag h))
+  begun-answer f = row-same 203 (queue-same w i) (λ q. ap ok (next-tag w h inv f))
+
+  module _ (n c killed base count : ℕ) where
+    abbrev k : Call
+    k = book h n
+
+    abbrev span : PageSpan
+    span = record { base = base; count = count }
+
+    abbrev claimed : Answer
+    claimed = driverAnswer r (wake n c killed base count)
+
+    stage : (p : Phase) → phaseIn w n ≡ p → Told p (k .stage)
+    stage p q = in-stage (shape (tableOf w)) h inv n p q
+
+    -- who may be woken, by what the slot and by what the history says
+    barred : (p : Phase) (g : Stage) (v : Core) → v ≡ dress g k → callerIs (dress g k) ≡ k .caller → endedIs (dress g k) ≡ k .ended → returnedIs (dress g k) ≡ k .returned
+        → not (eqb (k .caller) c) || (k .ended || k .returned) ≡ not (eqb (callerIs v) c && (not (endedIs v) && not (returnedIs v)))
+    barred p g v d a b e =
+        sym
+        (ap (λ (u : Core). not (eqb (callerIs u) c && (not (endedIs u) && not (returnedIs u)))) d
+        ∙ ap₂ (λ (x : ℕ) (y : Bool). not (eqb x c && (not y && not (returnedIs (dress g k))))) a b
+        ∙ ap (λ (y : Bool). not (eqb (k .caller) c && (not (k .ended) && not y))) e
+        ∙ wake-same (eqb (k .caller) c) (k .ended) (k .returned))
+
+    module _ (p : phaseIn w n ≡ Waiting) where
+      core : coreBy Waiting (slotIn w n) ≡ dress waits k
+      core = in-phase (shape (tableOf w)) h inv n Waiting waits p (stage Waiting p)
+
+      barred-waiting : not (eqb (k .caller) c) || (k .ended || k .returned) ≡ not (wakeable (slotIn w n) c)
+      barred-waiting = barred Waiting waits (coreBy Waiting (slotIn w n)) core refl refl refl
+
+      waited-is : wakeable (slotIn w n) c ≡ true → k .waited ≡ slotIn w n .canceling
+      waited-is y =
+          let b = both (eqb (slotIn w n .caller) c) (not (slotIn w n .ended) && not (slotIn w n .returned)) y in
+          let f = both (not (slotIn w n .ended)) (not (slotIn w n .returned)) (b .1) in
+          let z : k .returned ≡ false = ap returnedIs (sym core) ∙ not-true (slotIn w n .returned) (f .1) in
+          sym (or-split (k .waited) (k .returned) z) ∙ ap cancelingIs (sym core)
+
+      waiting-answer : ltb 1 killed ≡ false → wakeable (slotIn w n) c ≡ true → waitedBy (eqb killed 1) w n span .answer ≡ claimed
+      waiting-answer qx qy = go (eqb killed 1) (slotIn w n .canceling) (queueFull w) refl refl refl
+        where
+          open-to : not (eqb (k .caller) c) || (k .ended || k .returned) ≡ false
+          open-to = barred-waiting ∙ ap not qy
+
+          go :
+              (b x y : Bool) → eqb killed 1 ≡ b → slotIn w n .canceling ≡ x → queueFull w ≡ y
+              → waitedBy (eqb killed 1) w n span .answer ≡ claimed
+          go true x y qb qc qf = rw (qx, stage Waiting p, open-to, qb) refl
+          go false true y qb qc qf = let z : k .waited ≡ true = waited-is qy ∙ qc in rw (qx, stage Waiting p, open-to, qb, qc, z) refl
+          go false false true qb qc qf =
+              let z : k .waited ≡ false = waited-is qy ∙ qc in
+              let f : all128Unread w ≡ true = sym (queue-same w i) ∙ qf in
+              rw (qx, stage Waiting p, open-to, qb, qc, z, qf, f) refl
+          go false false false qb qc qf =
+              let z : k .waited ≡ false = waited-is qy ∙ qc in
+              let f : all128Unread w ≡ false = sym (queue-same w i) ∙ qf in
+              rw (qx, stage Waiting p, open-to, qb, qc, z, qf, f) refl
+
+    wake-answer :
+        (x : Bool) (p : Phase) (y : Bool) → ltb 1 killed ≡ x → phaseIn w n ≡ p → wakeable (slotIn w n) c ≡ y
+        → checked (refuse w) (wakeRows x p y) (wokenBy p w n killed span) .answer ≡ claimed
+    wake-answer true p y qx qp qy = rw qx refl
+    wake-answer false Vacant y qx qp qy = rw (qx, stage Vacant qp) refl
+    wake-answer false Placeholder y qx qp qy = rw (qx, stage Placeholder qp) refl
+    wake-answer false Waiting false qx qp qy =
+        let z : not (eqb (k .caller) c) || (k .ended || k .returned) ≡ true = barred-waiting qp ∙ ap not qy in rw (qx, stage Waiting qp, z) refl
+    wake-answer false Waiting true qx qp qy = waiting-answer qp qx qy
+    wake-answer false Responded y qx qp qy = go y qy
+      where
+        g : k .stage ≡ replied (responseOf (slotIn w n))
+        g = replied-is (shape (tableOf w)) h inv n qp
+
+        z : not (eqb (k .caller) c) || (k .ended || k .returned) ≡ not (wakeable (slotIn w n) c)
+        z =
+            barred Responded (replied (responseOf (slotIn w n))) (coreBy Responded (slotIn w n))
+            (in-phase (shape (tableOf w)) h inv n Responded (replied (responseOf (slotIn w n))) qp g) refl refl refl
+
+        go : (y : Bool) → wakeable (slotIn w n) c ≡ y → checked (refuse w) (wakeRows false Responded y) (wokenBy Responded w n killed span) .answer ≡ claimed
+        go false q = let e : not (eqb (k .caller) c) || (k .ended || k .returned) ≡ true = z ∙ ap not q in rw (qx, g, e) refl
+        go true q = let e : not (eqb (k .caller) c) || (k .ended || k .returned) ≡ false = z ∙ ap not q in rw (qx, g, e) refl
+    wake-answer false Fmap y qx qp qy = rw (qx, stage Fmap qp) refl
+
+  -- a supply looks at the ended mark of a map request alone
+  supply-answer : (n offset base count : ℕ) → step w (on (supply n offset base count)) .answer ≡ driverAnswer r (supply n offset base count)
+  supply-answer n offset base count =
+      answer-checked w (pageRows offset base count) (suppliedBy (phaseIn w n) w n)
+      ∙ ap (λ (a : Answer). cond (wrongPages offset base count) (no 22) a)
+      (supplied-answer w n (phaseIn w n) ∙ row-same 22 off (λ a. row-same 77 (t .placeholder) (λ b. row-same 3 (ended (phaseIn w n) refl (off ∙ a) (t .placeholder ∙ b)) (λ e. refl))))
+    where
+      t : Named (phaseIn w n) (state (book h n .stage))
+      t = slot-named w h inv n
+
+      off : isVacant (phaseIn w n) || (isWaiting (phaseIn w n) || isResponded (phaseIn w n)) ≡ inState 0 h n || (inState 2 h n || inState 3 h n)
+      off = λ j. t .vacant j || (t .waiting j || t .responded j)
+
+      ended : (p : Phase) → phaseIn w n ≡ p → isVacant p || (isWaiting p || isResponded p) ≡ false → isPlaceholder p ≡ false → slotIn w n .ended ≡ book h n .ended
+      ended Vacant e a b = absurd (true≢false a)
+      ended Placeholder e a b = absurd (true≢false b)
+      ended Waiting e a b = absurd (true≢false a)
+      ended Responded e a b = absurd (true≢false a)
+      ended Fmap e a b = ap endedIs (in-phase (shape (tableOf w)) h inv n Fmap mapping e (in-stage (shape (tableOf w)) h inv n Fmap e))
+
+  read-told : (len flags : ℕ) → step w (on (read len flags)) .answer ≡ driverAnswer r (read len flags)
+  read-told len flags =
+      let odd = odd-same (flags / 0x4_0000 % 2) (omega arith) in
+      read-answer (queueOf w) len flags (eqb (queueOf w .len) 0) (eqb (flags / 0x4_0000 % 2) 0) refl refl
+      ∙ (λ j.
+      ruled
+      (row 22 ((empty-same w j && odd j) && (some-same len j && ltb len 64))
+      ∷ row 11 ((empty-same w j && odd j) && not-ltb len 64 j)
+      ∷ [])
+      (cond (empty-same w j && eqb (flags / 0x4_0000 % 2) 0) wait (ok (min len (sym (unread-length w) j)))))
+
+  driver-answer : (e : DriverEvent) → step w (on e) .answer ≡ driverAnswer r e
+  driver-answer (hostPut d k) =
+      under (ok 0) (put-answer (unheld (holdsOf w .holds) (holdsOf w .outside) d || not (isFree (handlesOf w) k)) _ _ _ _)
+      (λ j. row 205 (lacks-same w d j || free-same w k j) ∷ [])
+  driver-answer (reserve c) = answer-checked w (reserveRows w) _ ∙ give-answer (ok (tableOf w .head)) (ok (nextTag h)) (λ f. ap ok (next-tag w h inv f))
+  driver-answer (submit n c op fl args pid ds) =
+      under (ok n) (answer-checked w (submitRows w n c op ds) _)
+      (λ j.
+      row 205 (opcode-same op j || listLacks w ds)
+      ∷ row 206 (longList ds)
+      ∷ row 201 (submit-same w h inv n c j)
+      ∷ row 203 (queue-same w i j)
+      ∷ [])
+  driver-answer (call c op args uid gid pid ds) =
+      answer-checked w (callRows w op ds) _
+      ∙ row-same 205 (ap (λ (b : Bool). b || listLacks w ds) (opcode-same op)) (λ a. row-same 206 {b = longList ds} refl (λ b. give-answer _ _ begun-answer))
+  driver-answer (generic c pid fds base len ms) = answer-checked w (genericRows w fds) _ ∙ row-same 22 (count-same (length fds)) (λ a. give-answer _ _ begun-answer)
+  driver-answer (stdfs c pid fds base len ms) =
+      answer-checked w (stdfsRows w fds ms) _
+      ∙ row-same 22 {b = ltb (length ms) 3} refl (λ a. row-same 95 (kind-same (kindByte ms)) (λ b. row-same 22 (count-same (length fds)) (λ d. give-answer _ _ begun-answer)))
+  driver-answer (fmap c id pages flags uid gid pid) = answer-checked w (fmapRows w) _ ∙ give-answer _ _ begun-answer
+  driver-answer (close id) = under (ok 0) (answer-checked w (queueRows w) _) (λ j. row 203 (queue-same w i j) ∷ [])
+  driver-answer (detach id pid) = under (ok 0) (answer-checked w (queueRows w) _) (λ j. row 203 (queue-same w i j) ∷ [])
+  driver-answer (wake n c killed base count) = wake-answer n c killed base count _ _ _ refl refl refl
+  driver-answer (read len flags) = read-told len flags
+  driver-answer (write words bs) =
+      answer-checked w (writeRows words bs) _ ∙ ap (ruled (writeRows words bs)) (write-ok r bs i inv (length bs / 16) .answer)
+  driver-answer (move ms ds) =
+      answer-checked w (listRows w ds) _
+      ∙ ap (ruled (listRows w ds))
+      (under (ok (length ds)) (ruled-checked (λ (u : Outcome). u .answer) (refuse _) (λ k. refl) (requestRows w 1 ms) _)
+      (λ j. row 22 (words-same w h inv 1 ms j) ∷ row 2 (not (slot-named w h inv (requestOf ms) .waiting j)) ∷ []))
+  driver-answer (obtain ms) =
+      under (ok (length (numbers (slotIn w (requestOf ms) .fds)))) (answer-checked w (requestRows w 0 ms) _)
+      (λ j. row 22 (words-same w h inv 0 ms j) ∷ row 2 (not (slot-named w h inv (requestOf ms) .waiting j)) ∷ [])
+  driver-answer (supply n offset base count) = supply-answer n offset base count
+
+  event-answer : (e : Event) → step w e .answer ≡ answerTo r e
+  event-answer (hostOpen d) = open-answer (ltb 63 d || not (eqb (holdsIn w d) 0)) _ _
+  event-answer (hostCopy d) =
+      under (ok 0) (copy-answer (unheld (holdsOf w .holds) (holdsOf w .outside) d) (eqb (holdsIn w d) 65535) _ _ _)
+      (λ j. row 205 (lacks-same w d j) ∷ row 207 (eqb (holdsIn w d) 65535) ∷ [])
+  event-answer (hostDrop d) = under (ok 0) (drop-answer (unheld (holdsOf w .holds) (holdsOf w .outside) d) _ _) (λ j. row 205 (lacks-same w d j) ∷ [])
+  event-answer (hostEnded c) = refl
+  event-answer (on e) = driver-answer e
+
+  pub exact-at : ExactAt r
+  exact-at = record { answer = event-answer; most = write-most w i; room = write-room w i }

@@ -1,12 +1,12 @@
 -- The invariant: what the slots have to do with what happened, and that each thing that happens keeps it. Assumes nothing.
-use Prim.Native.Nat.{ℕ, suc, _+_}
+use Prim.Native.Nat.{ℕ, _+_}
 use mathlib.Core.Path.{_≡_, refl, sym, ap, _∙_, subst}
 use mathlib.Core.Bool.{Bool, true, false, cond, _||_}
 use mathlib.Core.List.{List, [], _∷_, map}
 use native.Mathlib.Omega.{arith}
 use native.Mathlib.Decide.{ℕ-discrete}
 use lib.Dec.{eqb, ltb}
-use lib.ListN.{getD, List·getD-map}
+use lib.ListN.{getD, drop, List·getD-map}
 use borrow.Author.Tests.{eq-eqb, ne-eqb}
 use Rattle.fd_list.specs.declared.List.{List as Fds}
 use Rattle.host_ended.specs.Ended.{markedBy, markedOf, endedTable}
@@ -18,230 +18,174 @@ use Rattle.slot.specs.declared.Slot.{Slot}
 use Rattle.slot.specs.Slots.{phaseOf, vacantSlot, placeholderOf, waitingOf, mapRequestOf, canceledOf, interruptedOf, respondedOf}
 use Rattle.status.specs.Status.{bit, countOf}
 use Rattle.table.specs.declared.Table.{Table}
+use Rattle.table.specs.Reached.{Linked}
 use Rattle.table.specs.Table.{noSlot, slotAt}
 use Rattle.events.specs.Outcome.{Response}
 use Rattle.events.specs.Wake.{responseOf}
-use Rattle.events.specs.History.{Place, Fact, gave, asked, took, serve, block, break, pass, filled, end, Call, made, begin, book}
-use Rattle.events.specs.Demand3.{Every, fair, accepted, handed, dropped}
-use Rattle.events.proofs.Sane.{unpassed, unwoken, map-alone}
-use Rattle.events.proofs.Stage.{Core, vacant, placeholder, waiting, responded, mapping, coreBy, core, phaseIs, callerIs, endedIs, returnedIs, readsIs, stageOf, dress, wanted, core-phase, dress-phase, plain-placeholder, plain-waiting, plain-responded, is-vacant, is-placeholder, is-waiting, is-responded, is-mapping}
-use Rattle.events.proofs.Stored.{Stored, holding, held-is, heldOf}
+use Rattle.events.specs.History.{What, Fact, to, end, gave, asked, took, serve, block, break, pass, filled, Stage, free, reserved, waits, replied, mapping, Call, change, marked, onto, book}
+use Rattle.events.specs.Demand3.{Every, needs, fair, sum}
+use Rattle.events.specs.Exactly.{relisted, vacantTags}
+use Rattle.events.proofs.Sane.{unwoken}
+use Rattle.events.proofs.Stage.{Core, vacant, placeholder, waiting, responded, mapped, coreBy, core, phaseIs, callerIs, endedIs, returnedIs, readsIs, dress, wanted, phaseAt, core-phase, dress-phase, Told, stage-told}
+use Rattle.events.proofs.Stored.{Shape, shape, Stored, holding, held-is, heldOf}
 
 abbrev pub Balance : ℕ → List Fact → Type 0
-Balance held h = accepted h ≡ handed h + (held + dropped h)
+Balance held h = sum (λ k. 1) 0 h ≡ sum (λ k. 0) 1 h + (held + sum (λ k. cond (k .ended) 1 0) 0 h)
 
--- every tag's slot is the one that its history calls for; the replies balance; what happened was fair
-pub record Inv (look : ℕ → Slot) (held : ℕ) (h : List Fact) : Type 0 where
-  pub fits : (n : ℕ) → core (look n) ≡ wanted (book h n)
-  pub balance : Balance held h
+-- every tag's slot is the one that its history calls for; the chain is that of the vacant tags; the replies balance; what happened
+-- was fair
+pub record Inv (s : Shape) (h : List Fact) : Type 0 where
+  pub fits : (n : ℕ) → core (s .look n) ≡ wanted (book h n)
+  pub chain : Linked (s .next) (s .head) (vacantTags h)
+  pub balance : Balance (s .held) h
   pub every : Every fair h
 
 or-true : (b : Bool) → b || true ≡ true
 or-true true = refl
 or-true false = refl
 
--- a fact about tag n: what it makes of n's call, and that it leaves all others
-self : (n : ℕ) (new old : Call) → cond (eqb n n) new old ≡ new
-self n new old = ap (λ (b : Bool). cond b new old) (eq-eqb n n refl)
+-- the slot changes in what no history tells
+pub inv-same : (s s' : Shape) (h : List Fact) (n : ℕ) (v : Slot) → Inv s h → Stored s n v (λ l. l) s' → (p : Phase) → phaseOf (s .look n) ≡ p → phaseOf v ≡ p → core v ≡ core (s .look n) → Inv s' h
+inv-same s s' h n v i t p a b c =
+    record {
+      fits = λ m. go m (ℕ-discrete n m);
+      chain = t .chain (vacantTags h) (i .chain);
+      balance = omega (arith, i .balance, t .sum, held-is (s .look n) p a, held-is v p b);
+      every = i .every;
+    }
+  where
+    go : (m : ℕ) → Dec (n ≡ m) → core (s' .look m) ≡ wanted (book h m)
+    go m (yes e) = subst (λ (j : ℕ). core (s' .look j) ≡ wanted (book h j)) e (ap core (t .here) ∙ c ∙ i .fits n)
+    go m (no ne) = ap core (t .there m ne) ∙ i .fits m
 
-other : (n m : ℕ) (new old : Call) → (n ≡ m → ⊥) → cond (eqb n m) new old ≡ old
-other n m new old ne = ap (λ (b : Bool). cond b new old) (ne-eqb n m ne)
-
--- submitted
-abbrev submitted : Call → Call
-submitted k =
-    made (k .called) (k .mapping) (k .caller) true (k .waited) (k .returned) (k .ended) (k .served) (k .reads) (k .lost) (k .passed) (k .supplied) (k .lap)
-
-module _ (look : ℕ → Slot) (held : ℕ) (h : List Fact) (i : Inv look held h) (n : ℕ) where
+module _ (s : Shape) (h : List Fact) (i : Inv s h) (n : ℕ) where
   abbrev call : Call
   call = book h n
 
-  -- the slot in its phase
-  pub in-stage : (p : Phase) → phaseOf (look n) ≡ p → stageOf call ≡ p
-  in-stage p e = sym (dress-phase (stageOf call) call) ∙ ap phaseIs (sym (i .fits n)) ∙ core-phase (phaseOf (look n)) (look n) ∙ e
+  -- the slot's phase is that of the call's stage; by the phase, the stage and the slot that it calls for
+  pub phase-is : phaseOf (s .look n) ≡ phaseAt (call .stage)
+  phase-is = sym (core-phase (phaseOf (s .look n)) (s .look n)) ∙ ap phaseIs (i .fits n) ∙ dress-phase (call .stage) call
 
-  pub in-phase : (p : Phase) → phaseOf (look n) ≡ p → coreBy p (look n) ≡ dress p call
-  in-phase p e = ap (λ (q : Phase). coreBy q (look n)) (sym e) ∙ i .fits n ∙ ap (λ (q : Phase). dress q call) (in-stage p e)
+  pub in-stage : (p : Phase) → phaseOf (s .look n) ≡ p → Told p (call .stage)
+  in-stage p e = stage-told (call .stage) p (sym phase-is ∙ e)
 
-  module _ (v : Slot) (look' : ℕ → Slot) (held' : ℕ) (s : Stored look held n v look' held') where
-    -- the slot changes, and what happened says so
-    stored : (h' : List Fact) → core v ≡ wanted (book h' n) → ((m : ℕ) → (n ≡ m → ⊥) → book h' m ≡ book h m) → Balance held' h' → Every fair h' → Inv look' held' h'
-    stored h' c o b f = record { fits = λ m. go m (ℕ-discrete n m); balance = b; every = f }
-      where
-        go : (m : ℕ) → Dec (n ≡ m) → core (look' m) ≡ wanted (book h' m)
-        go m (yes e) = subst (λ (j : ℕ). core (look' j) ≡ wanted (book h' j)) e (ap core (s .here) ∙ c)
-        go m (no ne) = ap core (s .there m ne) ∙ i .fits m ∙ ap wanted (sym (o m ne))
+  pub in-phase : (p : Phase) (g : Stage) → phaseOf (s .look n) ≡ p → call .stage ≡ g → coreBy p (s .look n) ≡ dress g call
+  in-phase p g e q = ap (λ (j : Phase). coreBy j (s .look n)) (sym e) ∙ i .fits n ∙ ap (λ (j : Stage). dress j call) q
 
-    -- the slot changes in what no history tells
-    pub inv-same : (p : Phase) → phaseOf (look n) ≡ p → phaseOf v ≡ p → core v ≡ core (look n) → Inv look' held' h
-    inv-same p a b c =
-        stored h (c ∙ i .fits n) (λ m o. refl) (omega (arith, i .balance, s .sum, held-is (look n) p a, held-is v p b)) (i .every)
+  -- something happens to tag n, and its slot changes to v
+  happened :
+      (x : What) (v : Slot) (s' : Shape) → Stored s n v (relisted x n (call .ended)) s' → core v ≡ wanted (change x call)
+      → Balance (s' .held) (to n x ∷ h) → needs x (call .stage) → Inv s' (to n x ∷ h)
+  happened x v s' t c b f =
+      record { fits = λ m. go m (ℕ-discrete n m); chain = t .chain (vacantTags h) (i .chain); balance = b; every = (f, i .every) }
+    where
+      go : (m : ℕ) → Dec (n ≡ m) → core (s' .look m) ≡ wanted (book (to n x ∷ h) m)
+      go m (yes e) =
+          subst (λ (j : ℕ). core (s' .look j) ≡ wanted (book (to n x ∷ h) j)) e
+          (ap core (t .here) ∙ c ∙ sym (ap (λ (b : Bool). wanted (cond b (change x call) call)) (eq-eqb n n refl)))
+      go m (no ne) =
+          ap core (t .there m ne) ∙ i .fits m ∙ sym (ap (λ (b : Bool). wanted (cond b (change x (book h m)) (book h m))) (ne-eqb n m ne))
 
-  -- given out for a call
-  pub inv-gave : (c : ℕ) (look' : ℕ → Slot) (held' : ℕ) → Stored look held n (placeholderOf c) look' held' → phaseOf (look n) ≡ Vacant → Inv look' held' (gave n c ∷ h)
-  inv-gave c look' held' s p =
-      stored (placeholderOf c) look' held' s (gave n c ∷ h)
-      (sym (ap wanted (self n (begin true false c (suc (call .lap))) call)))
-      (λ m o. other n m (begin true false c (suc (book h m .lap))) (book h m) o)
-      (omega (arith, i .balance, s .sum, held-is (look n) Vacant p))
-      (is-vacant call (in-stage Vacant p), i .every)
+  -- given out for a call, for a map request
+  pub inv-gave : (c : ℕ) (s' : Shape) → Stored s n (placeholderOf c) (λ l. drop 1 l) s' → phaseOf (s .look n) ≡ Vacant → Inv s' (to n (gave c) ∷ h)
+  inv-gave c s' t p =
+      happened (gave c) (placeholderOf c) s' t refl (omega (arith, i .balance, t .sum, held-is (s .look n) Vacant p)) (in-stage Vacant p)
 
-  -- given out and submitted at once
-  pub inv-began :
-      (c : ℕ) (fds : Fds) (look' : ℕ → Slot) (held' : ℕ) → Stored look held n (waitingOf c fds) look' held' → phaseOf (look n) ≡ Vacant
-      → Inv look' held' (took n ∷ gave n c ∷ h)
-  inv-began c fds look' held' s p =
-      let new = begin true false c (suc (call .lap)) in
-      let g = self n new call in
-      stored (waitingOf c fds) look' held' s (took n ∷ gave n c ∷ h)
-      (sym (ap wanted (self n _ _) ∙ ap (λ (k : Call). wanted (submitted k)) g))
-      (λ m o. other n m _ _ o ∙ other n m (begin true false c (suc (book h m .lap))) (book h m) o)
-      (omega (arith, i .balance, s .sum, held-is (look n) Vacant p))
-      ((ap (λ (k : Call). k .called) g, ap (λ (k : Call). k .taken) g, ap (λ (k : Call). k .served) g), (is-vacant call (in-stage Vacant p), i .every))
-
-  -- given out for a map request
-  pub inv-asked : (c : ℕ) (look' : ℕ → Slot) (held' : ℕ) → Stored look held n (mapRequestOf c) look' held' → phaseOf (look n) ≡ Vacant → Inv look' held' (asked n c ∷ h)
-  inv-asked c look' held' s p =
-      stored (mapRequestOf c) look' held' s (asked n c ∷ h)
-      (sym (ap wanted (self n (begin false true c (suc (call .lap))) call)))
-      (λ m o. other n m (begin false true c (suc (book h m .lap))) (book h m) o)
-      (omega (arith, i .balance, s .sum, held-is (look n) Vacant p))
-      (is-vacant call (in-stage Vacant p), i .every)
+  pub inv-asked : (c : ℕ) (s' : Shape) → Stored s n (mapRequestOf c) (λ l. drop 1 l) s' → phaseOf (s .look n) ≡ Vacant → Inv s' (to n (asked c) ∷ h)
+  inv-asked c s' t p =
+      happened (asked c) (mapRequestOf c) s' t refl (omega (arith, i .balance, t .sum, held-is (s .look n) Vacant p)) (in-stage Vacant p)
 
   -- its submit is accepted
   pub inv-took :
-      (c : ℕ) (fds : Fds) (look' : ℕ → Slot) (held' : ℕ) → Stored look held n (waitingOf c fds) look' held'
-      → phaseOf (look n) ≡ Placeholder → look n .caller ≡ c → look n .ended ≡ false → Inv look' held' (took n ∷ h)
-  inv-took c fds look' held' s p qc qe =
-      let d = in-phase Placeholder p in
-      let z = is-placeholder call (in-stage Placeholder p) in
-      let u = unwoken h (i .every) n (z .2) in
+      (c : ℕ) (fds : Fds) (s' : Shape) → Stored s n (waitingOf c fds) (λ l. l) s'
+      → phaseOf (s .look n) ≡ Placeholder → s .look n .caller ≡ c → s .look n .ended ≡ false → Inv s' (to n took ∷ h)
+  inv-took c fds s' t p qc qe =
+      let g = in-stage Placeholder p in
+      let d = in-phase Placeholder reserved p g in
+      let u = unwoken h (i .every) n g in
       let kc : call .caller ≡ c = ap callerIs (sym d) ∙ qc in
       let ke : call .ended ≡ false = ap endedIs (sym d) ∙ qe in
-      let new = made (call .called) (call .mapping) (call .caller) true (call .waited) (call .returned) (call .ended) (call .served) (call .reads) (call .lost) (call .passed) (call .supplied) (call .lap) in
-      let st : stageOf new ≡ Waiting = plain-placeholder call (in-stage Placeholder p) _ ∙ simp (z .0, z .1) in
-      let w : dress Waiting new ≡ waiting c false false false = simp (kc, ke, u .0, u .1) in
-      stored (waitingOf c fds) look' held' s (took n ∷ h)
-      (sym (ap wanted (self n new call) ∙ ap (λ (q : Phase). dress q new) st ∙ w))
-      (λ m o. other n m _ (book h m) o)
-      (omega (arith, i .balance, s .sum, held-is (look n) Placeholder p))
-      ((z .0, z .2, z .1), i .every)
+      let w : dress waits call ≡ waiting c false false false = simp (kc, ke, u .0, u .1) in
+      happened took (waitingOf c fds) s' t (sym w) (omega (arith, i .balance, t .sum, held-is (s .look n) Placeholder p)) g
 
   -- a wake of it is answered still blocked; it may be cancelling already
-  pub inv-block :
-      (look' : ℕ → Slot) (held' : ℕ) → Stored look held n (canceledOf (look n)) look' held' → phaseOf (look n) ≡ Waiting → Inv look' held' (block n ∷ h)
-  inv-block look' held' s p =
-      let d = in-phase Waiting p in
-      let st = in-stage Waiting p in
-      let new = made (call .called) (call .mapping) (call .caller) (call .taken) true (call .returned) (call .ended) (call .served) (call .reads) (call .lost) (call .passed) (call .supplied) (call .lap) in
-      stored (canceledOf (look n)) look' held' s (block n ∷ h)
-      (ap (λ (q : Phase). coreBy q (canceledOf (look n))) p ∙ ap (λ (k : Core). waiting (callerIs k) true (endedIs k) (returnedIs k)) d
-      ∙ sym (ap wanted (self n new call) ∙ ap (λ (q : Phase). dress q new) st))
-      (λ m o. other n m _ (book h m) o)
-      (omega (arith, i .balance, s .sum, held-is (look n) Waiting p, held-is (canceledOf (look n)) Waiting p))
-      (is-waiting call st, i .every)
+  pub inv-block : (s' : Shape) → Stored s n (canceledOf (s .look n)) (λ l. l) s' → phaseOf (s .look n) ≡ Waiting → Inv s' (to n block ∷ h)
+  inv-block s' t p =
+      let g = in-stage Waiting p in
+      happened block (canceledOf (s .look n)) s' t
+      (ap (λ (q : Phase). coreBy q (canceledOf (s .look n))) p ∙ ap (λ (k : Core). waiting (callerIs k) true (endedIs k) (returnedIs k)) (in-phase Waiting waits p g)
+      ∙ sym (ap (λ (j : Stage). dress j (marked true false false call)) g))
+      (omega (arith, i .balance, t .sum, held-is (s .look n) Waiting p, held-is (canceledOf (s .look n)) Waiting p)) g
 
   -- a wake of it is refused with EINTR
   pub inv-break :
-      (span : PageSpan) (look' : ℕ → Slot) (held' : ℕ) → Stored look held n (interruptedOf (look n) span) look' held' → phaseOf (look n) ≡ Waiting
-      → Inv look' held' (break n ∷ h)
-  inv-break span look' held' s p =
-      let d = in-phase Waiting p in
-      let st = in-stage Waiting p in
-      let new = made (call .called) (call .mapping) (call .caller) (call .taken) (call .waited) true (call .ended) (call .served) (call .reads) (call .lost) (call .passed) (call .supplied) (call .lap) in
-      stored (interruptedOf (look n) span) look' held' s (break n ∷ h)
-      (ap (λ (q : Phase). coreBy q (interruptedOf (look n) span)) p ∙ ap (λ (k : Core). waiting (callerIs k) true (endedIs k) true) d
+      (span : PageSpan) (s' : Shape) → Stored s n (interruptedOf (s .look n) span) (λ l. l) s' → phaseOf (s .look n) ≡ Waiting → Inv s' (to n break ∷ h)
+  inv-break span s' t p =
+      let g = in-stage Waiting p in
+      happened break (interruptedOf (s .look n) span) s' t
+      (ap (λ (q : Phase). coreBy q (interruptedOf (s .look n) span)) p ∙ ap (λ (k : Core). waiting (callerIs k) true (endedIs k) true) (in-phase Waiting waits p g)
       ∙ ap (λ (b : Bool). waiting (call .caller) b (call .ended) true) (sym (or-true (call .waited)))
-      ∙ sym (ap wanted (self n new call) ∙ ap (λ (q : Phase). dress q new) st))
-      (λ m o. other n m _ (book h m) o)
-      (omega (arith, i .balance, s .sum, held-is (look n) Waiting p, held-is (interruptedOf (look n) span) Waiting p))
-      (is-waiting call st, i .every)
+      ∙ sym (ap (λ (j : Stage). dress j (marked false true false call)) g))
+      (omega (arith, i .balance, t .sum, held-is (s .look n) Waiting p, held-is (interruptedOf (s .look n) span) Waiting p)) g
 
   -- its reply is handed over
-  pub inv-pass :
-      (look' : ℕ → Slot) (held' : ℕ) → Stored look held n vacantSlot look' held' → phaseOf (look n) ≡ Responded → Inv look' held' (pass n (responseOf (look n)) ∷ h)
-  inv-pass look' held' s p =
-      let d = in-phase Responded p in
-      let z = is-responded call (in-stage Responded p) in
-      let new = made (call .called) (call .mapping) (call .caller) (call .taken) (call .waited) (call .returned) (call .ended) (call .served) (call .reads) (call .lost) true (call .supplied) (call .lap) in
-      let st : stageOf new ≡ Vacant = plain-responded call (in-stage Responded p) _ ∙ simp (z .0, z .1, z .2) in
-      stored vacantSlot look' held' s (pass n (responseOf (look n)) ∷ h)
-      (sym (ap wanted (self n new call) ∙ ap (λ (q : Phase). dress q new) st))
-      (λ m o. other n m _ (book h m) o)
-      (omega (arith, i .balance, s .sum, held-is (look n) Responded p))
-      ((z .0, z .1, z .3, sym (ap readsIs d)), i .every)
+  pub replied-is : phaseOf (s .look n) ≡ Responded → call .stage ≡ replied (responseOf (s .look n))
+  replied-is p =
+      let g = in-stage Responded p in g .1 ∙ ap replied (sym (ap readsIs (in-phase Responded (replied (g .0)) p (g .1))))
+
+  pub inv-pass : (s' : Shape) → Stored s n vacantSlot (λ l. n ∷ l) s' → phaseOf (s .look n) ≡ Responded → Inv s' (to n (pass (responseOf (s .look n))) ∷ h)
+  inv-pass s' t p =
+      happened (pass (responseOf (s .look n))) vacantSlot s' t refl (omega (arith, i .balance, t .sum, held-is (s .look n) Responded p)) (replied-is p)
 
   -- a reply entry to it is accepted, its caller not ended: the reply is stored
   pub inv-serve :
-      (q : Place) (r : Response) (a : Reply) (fds : Fds) (look' : ℕ → Slot) (held' : ℕ) → Stored look held n (respondedOf (look n) a fds) look' held'
-      → phaseOf (look n) ≡ Waiting → look n .ended ≡ false → responseOf (respondedOf (look n) a fds) ≡ r → Inv look' held' (serve q n r ∷ h)
-  inv-serve q r a fds look' held' s p qe qr =
-      let d = in-phase Waiting p in
-      let z = is-waiting call (in-stage Waiting p) in
+      (e j : ℕ) (r : Response) (a : Reply) (fds : Fds) (s' : Shape) → Stored s n (respondedOf (s .look n) a fds) (λ l. l) s'
+      → phaseOf (s .look n) ≡ Waiting → s .look n .ended ≡ false → responseOf (respondedOf (s .look n) a fds) ≡ r → Inv s' (to n (serve e j r) ∷ h)
+  inv-serve e j r a fds s' t p qe qr =
+      let g = in-stage Waiting p in
+      let d = in-phase Waiting waits p g in
       let ke : call .ended ≡ false = ap endedIs (sym d) ∙ qe in
-      let u : call .passed ≡ false = unpassed h (i .every) n (z .2) in
-      let new = made (call .called) (call .mapping) (call .caller) (call .taken) (call .waited) (call .returned) (call .ended) true r (call .ended) (call .passed) (call .supplied) (call .lap) in
-      let st : stageOf new ≡ Responded = plain-waiting call (in-stage Waiting p) _ ∙ simp (z .0, ke, u) in
-      stored (respondedOf (look n) a fds) look' held' s (serve q n r ∷ h)
-      (ap (λ (k : Core). responded (callerIs k) false (returnedIs k) (responseOf (respondedOf (look n) a fds))) d
+      happened (serve e j r) (respondedOf (s .look n) a fds) s'
+      (subst (λ (b : Bool). Stored s n (respondedOf (s .look n) a fds) (λ l. cond b (n ∷ l) l) s') (sym ke) t)
+      (ap (λ (k : Core). responded (callerIs k) false (returnedIs k) (responseOf (respondedOf (s .look n) a fds))) d
       ∙ ap (λ (v : Response). responded (call .caller) false (call .returned) v) qr
       ∙ ap (λ (b : Bool). responded (call .caller) b (call .returned) r) (sym ke)
-      ∙ sym (ap wanted (self n new call) ∙ ap (λ (j : Phase). dress j new) st))
-      (λ m o. other n m _ (book h m) o)
-      (rw ke (omega (arith, i .balance, s .sum, held-is (look n) Waiting p)))
-      (z, i .every)
+      ∙ sym (ap (λ (b : Bool). wanted (onto (cond b free (replied r)) call)) ke))
+      (rw ke (omega (arith, i .balance, t .sum, held-is (s .look n) Waiting p))) g
 
   -- a reply entry to it is accepted, its caller ended: the reply is dropped
   pub inv-lose :
-      (q : Place) (r : Response) (look' : ℕ → Slot) (held' : ℕ) → Stored look held n vacantSlot look' held'
-      → phaseOf (look n) ≡ Waiting → look n .ended ≡ true → Inv look' held' (serve q n r ∷ h)
-  inv-lose q r look' held' s p qe =
-      let d = in-phase Waiting p in
-      let z = is-waiting call (in-stage Waiting p) in
-      let ke : call .ended ≡ true = ap endedIs (sym d) ∙ qe in
-      let new = made (call .called) (call .mapping) (call .caller) (call .taken) (call .waited) (call .returned) (call .ended) true r (call .ended) (call .passed) (call .supplied) (call .lap) in
-      let st : stageOf new ≡ Vacant = plain-waiting call (in-stage Waiting p) _ ∙ simp (z .0, ke) in
-      stored vacantSlot look' held' s (serve q n r ∷ h)
-      (sym (ap wanted (self n new call) ∙ ap (λ (j : Phase). dress j new) st))
-      (λ m o. other n m _ (book h m) o)
-      (rw ke (omega (arith, i .balance, s .sum, held-is (look n) Waiting p)))
-      (z, i .every)
+      (e j : ℕ) (r : Response) (s' : Shape) → Stored s n vacantSlot (λ l. n ∷ l) s'
+      → phaseOf (s .look n) ≡ Waiting → s .look n .ended ≡ true → Inv s' (to n (serve e j r) ∷ h)
+  inv-lose e j r s' t p qe =
+      let g = in-stage Waiting p in
+      let ke : call .ended ≡ true = ap endedIs (sym (in-phase Waiting waits p g)) ∙ qe in
+      happened (serve e j r) vacantSlot s' (subst (λ (b : Bool). Stored s n vacantSlot (λ l. cond b (n ∷ l) l) s') (sym ke) t)
+      (sym (ap (λ (b : Bool). wanted (onto (cond b free (replied r)) call)) ke))
+      (rw ke (omega (arith, i .balance, t .sum, held-is (s .look n) Waiting p))) g
 
   -- map supply vacates its slot
-  pub inv-filled : (look' : ℕ → Slot) (held' : ℕ) → Stored look held n vacantSlot look' held' → phaseOf (look n) ≡ Fmap → Inv look' held' (filled n ∷ h)
-  inv-filled look' held' s p =
-      let z = is-mapping call (in-stage Fmap p) in
-      let a = map-alone h n (z .0) in
-      let new = made (call .called) (call .mapping) (call .caller) (call .taken) (call .waited) (call .returned) (call .ended) (call .served) (call .reads) (call .lost) (call .passed) true (call .lap) in
-      let st : stageOf new ≡ Vacant = simp (z .0, a) in
-      stored vacantSlot look' held' s (filled n ∷ h)
-      (sym (ap wanted (self n new call) ∙ ap (λ (q : Phase). dress q new) st))
-      (λ m o. other n m _ (book h m) o)
-      (omega (arith, i .balance, s .sum, held-is (look n) Fmap p))
-      (z, i .every)
+  pub inv-filled : (s' : Shape) → Stored s n vacantSlot (λ l. n ∷ l) s' → phaseOf (s .look n) ≡ Fmap → Inv s' (to n filled ∷ h)
+  inv-filled s' t p = happened filled vacantSlot s' t refl (omega (arith, i .balance, t .sum, held-is (s .look n) Fmap p)) (in-stage Fmap p)
 
 -- a caller is reported ended: its slots are marked
-or-false : (b : Bool) → b || false ≡ b
-or-false true = refl
-or-false false = refl
-
 module _ (c : ℕ) where
   abbrev endCore : Core → Core
   endCore vacant = vacant
-  endCore (placeholder k e) = placeholder k (e || eqb k c)
-  endCore (waiting k x e r) = waiting k x (e || eqb k c) r
-  endCore (responded k e r v) = responded k (e || eqb k c) r v
-  endCore (mapping k e) = mapping k (e || eqb k c)
+  endCore (placeholder k e) = placeholder k (eqb k c || e)
+  endCore (waiting k x e r) = waiting k x (eqb k c || e) r
+  endCore (responded k e r v) = responded k (eqb k c || e) r v
+  endCore (mapped k e) = mapped k (eqb k c || e)
 
   -- a slot of this caller's, and one of another's
-  mine : (v : Slot) (p : Phase) → phaseOf v ≡ p → v .ended || eqb (v .caller) c ≡ true → core (markedBy true p v) ≡ endCore (coreBy p v)
+  mine : (v : Slot) (p : Phase) → phaseOf v ≡ p → eqb (v .caller) c || v .ended ≡ true → core (markedBy true p v) ≡ endCore (coreBy p v)
   mine v Vacant e q = ap (λ (p : Phase). coreBy p v) e
   mine v Placeholder e q = rw (e, q)
   mine v Waiting e q = rw (e, q)
   mine v Responded e q = rw (e, q)
   mine v Fmap e q = rw (e, q)
 
-  others : (v : Slot) (p : Phase) → phaseOf v ≡ p → v .ended || eqb (v .caller) c ≡ v .ended → core v ≡ endCore (coreBy p v)
+  others : (v : Slot) (p : Phase) → phaseOf v ≡ p → eqb (v .caller) c || v .ended ≡ v .ended → core v ≡ endCore (coreBy p v)
   others v Vacant e q = ap (λ (p : Phase). coreBy p v) e
   others v Placeholder e q = rw (e, q)
   others v Waiting e q = rw (e, q)
@@ -252,8 +196,8 @@ module _ (c : ℕ) where
   mark-core v = go (eqb (v .caller) c) refl
     where
       go : (b : Bool) → eqb (v .caller) c ≡ b → core (markedBy b (phaseOf v) v) ≡ endCore (core v)
-      go true q = mine v (phaseOf v) refl (ap (λ (b : Bool). v .ended || b) q ∙ or-true (v .ended))
-      go false q = others v (phaseOf v) refl (ap (λ (b : Bool). v .ended || b) q ∙ or-false (v .ended))
+      go true q = mine v (phaseOf v) refl (ap (λ (b : Bool). b || v .ended) q)
+      go false q = others v (phaseOf v) refl (ap (λ (b : Bool). b || v .ended) q)
 
   mark-state : (b : Bool) (p : Phase) (v : Slot) → markedBy b p v .state ≡ v .state
   mark-state false p v = refl
@@ -283,18 +227,18 @@ module _ (c : ℕ) where
           ap (λ (d : Slot). getD (map (markedOf c) (t .slots)) n d) (sym (mark-nobody noSlot refl)) ∙ List·getD-map (markedOf c) (t .slots) n noSlot
       go false = sym (mark-nobody vacantSlot refl)
 
-  end-dress : (p : Phase) (k : Call) →
-      endCore (dress p k) ≡ dress p (made (k .called) (k .mapping) (k .caller) (k .taken) (k .waited) (k .returned) (k .ended || eqb (k .caller) c) (k .served) (k .reads) (k .lost) (k .passed) (k .supplied) (k .lap))
-  end-dress Vacant k = refl
-  end-dress Placeholder k = refl
-  end-dress Waiting k = refl
-  end-dress Responded k = refl
-  end-dress Fmap k = refl
+  end-dress : (g : Stage) (k : Call) → endCore (dress g k) ≡ dress g (marked false false (eqb (k .caller) c) k)
+  end-dress free k = refl
+  end-dress reserved k = refl
+  end-dress waits k = refl
+  end-dress (replied r) k = refl
+  end-dress mapping k = refl
 
-  pub inv-end : (t : Table) (h : List Fact) → Inv (slotAt t) (heldOf t) h → Inv (slotAt (endedTable t c)) (heldOf (endedTable t c)) (end c ∷ h)
+  pub inv-end : (t : Table) (h : List Fact) → Inv (shape t) h → Inv (shape (endedTable t c)) (end c ∷ h)
   inv-end t h i =
       record {
-        fits = λ n. ap core (mark-at t n) ∙ mark-core (slotAt t n) ∙ ap endCore (i .fits n) ∙ end-dress (stageOf (book h n)) (book h n);
+        fits = λ n. ap core (mark-at t n) ∙ mark-core (slotAt t n) ∙ ap endCore (i .fits n) ∙ end-dress (book h n .stage) (book h n);
+        chain = i .chain;
         balance = omega (arith, i .balance, held-mark (t .slots));
         every = (tt, i .every);
       }

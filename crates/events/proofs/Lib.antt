@@ -4,11 +4,12 @@ pub mod Sane
 pub mod Once
 pub mod Stored
 pub mod Inv
+pub mod WellFormed
+pub mod Effects
 pub mod Entries
-pub mod Steps
-pub mod Refused
 pub mod Conditions
-pub mod Whole
+pub mod Writes
+pub mod Steps
 pub mod Exact
+pub mod Refused
 pub mod Demanded
-pub mod Examples

@@ -1,13 +1,13 @@
 -- A refusal changes nothing but in the four cases that 01 names, and a read that would wait nothing at all (demand 1).
 -- Assumes nothing.
-use Prim.Native.Nat.{ℕ, suc}
-use mathlib.Core.Path.{_≡_, refl, ap, _∙_, subst}
+use Prim.Native.Nat.{ℕ, zero, suc, _+_, _*_, _/_, _<_}
+use mathlib.Core.Path.{_≡_, refl, sym, ap, _∙_, subst}
 use mathlib.Core.Bool.{Bool, true, false, not, cond, _||_}
 use mathlib.Core.List.{List, [], _∷_, _++_, append-nil}
 use native.Mathlib.Omega.{arith}
 use lib.Dec.{ltb, eqb}
-use lib.ListN.{getD, take}
-use borrow.Author.Tests.{eqb-true}
+use lib.ListN.{getD, take, length, drop}
+use borrow.Author.Tests.{eqb-true, lt-ltb, le-ltb}
 use Rattle.answer.specs.Answer as numbered
 use Rattle.error.specs.Errors.{demuxOf}
 use Rattle.flag.specs.Flags.{within, eventFlags, fobtainFdFlags}
@@ -34,21 +34,26 @@ use Rattle.table.specs.Table.{putAt, vacateAt}
 use Rattle.wait_queue.specs.Queue.{unread}
 use Rattle.wait_queue_receive.specs.Receive.{copied, receivedIf, receiveAnswer}
 use Rattle.events.specs.World.{World, tableOf, holdsOf, handlesOf, queueOf, slotIn, phaseIn, withTable, withHolds, withHandles, withQueue, queueFull}
-use Rattle.events.specs.Outcome.{Answer, no, wait, answered, Outcome, outcome, Row, checked, refuse}
+use Rattle.events.specs.Outcome.{Answer, ok, no, wait, onAnswer, answered, Outcome, outcome, Row, checked, refuse}
 use Rattle.events.specs.Submit.{reserveRows, submitRows, callRows, genericRows, stdfsRows, fmapRows, queueRows}
 use Rattle.events.specs.Wake.{wakeable, wakeRows, blockedBy, waitedBy, wokenBy}
-use Rattle.events.specs.Complete.{obtainRows, shortWords, byDescriptor, obtained, Entered, accepted, rejected, reject, Offer, result, one, listed, servedBy, respondBy, inHandle, dropped, isVacant, isWaiting, entryBy, entryOf, entriesOf, stopped, onEntered, writeOn}
+use Rattle.events.specs.Complete.{obtainRows, shortWords, byDescriptor, obtained, Entered, accepted, rejected, reject, Offer, result, one, listed, servedBy, respondBy, inHandle, dropped, isVacant, isWaiting, entryBy, entryOf, worldOf, cut, entriesOf, stopped, onEntered, writeOn}
 use Rattle.events.specs.Descriptors.{requestOf, wrongWords, requestRows, listRows, broughtBack, moved}
 use Rattle.events.specs.Supply.{pageRows, suppliedAs, suppliedBy}
-use Rattle.events.specs.Event.{Event, hostOpen, hostCopy, hostDrop, hostPut, hostEnded, reserve, submit, call, generic, stdfs, fmap, close, detach, wake, read, write, move, obtain, supply, step}
-use Rattle.events.specs.Exactly.{goes, verdict, isWait}
-use Rattle.events.specs.Refusals.{Nothing, leftBy, leftEntry, leftFirst, left, Demand1}
+use Rattle.events.specs.Event.{DriverEvent, hostPut, reserve, submit, call, generic, stdfs, fmap, close, detach, wake, read, write, move, obtain, supply, Event, hostOpen, hostCopy, hostDrop, hostEnded, on, driverStep, step}
+use Rattle.events.specs.History.{viewOf, entryAt, afterEntries}
+use Rattle.events.specs.Refusals.{Nothing, leftBy, leftEntry, left, leftAfter, Demand1}
 use Rattle.events.proofs.Checked.{checked-cases}
+use Rattle.events.proofs.Writes.{entry-at, next-at}
 
 -- what holds of both outcomes of a test
 either : {A : Type 0} (P : A → Type 0) (b : Bool) {x y : A} → P x → P y → P (cond b x y)
 either P true p q = p
 either P false p q = q
+
+-- 1 for a refusal, 2 for a wait, else 0
+abbrev down : Answer → ℕ
+down a = onAnswer a (λ v. 0) (λ k. 1) 2 0 (λ r. 0)
 
 -- an outcome on w whose refusal with k leaves L k, and whose wait leaves w; neither makes or stores anything
 record Spares (w : World) (L : ℕ → World) (o : Outcome) : Type 0 where
@@ -66,18 +71,14 @@ module _ {w : World} {L : ℕ → World} where
   same l p q r =
       record { refused = λ k e. (record { effects = p; bytes = q }, r ∙ l k); waiting = λ e. (record { effects = p; bytes = q }, r) }
 
-  went : {o : Outcome} → verdict (o .answer) ≡ goes → isWait (o .answer) ≡ false → Spares w L o
-  went {o} p q =
-      record {
-        refused = λ k e. absurd (let z : _≡_ {A = ℕ} 0 1 = cc in omega arith);
-        waiting = λ e. absurd (let z : _≡_ {A = ℕ} 0 1 = cc in omega arith);
-      }
+  went : {o : Outcome} → down (o .answer) ≡ 0 → Spares w L o
+  went {o} p = record { refused = λ k e. absurd (omega (arith, p, ap down e)); waiting = λ e. absurd (omega (arith, p, ap down e)) }
 
   leaves : {fx : List ℕ} (j : ℕ) (u : World) → fx ≡ [] → u ≡ L j → Spares w L (outcome (no j) fx u)
   leaves j u q x =
       record {
         refused = λ k e. (record { effects = q; bytes = refl }, x ∙ ap L (let z : j ≡ k = cc in z));
-        waiting = λ e. absurd (let z : _≡_ {A = ℕ} 0 1 = cc in omega arith);
+        waiting = λ e. absurd (omega (arith, ap down e));
       }
 
   spared : (rows : List Row) (o : Outcome) → Kept w L rows → Spares w L o → Spares w L (checked (refuse w) rows o)
@@ -134,41 +135,85 @@ module _ (w : World) (e : Cqe) where
 turned-as : (w : World) (e : Cqe) (k : ℕ) (fx : List ℕ) (u : World) → entryOf w e ≡ rejected k fx u → (fx ≡ []) × (u ≡ leftEntry w e)
 turned-as w e k fx u q = subst (Turned (leftEntry w e)) q (turned w e)
 
-stops-at :
-    (w : World) (e : Cqe) (k : ℕ) (gx : List ℕ) (u : World) → entryOf w e ≡ rejected k gx u
-    → (es : List Cqe) (n : ℕ) (fx : List ℕ) → writeOn w (e ∷ es) n fx ≡ outcome (stopped n k) fx u
-stops-at w e k gx u q es n fx =
-    ap (λ (x : Entered). onEntered x (λ gx u. writeOn u es (suc n) (fx ++ gx)) (λ k gx u. outcome (stopped n k) (fx ++ gx) u)) q
-    ∙ ap (λ (l : List ℕ). outcome (stopped n k) l u) (ap (λ (l : List ℕ). fx ++ l) (turned-as w e k gx u q .0) ∙ append-nil fx)
-
 -- after an accepted entry a write is not refused
-abbrev Wrote : Answer → Type 0
-Wrote a = (verdict a ≡ goes) × (isWait a ≡ false)
-
-pub wrote : (es : List Cqe) (w : World) (n : ℕ) (fx : List ℕ) → Wrote (writeOn w es (suc n) fx .answer)
-wrote [] w n fx = (refl, refl)
+wrote : (es : List Cqe) (w : World) (n : ℕ) (fx : List ℕ) → down (writeOn w es (suc n) fx .answer) ≡ 0
+wrote [] w n fx = refl
 wrote (e ∷ es) w n fx = go (entryOf w e) (wrote es)
   where
     go :
-        (x : Entered) → ((u : World) (n : ℕ) (fx : List ℕ) → Wrote (writeOn u es (suc n) fx .answer))
-        → Wrote (onEntered x (λ gx u. writeOn u es (suc (suc n)) (fx ++ gx)) (λ k gx u. outcome (stopped (suc n) k) (fx ++ gx) u) .answer)
+        (x : Entered) → ((u : World) (n : ℕ) (fx : List ℕ) → down (writeOn u es (suc n) fx .answer) ≡ 0)
+        → down (onEntered x (λ gx u. writeOn u es (suc (suc n)) (fx ++ gx)) (λ k gx u. outcome (stopped (suc n) k) (fx ++ gx) u) .answer) ≡ 0
     go (accepted gx u) more = more u (suc n) (fx ++ gx)
-    go (rejected k gx u) more = (refl, refl)
+    go (rejected k gx u) more = refl
 
-write-spares : (w : World) (es : List Cqe) → Spares w (λ k. leftFirst w es) (writeOn w es 0 [])
-write-spares w [] = went refl refl
-write-spares w (e ∷ es) = go (entryOf w e) (turned w e)
+write-spares : (w : World) (m : ℕ) (bs : List ℕ) → Spares w (λ k. leftEntry w (entryAt bs 0)) (writeOn w (cut m bs) 0 [])
+write-spares w zero bs = went refl
+write-spares w (suc m) bs =
+    subst (λ (e : Cqe). Spares w (λ k. leftEntry w (entryAt bs 0)) (writeOn w (e ∷ cut m (drop 16 bs)) 0 [])) (sym (entry-at bs 0))
+    (go (entryOf w (entryAt bs 0)) (turned w (entryAt bs 0)))
   where
     go :
-        (x : Entered) → Turned (leftEntry w e) x
-        → Spares w (λ k. leftEntry w e) (onEntered x (λ gx u. writeOn u es 1 ([] ++ gx)) (λ k gx u. outcome (stopped 0 k) ([] ++ gx) u))
-    go (accepted gx u) t = let r = wrote es u 0 gx in went (r .0) (r .1)
+        (x : Entered) → Turned (leftEntry w (entryAt bs 0)) x
+        → Spares w (λ k. leftEntry w (entryAt bs 0)) (onEntered x (λ gx u. writeOn u (cut m (drop 16 bs)) 1 ([] ++ gx)) (λ k gx u. outcome (stopped 0 k) ([] ++ gx) u))
+    go (accepted gx u) t = went (wrote (cut m (drop 16 bs)) u 0 gx)
     go (rejected k gx u) t = leaves k u (t .0) (t .1)
 
 -- for want of words nothing is looked at
-short-spares : (w : World) (es : List Cqe) (b : Bool) → Spares w (λ k. cond b w (leftFirst w es)) (cond b (refuse w 204) (writeOn w es 0 []))
-short-spares w es true = leaves 204 w refl refl
-short-spares w es false = write-spares w es
+short-spares : (w : World) (m : ℕ) (bs : List ℕ) (b : Bool) → Spares w (λ k. cond b w (leftEntry w (entryAt bs 0))) (cond b (refuse w 204) (writeOn w (cut m bs) 0 []))
+short-spares w m bs true = leaves 204 w refl refl
+short-spares w m bs false = write-spares w m bs
+
+-- where a write stops: j entries are accepted, m more stand before it
+abbrev value : Answer → ℕ
+value a = onAnswer a (λ v. v) (λ k. 0) 0 0 (λ r. 0)
+
+module _ (w : World) (bs : List ℕ) where
+  abbrev Stops : ℕ → Outcome → Type 0
+  Stops n o =
+      (v : ℕ) → o .answer ≡ ok v
+      → o .world ≡ cond (ltb (v / 16) n) (leftEntry (afterEntries bs w (v / 16)) (entryAt bs (v / 16))) (afterEntries bs w (v / 16))
+
+  -- the value of an answer that counts j entries
+  counts : (j v : ℕ) → ok (16 * j) ≡ ok v → v / 16 ≡ j
+  counts j v e = let z : 16 * j ≡ v = ap value e in omega (arith, z)
+
+  stopped-at : (j n k : ℕ) (fx : List ℕ) (u : World) → j < n → u ≡ leftEntry (afterEntries bs w j) (entryAt bs j) → Stops n (outcome (stopped j k) fx u)
+  stopped-at zero n k fx u b q v e = absurd (omega (arith, ap down e))
+  stopped-at (suc j) n k fx u b q v e =
+      let z = counts (suc j) v e in
+      q
+      ∙ sym
+      (ap (λ (i : ℕ). cond (ltb i n) (leftEntry (afterEntries bs w i) (entryAt bs i)) (afterEntries bs w i)) z
+      ∙ ap (λ (b : Bool). cond b (leftEntry (afterEntries bs w (suc j)) (entryAt bs (suc j))) (afterEntries bs w (suc j))) (lt-ltb (suc j) n b))
+
+  write-stops : (m j n : ℕ) (fx : List ℕ) → j + m ≡ n → Stops n (writeOn (afterEntries bs w j) (cut m (drop (16 * j) bs)) j fx)
+  write-stops zero j n fx s =
+      λ v e.
+      let z = counts j v e in
+      sym
+      (ap (λ (i : ℕ). cond (ltb i n) (leftEntry (afterEntries bs w i) (entryAt bs i)) (afterEntries bs w i)) z
+      ∙ ap (λ (b : Bool). cond b (leftEntry (afterEntries bs w j) (entryAt bs j)) (afterEntries bs w j)) (le-ltb j n (omega (arith, s))))
+  write-stops (suc m) j n fx s =
+      subst (λ (c : Cqe). Stops n (writeOn (afterEntries bs w j) (c ∷ cut m (drop 16 (drop (16 * j) bs))) j fx)) (sym (entry-at bs j))
+      (subst (λ (l : List ℕ). Stops n (writeOn (afterEntries bs w j) (entryAt bs j ∷ cut m l) j fx)) (sym (next-at bs j))
+      (go (entryOf (afterEntries bs w j) (entryAt bs j)) refl (turned (afterEntries bs w j) (entryAt bs j)) (λ gx. write-stops m (suc j) n (fx ++ gx) (omega (arith, s)))))
+    where
+      go :
+          (x : Entered) → worldOf x ≡ afterEntries bs w (suc j) → Turned (leftEntry (afterEntries bs w j) (entryAt bs j)) x
+          → ((gx : List ℕ) → Stops n (writeOn (afterEntries bs w (suc j)) (cut m (drop (16 * suc j) bs)) (suc j) (fx ++ gx)))
+          → Stops n (onEntered x (λ gx u. writeOn u (cut m (drop (16 * suc j) bs)) (suc j) (fx ++ gx)) (λ k gx u. outcome (stopped j k) (fx ++ gx) u))
+      go (accepted gx u) p t more =
+          subst (λ (u : World). Stops n (writeOn u (cut m (drop (16 * suc j) bs)) (suc j) (fx ++ gx))) (sym p) (more gx)
+      go (rejected k gx u) p t more = stopped-at j n k (fx ++ gx) u (omega (arith, s)) (t .1)
+
+  stops-at : (words v : ℕ) → step w (on (write words bs)) .answer ≡ ok v → step w (on (write words bs)) .world ≡ leftAfter w bs (v / 16)
+  stops-at words v = go (shortWords words bs)
+    where
+      go :
+          (b : Bool) → cond b (refuse w 204) (writeOn w (entriesOf bs) 0 []) .answer ≡ ok v
+          → cond b (refuse w 204) (writeOn w (entriesOf bs) 0 []) .world ≡ leftAfter w bs (v / 16)
+      go true e = absurd (omega (arith, ap down e))
+      go false e = write-stops (length bs / 16) 0 (length bs / 16) [] (omega arith) v e
 
 -- events that go by the slot's phase
 module _ (w : World) (n : ℕ) where
@@ -184,16 +229,16 @@ module _ (w : World) (n : ℕ) where
     where
       go : (b : Bool) → Spares w Supplied (outcome (suppliedAs b) [] (withTable w (vacateAt (tableOf w) n)))
       go true = leaves 3 _ refl refl
-      go false = went refl refl
+      go false = went refl
 
   module _ (span : PageSpan) where
     abbrev Marked : ℕ → World
     Marked k = cond (eqb k 4) (withTable w (putAt (tableOf w) n (interruptedOf (slotIn w n) span))) w
 
     blocked-spares : (x f : Bool) → Spares w Marked (blockedBy x f w n)
-    blocked-spares true f = went refl refl
+    blocked-spares true f = went refl
     blocked-spares false true = leaves 203 w refl refl
-    blocked-spares false false = went refl refl
+    blocked-spares false false = went refl
 
     waited-spares : (k : Bool) → Spares w Marked (waitedBy k w n span)
     waited-spares true = leaves 4 _ refl refl
@@ -203,16 +248,16 @@ module _ (w : World) (n : ℕ) where
     woken-spares killed Vacant = leaves 77 w refl refl
     woken-spares killed Placeholder = leaves 77 w refl refl
     woken-spares killed Waiting = waited-spares (eqb killed 1)
-    woken-spares killed Responded = went refl refl
+    woken-spares killed Responded = went refl
     woken-spares killed Fmap = leaves 77 w refl refl
 
 -- a move whose list is taken: refused, it drops what it brought
 move-spares :
     (w : World) (ms ds : List ℕ) (a b : Bool)
-    → Spares w (left w (move ms ds)) (cond a (refuse (broughtBack w ds) 22) (cond b (refuse (broughtBack w ds) 2) (moved w (requestOf ms) ds)))
+    → Spares w (left w (viewOf (on (move ms ds)))) (cond a (refuse (broughtBack w ds) 22) (cond b (refuse (broughtBack w ds) 2) (moved w (requestOf ms) ds)))
 move-spares w ms ds true b = leaves 22 (broughtBack w ds) refl refl
 move-spares w ms ds false true = leaves 2 (broughtBack w ds) refl refl
-move-spares w ms ds false false = went refl refl
+move-spares w ms ds false false = went refl
 
 -- a read, by whether the queue is empty: no byte is copied, or it goes on
 abbrev readBy : Bool → World → ℕ → ℕ → Outcome
@@ -229,7 +274,7 @@ module _ (w : World) where
   read-spares n flags true e =
       let z : copied (queueOf w) n ≡ 0 = omega (arith, eqb-true (queueOf w .len) 0 e) in
       same (λ k. refl) refl (ap (λ (m : ℕ). take m (unread (queueOf w) (w .words))) z) refl
-  read-spares n flags false e = went refl refl
+  read-spares n flags false e = went refl
 
   -- the host's events
   abbrev Leaves : numbered.Answer → Holds → Handles → Type 0
@@ -238,47 +283,50 @@ module _ (w : World) where
   open-spares : (d : ℕ) → Leaves (openAnswer (openOf (holdsOf w) d .answer)) (openOf (holdsOf w) d .holds) (handlesOf w)
   open-spares d =
       either (λ (o : HoldOpened). Leaves (openAnswer (o .answer)) (o .holds) (handlesOf w))
-      (ltb 63 d || not (eqb (getD (holdsOf w .holds) d 0) 0)) (same (λ k. refl) refl refl refl) (went refl refl)
+      (ltb 63 d || not (eqb (getD (holdsOf w .holds) d 0) 0)) (same (λ k. refl) refl refl refl) (went refl)
 
   copy-spares : (d : ℕ) → Leaves (copyAnswer (copyOf (holdsOf w) d .answer)) (copyOf (holdsOf w) d .holds) (handlesOf w)
   copy-spares d =
       let P : HoldCopied → Type 0 = λ o. Leaves (copyAnswer (o .answer)) (o .holds) (handlesOf w) in
       either P (unheld (holdsOf w .holds) (holdsOf w .outside) d) (same (λ k. refl) refl refl refl)
-      (either P (eqb (getD (holdsOf w .holds) d 0) 65535) (same (λ k. refl) refl refl refl) (went refl refl))
+      (either P (eqb (getD (holdsOf w .holds) d 0) 65535) (same (λ k. refl) refl refl refl) (went refl))
 
   drop-spares : (d : ℕ) → Leaves (dropAnswer (dropOf (holdsOf w) d .answer)) (dropOf (holdsOf w) d .holds) (handlesOf w)
   drop-spares d =
       either (λ (o : HoldDropped). Leaves (dropAnswer (o .answer)) (o .holds) (handlesOf w))
-      (unheld (holdsOf w .holds) (holdsOf w .outside) d) (same (λ k. refl) refl refl refl) (went refl refl)
+      (unheld (holdsOf w .holds) (holdsOf w .outside) d) (same (λ k. refl) refl refl refl) (went refl)
 
   put-spares : (d k : ℕ) → let o = putOf (holdsOf w) (handlesOf w) d k in Leaves (putAnswer (o .answer)) (o .holds) (o .handles)
   put-spares d k =
       either (λ (o : HoldPut). Leaves (putAnswer (o .answer)) (o .holds) (o .handles))
-      (unheld (holdsOf w .holds) (holdsOf w .outside) d || not (isFree (handlesOf w) k)) (same (λ k. refl) refl refl refl) (went refl refl)
+      (unheld (holdsOf w .holds) (holdsOf w .outside) d || not (isFree (handlesOf w) k)) (same (λ k. refl) refl refl refl) (went refl)
 
-spares : (w : World) (e : Event) → Spares w (left w e) (step w e)
+driver-spares : (w : World) (e : DriverEvent) → Spares w (left w (viewOf (on e))) (driverStep w e)
+driver-spares w (hostPut d k) = put-spares w d k
+driver-spares w (reserve c) = spared (reserveRows w) _ (refl, tt) (went refl)
+driver-spares w (submit n c op fl args pid ds) = spared (submitRows w n c op ds) _ (refl, (refl, (refl, (refl, tt)))) (went refl)
+driver-spares w (call c op args uid gid pid ds) = spared (callRows w op ds) _ (refl, (refl, (refl, (refl, tt)))) (went refl)
+driver-spares w (generic c pid fds base len ms) = spared (genericRows w fds) _ (refl, (refl, (refl, tt))) (went refl)
+driver-spares w (stdfs c pid fds base len ms) = spared (stdfsRows w fds ms) _ (refl, (refl, (refl, (refl, (refl, tt))))) (went refl)
+driver-spares w (fmap c id pages flags uid gid pid) = spared (fmapRows w) _ (refl, (refl, tt)) (went refl)
+driver-spares w (close id) = spared (queueRows w) _ (refl, tt) (went refl)
+driver-spares w (detach id pid) = spared (queueRows w) _ (refl, tt) (went refl)
+driver-spares w (wake n c killed base count) =
+    spared (wakeRows (ltb 1 killed) (phaseIn w n) (wakeable (slotIn w n) c)) _ (refl, (refl, (refl, tt))) (woken-spares w n _ killed (phaseIn w n))
+driver-spares w (read len flags) = read-spares w len flags _ refl
+driver-spares w (write words bs) = short-spares w (length bs / 16) bs (shortWords words bs)
+driver-spares w (move ms ds) =
+    spared (listRows w ds) _ (refl, (refl, tt))
+    (move-spares w ms ds (wrongWords 1 ms || isVacant (phaseIn w (requestOf ms))) (not (isWaiting (phaseIn w (requestOf ms)))))
+driver-spares w (obtain ms) = spared (requestRows w 0 ms) _ (refl, (refl, tt)) (went refl)
+driver-spares w (supply n offset base count) = spared (pageRows offset base count) _ (refl, tt) (supply-spares w n (phaseIn w n))
+
+spares : (w : World) (e : Event) → Spares w (left w (viewOf e)) (step w e)
 spares w (hostOpen d) = open-spares w d
 spares w (hostCopy d) = copy-spares w d
 spares w (hostDrop d) = drop-spares w d
-spares w (hostPut d k) = put-spares w d k
-spares w (hostEnded c) = went refl refl
-spares w (reserve c) = spared (reserveRows w) _ (refl, tt) (went refl refl)
-spares w (submit n c op fl args pid ds) = spared (submitRows w n c op ds) _ (refl, (refl, (refl, (refl, tt)))) (went refl refl)
-spares w (call c op args uid gid pid ds) = spared (callRows w op ds) _ (refl, (refl, (refl, (refl, tt)))) (went refl refl)
-spares w (generic c pid fds base len ms) = spared (genericRows w fds) _ (refl, (refl, (refl, tt))) (went refl refl)
-spares w (stdfs c pid fds base len ms) = spared (stdfsRows w fds ms) _ (refl, (refl, (refl, (refl, (refl, tt))))) (went refl refl)
-spares w (fmap c id pages flags uid gid pid) = spared (fmapRows w) _ (refl, (refl, tt)) (went refl refl)
-spares w (close id) = spared (queueRows w) _ (refl, tt) (went refl refl)
-spares w (detach id pid) = spared (queueRows w) _ (refl, tt) (went refl refl)
-spares w (wake n c killed base count) =
-    spared (wakeRows (ltb 1 killed) (phaseIn w n) (wakeable (slotIn w n) c)) _ (refl, (refl, (refl, tt))) (woken-spares w n _ killed (phaseIn w n))
-spares w (read len flags) = read-spares w len flags _ refl
-spares w (write words bs) = short-spares w (entriesOf bs) (shortWords words bs)
-spares w (move ms ds) =
-    spared (listRows w ds) _ (refl, (refl, tt))
-    (move-spares w ms ds (wrongWords 1 ms || isVacant (phaseIn w (requestOf ms))) (not (isWaiting (phaseIn w (requestOf ms)))))
-spares w (obtain ms) = spared (requestRows w 0 ms) _ (refl, (refl, tt)) (went refl refl)
-spares w (supply n offset base count) = spared (pageRows offset base count) _ (refl, tt) (supply-spares w n (phaseIn w n))
+spares w (hostEnded c) = went refl
+spares w (on e) = driver-spares w e
 
 pub demand1 : Demand1
 demand1 =
@@ -286,5 +334,5 @@ demand1 =
       refused = λ w e. spares w e .refused;
       waiting = λ w e. spares w e .waiting;
       entry = turned-as;
-      stops = stops-at;
+      stops = λ w words bs. stops-at w bs words;
     }

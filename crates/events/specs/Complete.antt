@@ -37,6 +37,11 @@ pub data Entered : Type 0 where
   accepted : List ℕ → World → Entered
   rejected : ℕ → List ℕ → World → Entered
 
+-- the state that it leaves
+abbrev pub worldOf : Entered → World
+worldOf (accepted fx w) = w
+worldOf (rejected k fx w) = w
+
 abbrev pub reject : World → ℕ → Entered
 reject w k = rejected k [] w
 

@@ -1,5 +1,5 @@
--- Demand 3 (document 00) with the terms of 01's "Runs": one claim about any list of events from a fresh state.
--- What happened is in History: a list of facts, newest first, so that what stands behind a fact is what had happened before it.
+-- Demand 3 (document 00) with the terms of 01's "Runs": one claim about all that a run comes to. What happened is a list of
+-- facts, newest first, so that what stands behind a fact is what had happened before it.
 use Prim.Native.Nat.{ℕ, _+_, _*_, _/_}
 use mathlib.Core.Path.{_≡_}
 use mathlib.Core.Logic.{_⊎_}
@@ -7,22 +7,19 @@ use mathlib.Core.Bool.{Bool, true, false, not, cond, _&&_}
 use mathlib.Core.List.{List, [], _∷_, _++_}
 use lib.Count.{ones}
 use lib.Dec.{leb, eqb}
-use lib.ListN.{drop, length}
-use Rattle.le.specs.Le.{bytesOf}
-use Rattle.schemev2.specs.declared.Sqe.{Sqe}
-use Rattle.schemev2.specs.Entry.{sqeWords, sqeBytes}
-use Rattle.status.specs.declared.Status.the-variants.{Responded}
+use lib.ListN.{drop, take, replicate}
+use Rattle.flag.specs.Flags.{eventRead, sqeOneway}
+use Rattle.le.specs.Le.{bytes4, bytesOf}
+use Rattle.schemev2.specs.Entry.{sqeWords}
+use Rattle.status.specs.declared.Status.the-variants as status
 use Rattle.status.specs.Status.{isIn, wordOf}
-use Rattle.wait_queue.specs.Queue.{unread}
-use Rattle.events.specs.World.{World, tableOf, queueOf}
-use Rattle.events.specs.Outcome.{Response, Answer}
-use Rattle.events.specs.Submit.{submitEntry, callEntry, genericEntry, stdMeta, fmapEntry, closeEntry, detachEntry}
-use Rattle.events.specs.Wake.{cancelEntry}
-use Rattle.events.specs.Event.{Event, hostOpen, hostCopy, hostDrop, hostPut, hostEnded, reserve, submit, call, generic, stdfs, fmap, close, detach, wake, read, write, move, obtain, supply}
-use Rattle.events.specs.History.{Place, Fact, gave, asked, took, serve, block, break, pass, filled, end, Call, book, onOk, hands, isBlocked}
-use Rattle.events.specs.Run.{Turn, Run, run}
+use Rattle.events.specs.World.{World, tableOf, schemeOf, unreadIn}
+use Rattle.events.specs.Outcome.{Response, onAnswer, onOk}
+use Rattle.events.specs.Event.{Event}
+use Rattle.events.specs.History.{What, Fact, to, end, gave, asked, took, serve, block, break, pass, filled, Stage, free, reserved, waits, replied, mapping, Call, book, View, tells, sends, wakes, reads, writes, moves, supplies, viewOf, news}
+use Rattle.events.specs.Run.{Turn, Run, turnOf, Steps}
 
--- every fact of a history, each with what had happened before it; some fact; every two facts, the later first; every turn
+-- every fact of a history, each with what had happened before it; some fact
 abbrev pub Every : (List Fact → Fact → Type 0) → List Fact → Type 0
 Every P [] = Unit {0}
 Every P (f ∷ h) = P h f × Every P h
@@ -31,204 +28,138 @@ abbrev pub Some : (List Fact → Fact → Type 0) → List Fact → Type 0
 Some P [] = ⊥
 Some P (f ∷ h) = P h f ⊎ Some P h
 
-abbrev pub Two : (List Fact → Fact → List Fact → Fact → Type 0) → List Fact → Type 0
-Two R [] = Unit {0}
-Two R (f ∷ h) = Every (R h f) h × Two R h
-
-abbrev pub All : (Turn → Type 0) → List Turn → Type 0
-All P [] = Unit {0}
-All P (t ∷ ts) = P t × All P ts
-
--- a call waits from its accepted submit or `call` until a reply entry to it is accepted
-abbrev pub Waits : Call → Type 0
-Waits k = (k .called ≡ true) × (k .taken ≡ true) × (k .served ≡ false)
-
--- its slot may be given out again: "a call's slot isn't given out again until a reply entry to it is accepted, a map request's
--- not until map supply vacates it". A reserve is a call from the start, submitted or not.
-abbrev pub Free : Call → Type 0
-Free k = (k .called ≡ true → k .served ≡ true) × (k .mapping ≡ true → k .supplied ≡ true)
-
--- what holds of each fact, h being what had happened before it
-abbrev pub fair : List Fact → Fact → Type 0
-fair h (gave n c) = Free (book h n)
-fair h (asked n c) = Free (book h n)
-fair h (took n) = (book h n .called ≡ true) × (book h n .taken ≡ false) × (book h n .served ≡ false)
--- an accepted reply entry serves its tag's call, while that waits
-fair h (serve p n r) = Waits (book h n)
+-- the stage in which what happens to a tag finds its call
+abbrev pub needs : What → Stage → Type 0
+-- "a call's slot isn't given out again until a reply entry to it is accepted, a map request's not until map supply vacates it"
+needs (gave c) s = s ≡ free
+needs (asked c) s = s ≡ free
+needs took s = s ≡ reserved
+-- an accepted reply entry "serves its tag's call, which waits"
+needs (serve i j r) s = s ≡ waits
 -- the layer queues its cancel message "while it waits": the wakes that are answered still blocked are those of waiting calls
-fair h (block n) = Waits (book h n)
-fair h (break n) = Waits (book h n)
--- a reply handed over is that of a served call, not yet handed over
-fair h (pass n r) = (book h n .called ≡ true) × (book h n .served ≡ true) × (book h n .passed ≡ false) × (book h n .reads ≡ r)
--- map supply vacates map requests alone, each once
-fair h (filled n) = (book h n .mapping ≡ true) × (book h n .supplied ≡ false)
+needs block s = s ≡ waits
+needs break s = s ≡ waits
+-- a reply handed over is that of a served call, not handed over yet
+needs (pass r) s = s ≡ replied r
+needs filled s = s ≡ mapping
+
+abbrev pub fair : List Fact → Fact → Type 0
+fair h (to n x) = needs x (book h n .stage)
 fair h (end c) = Unit {0}
-
--- the fact is an accepted reply entry to tag n at place p that reads r; it is a hand-over of r to tag n
-abbrev pub Serves : Fact → Place → ℕ → Response → Type 0
-Serves f p n r = f ≡ serve p n r
-
-abbrev pub Hands : Fact → ℕ → Response → Type 0
-Hands f n r = f ≡ pass n r
 
 -- "no completion entry serves two calls, even with the same tag one after the other", and no call is served by two: of two
 -- accepted reply entries the places differ, and the calls differ too, by tag or by lap
 abbrev pub apart : List Fact → Fact → List Fact → Fact → Type 0
 apart h f h₀ f₀ =
-    (p p₀ : Place) (n n₀ : ℕ) (r r₀ : Response) → Serves f p n r → Serves f₀ p₀ n₀ r₀
-    → (p ≡ p₀ → ⊥) × (n ≡ n₀ → book h n .lap ≡ book h₀ n₀ .lap → ⊥)
+    (i i₀ j j₀ n n₀ : ℕ) (r r₀ : Response) → f ≡ to n (serve i j r) → f₀ ≡ to n₀ (serve i₀ j₀ r₀)
+    → (i ≡ i₀ → j ≡ j₀ → ⊥) × (n ≡ n₀ → book h n .lap ≡ book h₀ n₀ .lap → ⊥)
 
--- an earlier accepted reply entry to tag n, to the call of its lap l, that reads r
+-- "a reply handed over is demand 2's reading of the one entry that served its call while it waited": an earlier accepted reply
+-- entry to the tag and to the call of this lap reads it
 abbrev pub source : ℕ → ℕ → Response → List Fact → Fact → Type 0
-source n l r h₀ f₀ = (p : Place) × Serves f₀ p n r × (book h₀ n .lap ≡ l)
+source n l r h₀ f₀ = (i : ℕ) × (j : ℕ) × (f₀ ≡ to n (serve i j r)) × (book h₀ n .lap ≡ l)
 
--- "a reply handed over is demand 2's reading of the one entry that served its call while it waited"
 abbrev pub sourced : List Fact → Fact → Type 0
-sourced h f = (n : ℕ) (r : Response) → Hands f n r → Some (source n (book h n .lap) r) h
+sourced h f = (n : ℕ) (r : Response) → f ≡ to n (pass r) → Some (source n (book h n .lap) r) h
+
+-- what an event owes: it hands a reply over; so many bytes leave the queue's front, these join its end; these bytes are stored
+-- in those that it is lent; these are its effects, all of them or the wakes among them
+pub record Owed : Type 0 where
+  pub hands : Bool
+  pub removes : ℕ
+  pub adds : List ℕ
+  pub stores : List ℕ
+  pub all : Bool
+  pub makes : List ℕ
+
+abbrev pub owed : Bool → ℕ → List ℕ → List ℕ → Bool → List ℕ → Owed
+owed b n new bytes whole fx = record { hands = b; removes = n; adds = new; stores = bytes; all = whole; makes = fx }
+
+-- "Each entry queued here or by a wake makes effect 5, with the Rust's flags"
+abbrev pub queuing : World → Bool → List ℕ → ℕ → Owed
+queuing w b new flags = owed b 0 new [] true (5 ∷ schemeOf w ∷ flags ∷ [])
 
 -- "a wake hands it over exactly when it is well-formed [its call's tag and caller, killed 0 or 1], its call by then served, not
--- yet handed the reply and not returned, its caller not ended". No other event hands over.
-abbrev pub due : List Fact → Event → Bool
-due h (hostOpen d) = false
-due h (hostCopy d) = false
-due h (hostDrop d) = false
-due h (hostPut d k) = false
-due h (hostEnded c) = false
-due h (reserve c) = false
-due h (submit n c op fl args pid ds) = false
-due h (call c op args uid gid pid ds) = false
-due h (generic c pid fds base len ms) = false
-due h (stdfs c pid fds base len ms) = false
-due h (fmap c id pages flags uid gid pid) = false
-due h (close id) = false
-due h (detach id pid) = false
-due h (wake n c killed base count) =
-    leb killed 1
-    && (book h n .called
-    && (eqb (book h n .caller) c
-    && (book h n .served && (not (book h n .passed) && (not (book h n .returned) && not (book h n .ended))))))
-due h (read len flags) = false
-due h (write words bs) = false
-due h (move ms ds) = false
-due h (obtain ms) = false
-due h (supply n offset base count) = false
+-- yet handed the reply and not returned, its caller not ended"
+abbrev pub due : Stage → Call → ℕ → ℕ → Bool
+due free k c killed = false
+due reserved k c killed = false
+due waits k c killed = false
+due (replied r) k c killed = leb killed 1 && (eqb (k .caller) c && (not (k .returned) && not (k .ended)))
+due mapping k c killed = false
 
--- "The layer itself queues one cancel message for a call, while it waits, exactly at its first wake answered still blocked": the
--- bytes that stand in the queue after an event and not before it. A wake that is its call's first answered still blocked adds a
--- Cancel (opcode 25, ONEWAY, that tag, all else 0) and any other wake nothing; an accepted submit, call, map request, close or
--- detach adds its own entry; no other event adds any.
-abbrev pub ownBytes : Sqe → List ℕ
-ownBytes e = bytesOf (sqeWords e)
+-- the layer's cancel message, 64 bytes: opcode 25, flags ONEWAY, the tag in bytes 4 to 7, all else 0
+abbrev pub cancelBytes : ℕ → List ℕ
+cancelBytes n = (25 ∷ sqeOneway ∷ 0 ∷ 0 ∷ bytes4 n) ++ replicate 56 0
 
-abbrev pub added : List Fact → Event → Answer → List ℕ
-added h (hostOpen d) a = []
-added h (hostCopy d) a = []
-added h (hostDrop d) a = []
-added h (hostPut d k) a = []
-added h (hostEnded c) a = []
-added h (reserve c) a = []
-added h (submit n c op fl args pid ds) a = onOk a (λ v. ownBytes (submitEntry n op fl args pid)) []
-added h (call c op args uid gid pid ds) a = onOk a (λ n. ownBytes (callEntry op args uid gid pid n)) []
-added h (generic c pid fds base len ms) a = onOk a (λ n. ownBytes (genericEntry 28 pid fds base len ms n)) []
-added h (stdfs c pid fds base len ms) a = onOk a (λ n. ownBytes (genericEntry 33 pid fds base len (stdMeta ms) n)) []
-added h (fmap c id pages flags uid gid pid) a = onOk a (λ n. ownBytes (fmapEntry id pages flags uid gid pid n)) []
-added h (close id) a = onOk a (λ v. ownBytes (closeEntry id)) []
-added h (detach id pid) a = onOk a (λ v. ownBytes (detachEntry id pid)) []
-added h (wake n c killed base count) a = cond (isBlocked a && not (book h n .waited)) (sqeBytes (cancelEntry n)) []
-added h (read len flags) a = []
-added h (write words bs) a = []
-added h (move ms ds) a = []
-added h (obtain ms) a = []
-added h (supply n offset base count) a = []
+-- of what happens to a tag: a for an accepted reply entry, p for a hand-over, else z
+abbrev pub onReply : {A : Type 0} → What → A → A → A → A
+onReply (gave c) a p z = z
+onReply (asked c) a p z = z
+onReply took a p z = z
+onReply (serve i j r) a p z = a
+onReply block a p z = z
+onReply break a p z = z
+onReply (pass r) a p z = p
+onReply filled a p z = z
 
--- a read removes the whole entries that it returned; no other event removes any
-abbrev pub taken : Event → Answer → ℕ
-taken (hostOpen d) a = 0
-taken (hostCopy d) a = 0
-taken (hostDrop d) a = 0
-taken (hostPut d k) a = 0
-taken (hostEnded c) a = 0
-taken (reserve c) a = 0
-taken (submit n c op fl args pid ds) a = 0
-taken (call c op args uid gid pid ds) a = 0
-taken (generic c pid fds base len ms) a = 0
-taken (stdfs c pid fds base len ms) a = 0
-taken (fmap c id pages flags uid gid pid) a = 0
-taken (close id) a = 0
-taken (detach id pid) a = 0
-taken (wake n c killed base count) a = 0
-taken (read len flags) a = onOk a (λ v. v / 64 * 64) 0
-taken (write words bs) a = 0
-taken (move ms ds) a = 0
-taken (obtain ms) a = 0
-taken (supply n offset base count) a = 0
+-- an accepted reply makes effect 1 with its call's caller and tag, a returned call's too, and none for an ended caller
+abbrev pub wakesFor : List Fact → List Fact → List ℕ
+wakesFor h [] = []
+wakesFor h (to n x ∷ fs) =
+    let k = book (fs ++ h) n in wakesFor h fs ++ onReply x (cond (k .ended) [] (1 ∷ k .caller ∷ n ∷ [])) [] []
+wakesFor h (end c ∷ fs) = wakesFor h fs
 
-abbrev pub unreadIn : World → List ℕ
-unreadIn w = unread (queueOf w) (w .words)
+-- "The layer itself queues one cancel message for a call, while it waits, exactly at its first wake answered still blocked"; an
+-- event that is accepted queues its own entry; a read removes the whole entries that it copied
+abbrev pub owes : Turn → View → Owed
+owes t (tells f) = owed false 0 [] [] true []
+owes t (sends f e flags) =
+    onOk (t .outcome .answer) (λ v. queuing (t .before) false (bytesOf (sqeWords (e v))) flags) (owed false 0 [] [] true [])
+owes t (wakes n c killed span) =
+    let b = due (book (t .past) n .stage) (book (t .past) n) c killed in
+    let none = owed b 0 [] [] true [] in
+    onAnswer (t .outcome .answer) (λ v. none) (λ k. none) none
+    (cond (book (t .past) n .waited) none (queuing (t .before) b (cancelBytes n) eventRead)) (λ r. none)
+owes t reads = onOk (t .outcome .answer) (λ v. owed false (v / 64 * 64) [] (take v (unreadIn (t .before))) true []) (owed false 0 [] [] true [])
+owes t (writes words bs) = owed false 0 [] [] false (wakesFor (t .past) (news (t .number) (t .before) (writes words bs) (t .outcome .answer)))
+owes t (moves ds) = owed false 0 [] [] true []
+owes t (supplies n) = owed false 0 [] [] true []
 
-pub record Right (t : Turn) : Type 0 where
-  pub hand : hands (t .answer) ≡ due (t .past) (t .event)
-  pub queue : unreadIn (t .after) ≡ drop (taken (t .event) (t .answer)) (unreadIn (t .before)) ++ added (t .past) (t .event) (t .answer)
+-- effects are three words each: those of kind 1
+abbrev pub wakesIn : List ℕ → List ℕ
+wakesIn [] = []
+wakesIn (k ∷ []) = []
+wakesIn (k ∷ a ∷ []) = []
+wakesIn (k ∷ a ∷ b ∷ fx) = cond (eqb k 1) (k ∷ a ∷ b ∷ wakesIn fx) (wakesIn fx)
 
--- "Accepted reply entries = replies handed over + still held + dropped for ended callers"
-abbrev pub isServe : Fact → ℕ
-isServe (gave n c) = 0
-isServe (asked n c) = 0
-isServe (took n) = 0
-isServe (serve p n r) = 1
-isServe (block n) = 0
-isServe (break n) = 0
-isServe (pass n r) = 0
-isServe (filled n) = 0
-isServe (end c) = 0
+pub record Right (t : Turn) (o : Owed) : Type 0 where
+  pub hand : onAnswer (t .outcome .answer) (λ v. false) (λ k. false) false false (λ r. true) ≡ o .hands
+  pub queue : unreadIn (t .outcome .world) ≡ drop (o .removes) (unreadIn (t .before)) ++ o .adds
+  pub bytes : t .outcome .bytes ≡ o .stores
+  pub effects : cond (o .all) (t .outcome .effects) (wakesIn (t .outcome .effects)) ≡ o .makes
+  pub scheme : schemeOf (t .outcome .world) ≡ schemeOf (t .before)
 
-abbrev pub isPass : Fact → ℕ
-isPass (gave n c) = 0
-isPass (asked n c) = 0
-isPass (took n) = 0
-isPass (serve p n r) = 0
-isPass (block n) = 0
-isPass (break n) = 0
-isPass (pass n r) = 1
-isPass (filled n) = 0
-isPass (end c) = 0
+-- over all that happened: a of each accepted reply entry, by its call before it, and p of each hand-over
+abbrev pub sum : (Call → ℕ) → ℕ → List Fact → ℕ
+sum a p [] = 0
+sum a p (to n x ∷ h) = onReply x (a (book h n)) p 0 + sum a p h
+sum a p (end c ∷ h) = sum a p h
 
--- dropped: accepted when its call's caller had already ended
-abbrev pub isDrop : List Fact → Fact → ℕ
-isDrop h (gave n c) = 0
-isDrop h (asked n c) = 0
-isDrop h (took n) = 0
-isDrop h (serve p n r) = cond (book h n .ended) 1 0
-isDrop h (block n) = 0
-isDrop h (break n) = 0
-isDrop h (pass n r) = 0
-isDrop h (filled n) = 0
-isDrop h (end c) = 0
-
-abbrev pub accepted : List Fact → ℕ
-accepted [] = 0
-accepted (f ∷ h) = isServe f + accepted h
-
-abbrev pub handed : List Fact → ℕ
-handed [] = 0
-handed (f ∷ h) = isPass f + handed h
-
-abbrev pub dropped : List Fact → ℕ
-dropped [] = 0
-dropped (f ∷ h) = isDrop h f + dropped h
-
--- held: the count of ones in the status word Responded
+-- still held: the count of ones in the status word Responded
 abbrev pub held : World → ℕ
-held w = ones (wordOf (isIn Responded) (tableOf w .slots))
+held w = ones (wordOf (isIn status.Responded) (tableOf w .slots))
 
--- of a run
 pub record Demanded (r : Run) : Type 0 where
   pub facts : Every fair (r .facts)
-  pub entries : Two apart (r .facts)
+  pub entries : Every (λ h f. Every (apart h f) h) (r .facts)
   pub replies : Every sourced (r .facts)
-  pub turns : All Right (r .turns)
-  pub balance : accepted (r .facts) ≡ handed (r .facts) + (held (r .world) + dropped (r .facts))
+  -- whatever event comes next
+  pub turn : (e : Event) → Right (turnOf r e) (owes (turnOf r e) (viewOf e))
+  -- "Accepted reply entries = replies handed over + still held + dropped for ended callers", accepted when these had already ended
+  pub balance : sum (λ k. 1) 0 (r .facts) ≡ sum (λ k. 0) 1 (r .facts) + (held (r .world) + sum (λ k. cond (k .ended) 1 0) 0 (r .facts))
 
--- of every run: any scheme number, any 1,024 words lent for the queue, any events
+-- of all that a run comes to: any scheme number, any 1,024 words lent for the queue, any events, each on the state that the
+-- step before returned
 abbrev pub Demand3 : Type 0
-Demand3 = (scheme : ℕ) (words : List ℕ) → length words ≡ 1024 → (es : List Event) → Demanded (run scheme words es)
+Demand3 = (r : Run) → Steps r → Demanded r

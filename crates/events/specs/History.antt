@@ -1,195 +1,162 @@
--- What happened in a run, and what that says of each tag's call (01, "Runs"). It is told by the events and their answers; a
--- state is looked at for one thing alone, the reading of an accepted reply entry, which 01 leaves to demand 2's definition.
-use Prim.Native.Nat.{ℕ, zero, suc, _/_}
+-- What happened in a run, newest first, and what that says of each tag's call (01, "Runs"). It is told by the events and their
+-- answers; a state is looked at for one thing alone, the reading of an accepted reply entry, which 01 leaves to demand 2.
+use Prim.Native.Nat.{ℕ, zero, suc, _+_, _*_, _/_}
 use mathlib.Core.Bool.{Bool, true, false, cond, _||_}
-use mathlib.Core.List.{List, [], _∷_}
+use mathlib.Core.List.{List, [], _∷_, _++_, map}
 use lib.Dec.{eqb}
 use Rattle.error.specs.Errors.{demuxOf}
+use Rattle.flag.specs.Flags.{eventRead, eventHup}
+use Rattle.le.specs.Le.{byte, half, word}
 use Rattle.schemev2.specs.declared.Cqe.{Cqe}
 use Rattle.schemev2.specs.declared.CqeOpcode.{CqeOpcode}
 use Rattle.schemev2.specs.declared.CqeOpcode.the-variants.{RespondRegular, RespondWithFd, SendFevent, ObtainFd, RespondWithMultipleFds, RespondAndNotifyOnDetach, Unknown}
+use Rattle.schemev2.specs.declared.Sqe.{Sqe}
 use Rattle.schemev2.specs.Entry.{kindOf, cqeOpcodeOf}
+use Rattle.slot.specs.declared.PageSpan.{PageSpan}
 use Rattle.events.specs.World.{World, slotIn}
-use Rattle.events.specs.Outcome.{Response, success, Answer, ok, no, wait, blocked, reply}
-use Rattle.events.specs.Complete.{Entered, accepted, rejected, Offer, result, one, listed, responseTo, inHandle, entryOf, entriesOf}
-use Rattle.events.specs.Event.{Event, hostOpen, hostCopy, hostDrop, hostPut, hostEnded, reserve, submit, call, generic, stdfs, fmap, close, detach, wake, read, write, move, obtain, supply}
+use Rattle.events.specs.Outcome.{Response, Answer, onAnswer, onOk}
+use Rattle.events.specs.Submit.{submitEntry, callEntry, genericEntry, stdMeta, fmapEntry, closeEntry, detachEntry}
+use Rattle.events.specs.Complete.{Offer, result, one, listed, responseTo, inHandle, worldOf, entryOf}
+use Rattle.events.specs.Event.{DriverEvent, hostPut, reserve, submit, call, generic, stdfs, fmap, close, detach, wake, read, write, move, obtain, supply, Event, hostOpen, hostCopy, hostDrop, hostEnded, on}
 
--- a completion entry by its place: which event of the run, and which entry of that write, both from 0
-pub record Place : Type 0 where
-  pub event : ℕ
-  pub entry : ℕ
+-- what happens to a tag
+pub data What : Type 0 where
+  gave : (c : ℕ) → What  -- it was given out for a call of caller c; a reserve is a call from the start, submitted or not
+  asked : (c : ℕ) → What  -- it was given out for a map request of caller c
+  took : What  -- its call was submitted
+  serve : (i j : ℕ) (r : Response) → What  -- the reply entry to it was accepted that reads r: entry j of event i, both from 0
+  block : What  -- a wake of it was answered still blocked
+  break : What  -- a wake of it was refused with EINTR
+  pass : (r : Response) → What  -- a wake of it handed r over
+  filled : What  -- map supply vacated it: a success or ESRCH
 
 pub data Fact : Type 0 where
-  gave : (n c : ℕ) → Fact  -- tag n was given out for a call of caller c
-  asked : (n c : ℕ) → Fact  -- tag n was given out for a map request of caller c
-  took : (n : ℕ) → Fact  -- its call was submitted
-  serve : (p : Place) (n : ℕ) (r : Response) → Fact  -- the reply entry at p to tag n was accepted, and reads r
-  block : (n : ℕ) → Fact  -- a wake of tag n was answered still blocked
-  break : (n : ℕ) → Fact  -- a wake of tag n was refused with EINTR
-  pass : (n : ℕ) (r : Response) → Fact  -- a wake of tag n handed r over
-  filled : (n : ℕ) → Fact  -- map supply vacated tag n: a success or ESRCH
+  to : (n : ℕ) → What → Fact  -- this happened to tag n
   end : (c : ℕ) → Fact  -- caller c was reported ended
 
--- what an answer says
-abbrev pub onOk : {A : Type 0} → Answer → (ℕ → A) → A → A
-onOk (ok v) f a = f v
-onOk (no k) f a = a
-onOk wait f a = a
-onOk blocked f a = a
-onOk (reply r) f a = a
+-- how far the call or map request is that a tag was last given out for; it is the tag's until given out again
+pub data Stage : Type 0 where
+  free : Stage  -- none yet; or handed its reply, served when its caller had already ended, or supplied
+  reserved : Stage  -- a call, not submitted yet
+  waits : Stage  -- from its accepted submit or `call` until a reply entry to it is accepted
+  replied : Response → Stage  -- served by an entry that reads this, and not handed the reply yet
+  mapping : Stage  -- a map request
 
-abbrev pub onReply : {A : Type 0} → Answer → (Response → A) → A → A
-onReply (ok v) f a = a
-onReply (no k) f a = a
-onReply wait f a = a
-onReply blocked f a = a
-onReply (reply r) f a = f r
-
-abbrev pub isOk : Answer → Bool
-isOk a = onOk a (λ v. true) false
-
-abbrev pub hands : Answer → Bool
-hands a = onReply a (λ r. true) false
-
-abbrev pub isBlocked : Answer → Bool
-isBlocked (ok v) = false
-isBlocked (no k) = false
-isBlocked wait = false
-isBlocked blocked = true
-isBlocked (reply r) = false
-
--- a refusal with this number, and no reply that reads it
-abbrev pub isNo : ℕ → Answer → Bool
-isNo n (ok v) = false
-isNo n (no k) = eqb k n
-isNo n wait = false
-isNo n blocked = false
-isNo n (reply r) = false
-
--- the whole entries that a write's answer counts
-abbrev pub counted : Answer → ℕ
-counted a = onOk a (λ v. v / 16) 0
-
--- reply entries are kinds 0, 1, 4 and 5
-abbrev pub isReply : CqeOpcode → Bool
-isReply RespondRegular = true
-isReply RespondWithFd = true
-isReply SendFevent = false
-isReply ObtainFd = false
-isReply RespondWithMultipleFds = true
-isReply RespondAndNotifyOnDetach = true
-isReply Unknown = false
-
--- the reply that demand 2's definition stores for an entry, with cancelling, handle and list as they are before it; what it says
--- of the other kinds is never read
-abbrev pub offerOf : CqeOpcode → World → Cqe → Offer
-offerOf RespondRegular w e = result (demuxOf (e .result)) (e .«extra_raw» .0) false
-offerOf RespondWithFd w e = one (inHandle w (e .result))
-offerOf SendFevent w e = listed
-offerOf ObtainFd w e = listed
-offerOf RespondWithMultipleFds w e = listed
-offerOf RespondAndNotifyOnDetach w e = result (demuxOf (e .result)) (e .«extra_raw» .0) true
-offerOf Unknown w e = listed
-
-abbrev pub reading : World → Cqe → Response
-reading w e = responseTo (slotIn w (e .tag)) (offerOf (cqeOpcodeOf (kindOf e)) w e)
-
--- the state that demand 2's definition leaves after an entry
-abbrev pub worldOf : Entered → World
-worldOf (accepted fx w) = w
-worldOf (rejected k fx w) = w
-
--- the first n entries of a write were accepted, in order, from state w on; j is the place of the first of them
-abbrev pub pour : ℕ → ℕ → ℕ → List Cqe → World → List Fact → List Fact
-pour i j zero es w h = h
-pour i j (suc n) [] w h = h
-pour i j (suc n) (e ∷ es) w h =
-    pour i (suc j) n es (worldOf (entryOf w e))
-    (cond (isReply (cqeOpcodeOf (kindOf e))) (serve (record { event = i; entry = j }) (e .tag) (reading w e) ∷ h) h)
-
--- event number i of the run, on state w, and its answer a, told on top of what had happened: newest first. A reserve is a call
--- from the start; `call` in each form is given out and submitted at once.
-abbrev pub began : ℕ → Answer → List Fact → List Fact
-began c a h = onOk a (λ n. took n ∷ gave n c ∷ h) h
-
-abbrev pub tell : ℕ → Event → World → Answer → List Fact → List Fact
-tell i (hostOpen d) w a h = h
-tell i (hostCopy d) w a h = h
-tell i (hostDrop d) w a h = h
-tell i (hostPut d k) w a h = h
-tell i (hostEnded c) w a h = cond (isOk a) (end c ∷ h) h
-tell i (reserve c) w a h = onOk a (λ n. gave n c ∷ h) h
-tell i (submit n c op fl args pid ds) w a h = cond (isOk a) (took n ∷ h) h
-tell i (call c op args uid gid pid ds) w a h = began c a h
-tell i (generic c pid fds base len ms) w a h = began c a h
-tell i (stdfs c pid fds base len ms) w a h = began c a h
-tell i (fmap c id pages flags uid gid pid) w a h = onOk a (λ n. asked n c ∷ h) h
-tell i (close id) w a h = h
-tell i (detach id pid) w a h = h
-tell i (wake n c killed base count) w a h =
-    onReply a (λ r. pass n r ∷ h) (cond (isBlocked a) (block n ∷ h) (cond (isNo 4 a) (break n ∷ h) h))
-tell i (read len flags) w a h = h
-tell i (write words bs) w a h = pour i 0 (counted a) (entriesOf bs) w h
-tell i (move ms ds) w a h = h
-tell i (obtain ms) w a h = h
-tell i (supply n offset base count) w a h = cond (isOk a || isNo 3 a) (filled n ∷ h) h
-
--- the call or map request that a tag was last given out for: it is the tag's until given out again
 pub record Call : Type 0 where
-  pub called : Bool  -- given out, for a call
-  pub mapping : Bool  -- given out, for a map request
+  pub stage : Stage
   pub caller : ℕ  -- whose it is
-  pub taken : Bool  -- its submit was accepted
   pub waited : Bool  -- a wake of it was answered still blocked
   pub returned : Bool  -- a wake of it was refused with EINTR
   pub ended : Bool  -- its caller was reported ended since it was given out
-  pub served : Bool  -- a reply entry to it was accepted
-  pub reads : Response  -- what that entry reads
-  pub lost : Bool  -- when that was accepted, its caller had already ended
-  pub passed : Bool  -- the reply was handed over
-  pub supplied : Bool  -- map supply vacated its slot
   pub lap : ℕ  -- how often the tag had been given out, this time included
 
-abbrev pub made : Bool → Bool → ℕ → Bool → Bool → Bool → Bool → Bool → Response → Bool → Bool → Bool → ℕ → Call
-made a m c t w r e s v l p u n =
+-- given out once more; in another stage; with these marks set: waited, returned, ended
+abbrev pub given : Stage → ℕ → Call → Call
+given s c k = record { stage = s; caller = c; waited = false; returned = false; ended = false; lap = suc (k .lap) }
+
+abbrev pub onto : Stage → Call → Call
+onto s k = record { stage = s; caller = k .caller; waited = k .waited; returned = k .returned; ended = k .ended; lap = k .lap }
+
+abbrev pub marked : Bool → Bool → Bool → Call → Call
+marked w r e k =
+    record { stage = k .stage; caller = k .caller; waited = w || k .waited; returned = r || k .returned; ended = e || k .ended; lap = k .lap }
+
+abbrev pub change : What → Call → Call
+change (gave c) k = given reserved c k
+change (asked c) k = given mapping c k
+change took k = onto waits k
+change (serve i j r) k = onto (cond (k .ended) free (replied r)) k
+change block k = marked true false false k
+change break k = marked false true false k
+change (pass r) k = onto free k
+change filled k = onto free k
+
+-- tag n's call, after what happened
+abbrev pub book : List Fact → ℕ → Call
+book [] n = record { stage = free; caller = 0; waited = false; returned = false; ended = false; lap = 0 }
+book (to t x ∷ h) n = cond (eqb t n) (change x (book h n)) (book h n)
+book (end c ∷ h) n = marked false false (eqb (book h n .caller) c) (book h n)
+
+-- what an event is for the claims
+pub data View : Type 0 where
+  tells : (ℕ → List Fact) → View  -- accepted with a value: these facts, newest first
+  sends : (ℕ → List Fact) → (ℕ → Sqe) → (flags : ℕ) → View  -- the same, and an entry is queued, told to the root with these flags
+  wakes : (n c killed : ℕ) (span : PageSpan) → View
+  reads : View
+  writes : (words : ℕ) (bs : List ℕ) → View
+  moves : (ds : List ℕ) → View
+  supplies : (n : ℕ) → View
+
+abbrev pub plain : View
+plain = tells (λ v. [])
+
+-- `call` in each form is given out and submitted at once
+abbrev pub begins : ℕ → (ℕ → Sqe) → View
+begins c e = sends (λ n. to n took ∷ to n (gave c) ∷ []) e eventRead
+
+abbrev pub driverView : DriverEvent → View
+driverView (hostPut d k) = plain
+driverView (reserve c) = tells (λ n. to n (gave c) ∷ [])
+driverView (submit n c op fl args pid ds) = sends (λ v. to n took ∷ []) (λ v. submitEntry n op fl args pid) eventRead
+driverView (call c op args uid gid pid ds) = begins c (callEntry op args uid gid pid)
+driverView (generic c pid fds base len ms) = begins c (genericEntry 28 pid fds base len ms)
+driverView (stdfs c pid fds base len ms) = begins c (genericEntry 33 pid fds base len (stdMeta ms))
+driverView (fmap c id pages flags uid gid pid) = sends (λ n. to n (asked c) ∷ []) (fmapEntry id pages flags uid gid pid) eventRead
+driverView (close id) = sends (λ v. []) (λ v. closeEntry id) (eventRead + eventHup)
+driverView (detach id pid) = sends (λ v. []) (λ v. detachEntry id pid) eventRead
+driverView (wake n c killed base count) = wakes n c killed (record { base = base; count = count })
+driverView (read len flags) = reads
+driverView (write words bs) = writes words bs
+driverView (move ms ds) = moves ds
+driverView (obtain ms) = plain
+driverView (supply n offset base count) = supplies n
+
+abbrev pub viewOf : Event → View
+viewOf (hostOpen d) = plain
+viewOf (hostCopy d) = plain
+viewOf (hostDrop d) = plain
+viewOf (hostEnded c) = tells (λ v. end c ∷ [])
+viewOf (on e) = driverView e
+
+-- entry j of a write stands at byte 16 j: flags 0, extra 1-3, tag 4-7, result 8-15, little-endian
+abbrev pub entryAt : List ℕ → ℕ → Cqe
+entryAt bs j =
     record {
-      called = a;
-      mapping = m;
-      caller = c;
-      taken = t;
-      waited = w;
-      returned = r;
-      ended = e;
-      served = s;
-      reads = v;
-      lost = l;
-      passed = p;
-      supplied = u;
-      lap = n;
+      flags = byte bs (16 * j);
+      «extra_raw» = record { 0 = byte bs (16 * j + 1); 1 = byte bs (16 * j + 2); 2 = byte bs (16 * j + 3) };
+      tag = half bs (16 * j + 4);
+      result = word bs (16 * j + 8);
     }
 
--- given out, and nothing happened to it yet
-abbrev pub begin : Bool → Bool → ℕ → ℕ → Call
-begin a m c n = made a m c false false false false false (success 0 0 false) false false false n
+-- the state that demand 2's definition leaves after the first j entries
+abbrev pub afterEntries : List ℕ → World → ℕ → World
+afterEntries bs w zero = w
+afterEntries bs w (suc j) = worldOf (entryOf (afterEntries bs w j) (entryAt bs j))
 
-abbrev pub nobody : Call
-nobody = begin false false 0 0
+-- "Reply entries are kinds 0, 1, 4 and 5": what one brings, with its handle as it is before it; any other entry brings none
+abbrev pub offers : CqeOpcode → World → Cqe → List Offer
+offers RespondRegular w e = result (demuxOf (e .result)) (e .«extra_raw» .0) false ∷ []
+offers RespondWithFd w e = one (inHandle w (e .result)) ∷ []
+offers SendFevent w e = []
+offers ObtainFd w e = []
+offers RespondWithMultipleFds w e = listed ∷ []
+offers RespondAndNotifyOnDetach w e = result (demuxOf (e .result)) (e .«extra_raw» .0) true ∷ []
+offers Unknown w e = []
 
--- what a fact changes in tag n's call, where it is about tag t
-abbrev pub about : ℕ → ℕ → Call → Call → Call
-about t n new old = cond (eqb t n) new old
+-- what happens by entry j of event i on state w: its reading is the reply that demand 2's definition stores for it
+abbrev pub served : ℕ → ℕ → World → Cqe → List Fact
+served i j w e = map (λ o. to (e .tag) (serve i j (responseTo (slotIn w (e .tag)) o))) (offers (cqeOpcodeOf (kindOf e)) w e)
 
-abbrev pub turn : Fact → ℕ → Call → Call
-turn (gave t c) n k = about t n (begin true false c (suc (k .lap))) k
-turn (asked t c) n k = about t n (begin false true c (suc (k .lap))) k
-turn (took t) n k = about t n (made (k .called) (k .mapping) (k .caller) true (k .waited) (k .returned) (k .ended) (k .served) (k .reads) (k .lost) (k .passed) (k .supplied) (k .lap)) k
-turn (serve p t r) n k = about t n (made (k .called) (k .mapping) (k .caller) (k .taken) (k .waited) (k .returned) (k .ended) true r (k .ended) (k .passed) (k .supplied) (k .lap)) k
-turn (block t) n k = about t n (made (k .called) (k .mapping) (k .caller) (k .taken) true (k .returned) (k .ended) (k .served) (k .reads) (k .lost) (k .passed) (k .supplied) (k .lap)) k
-turn (break t) n k = about t n (made (k .called) (k .mapping) (k .caller) (k .taken) (k .waited) true (k .ended) (k .served) (k .reads) (k .lost) (k .passed) (k .supplied) (k .lap)) k
-turn (pass t r) n k = about t n (made (k .called) (k .mapping) (k .caller) (k .taken) (k .waited) (k .returned) (k .ended) (k .served) (k .reads) (k .lost) true (k .supplied) (k .lap)) k
-turn (filled t) n k = about t n (made (k .called) (k .mapping) (k .caller) (k .taken) (k .waited) (k .returned) (k .ended) (k .served) (k .reads) (k .lost) (k .passed) true (k .lap)) k
-turn (end c) n k = made (k .called) (k .mapping) (k .caller) (k .taken) (k .waited) (k .returned) (k .ended || eqb (k .caller) c) (k .served) (k .reads) (k .lost) (k .passed) (k .supplied) (k .lap)
+abbrev pub poured : ℕ → List ℕ → World → ℕ → List Fact
+poured i bs w zero = []
+poured i bs w (suc j) = served i j (afterEntries bs w j) (entryAt bs j) ++ poured i bs w j
 
-abbrev pub book : List Fact → ℕ → Call
-book [] n = nobody
-book (f ∷ h) n = turn f n (book h n)
+-- what happened by event i on state w; an entry "is accepted when its write's answer counts it"
+abbrev pub news : ℕ → World → View → Answer → List Fact
+news i w (tells f) a = onOk a f []
+news i w (sends f e flags) a = onOk a f []
+news i w (wakes n c killed span) a = onAnswer a (λ v. []) (λ k. cond (eqb k 4) (to n break ∷ []) []) [] (to n block ∷ []) (λ r. to n (pass r) ∷ [])
+news i w reads a = []
+news i w (writes words bs) a = poured i bs w (onOk a (λ v. v / 16) 0)
+news i w (moves ds) a = []
+news i w (supplies n) a = onAnswer a (λ v. to n filled ∷ []) (λ k. cond (eqb k 3) (to n filled ∷ []) []) [] [] (λ r. [])

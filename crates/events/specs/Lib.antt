@@ -12,7 +12,6 @@ pub mod Event
 pub mod History
 pub mod Run
 pub mod Demand3
-pub mod Whole
+pub mod WellFormed
 pub mod Refusals
 pub mod Exactly
-pub mod Examples

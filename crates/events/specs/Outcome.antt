@@ -23,6 +23,17 @@ pub data Answer : Type 0 where
   blocked : Answer
   reply : Response → Answer
 
+-- by its case
+abbrev pub onAnswer : {A : Type 0} → Answer → (ℕ → A) → (ℕ → A) → A → A → (Response → A) → A
+onAnswer (ok v) f g x y z = f v
+onAnswer (no k) f g x y z = g k
+onAnswer wait f g x y z = x
+onAnswer blocked f g x y z = y
+onAnswer (reply r) f g x y z = z r
+
+abbrev pub onOk : {A : Type 0} → Answer → (ℕ → A) → A → A
+onOk a f x = onAnswer a f (λ k. x) x x (λ r. x)
+
 -- effects are three words each: those of `write` go to lent words, in order from the first; any other event has at most one,
 -- in its reply. `bytes` are those that a read stored, from the first of the lent ones on.
 pub record Outcome : Type 0 where

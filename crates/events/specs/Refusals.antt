@@ -14,10 +14,11 @@ use Rattle.schemev2.specs.Entry.{kindOf, cqeOpcodeOf}
 use Rattle.slot.specs.Slots.{interruptedOf}
 use Rattle.table.specs.Table.{putAt, vacateAt}
 use Rattle.events.specs.World.{World, tableOf, holdsOf, handlesOf, slotIn, withTable, withHolds, withHandles}
-use Rattle.events.specs.Outcome.{Outcome, outcome, no, wait}
+use Rattle.events.specs.Outcome.{Outcome, ok, no, wait}
 use Rattle.events.specs.Submit.{takenHolds}
-use Rattle.events.specs.Complete.{dropped, inHandle, rejected, entryOf, entriesOf, stopped, writeOn}
-use Rattle.events.specs.Event.{Event, hostOpen, hostCopy, hostDrop, hostPut, hostEnded, reserve, submit, call, generic, stdfs, fmap, close, detach, wake, read, write, move, obtain, supply, step}
+use Rattle.events.specs.Complete.{dropped, inHandle, rejected, entryOf}
+use Rattle.events.specs.Event.{write, Event, on, step}
+use Rattle.events.specs.History.{View, tells, sends, wakes, reads, writes, moves, supplies, viewOf, entryAt, afterEntries}
 
 -- no effect was made and no byte stored, so that lent words and bytes keep what they held
 pub record Nothing (o : Outcome) : Type 0 where
@@ -40,44 +41,29 @@ leftBy Unknown w e = w
 abbrev pub leftEntry : World → Cqe → World
 leftEntry w e = leftBy (cqeOpcodeOf (kindOf e)) w e
 
--- a write that is refused is refused for its first entry, or for want of words
-abbrev pub leftFirst : World → List Cqe → World
-leftFirst w [] = w
-leftFirst w (e ∷ es) = leftEntry w e
-
 -- what a refusal with number k leaves: the state as it was, but for the four cases
-abbrev pub left : World → Event → ℕ → World
-left w (hostOpen d) k = w
-left w (hostCopy d) k = w
-left w (hostDrop d) k = w
-left w (hostPut d j) k = w
-left w (hostEnded c) k = w
-left w (reserve c) k = w
-left w (submit n c op fl args pid ds) k = w
-left w (call c op args uid gid pid ds) k = w
-left w (generic c pid fds base len ms) k = w
-left w (stdfs c pid fds base len ms) k = w
-left w (fmap c id pages flags uid gid pid) k = w
-left w (close id) k = w
-left w (detach id pid) k = w
+abbrev pub left : World → View → ℕ → World
+left w (tells f) k = w
+left w (sends f e flags) k = w
 -- "EINTR as above": cancelling and returned are marked, the span is in the slot, nothing is queued
-left w (wake n c killed base count) k =
-    cond (eqb k 4) (withTable w (putAt (tableOf w) n (interruptedOf (slotIn w n) (record { base = base; count = count })))) w
-left w (read len flags) k = w
-left w (write words bs) k = cond (ltb words (54 * (length bs / 16))) w (leftFirst w (entriesOf bs))
+left w (wakes n c killed span) k = cond (eqb k 4) (withTable w (putAt (tableOf w) n (interruptedOf (slotIn w n) span))) w
+left w reads k = w
+-- a write that is refused is refused for want of words, or for its first entry
+left w (writes words bs) k = cond (ltb words (54 * (length bs / 16))) w (leftEntry w (entryAt bs 0))
 -- "a move refused by 22 or 2 drops what it brought"
-left w (move ms ds) k = cond (eqb k 22 || eqb k 2) (withHolds w (dropped (takenHolds w ds) ds)) w
-left w (obtain ms) k = w
+left w (moves ds) k = cond (eqb k 22 || eqb k 2) (withHolds w (dropped (takenHolds w ds) ds)) w
 -- "ESRCH has vacated the slot"
-left w (supply n offset base count) k = cond (eqb k 3) (withTable w (vacateAt (tableOf w) n)) w
+left w (supplies n) k = cond (eqb k 3) (withTable w (vacateAt (tableOf w) n)) w
+
+-- what a write leaves that counts j entries: what these leave, and of one more, which stopped it, what a refused entry leaves
+abbrev pub leftAfter : World → List ℕ → ℕ → World
+leftAfter w bs j = cond (ltb j (length bs / 16)) (leftEntry (afterEntries bs w j) (entryAt bs j)) (afterEntries bs w j)
 
 pub record Demand1 : Type 0 where
   -- every event, on every state, that is refused with a number
-  pub refused : (w : World) (e : Event) (k : ℕ) → step w e .answer ≡ no k → Nothing (step w e) × (step w e .world ≡ left w e k)
+  pub refused : (w : World) (e : Event) (k : ℕ) → step w e .answer ≡ no k → Nothing (step w e) × (step w e .world ≡ left w (viewOf e) k)
   pub waiting : (w : World) (e : Event) → step w e .answer ≡ wait → Nothing (step w e) × (step w e .world ≡ w)
-  -- each entry of a write, on the state before it
+  -- each entry of a write, on the state before it: a refused one makes no effect
   pub entry : (w : World) (e : Cqe) (k : ℕ) (fx : List ℕ) (u : World) → entryOf w e ≡ rejected k fx u → (fx ≡ []) × (u ≡ leftEntry w e)
-  -- after n accepted entries with effects fx, a refused one ends the write, whatever comes after it
-  pub stops :
-      (w : World) (e : Cqe) (k : ℕ) (gx : List ℕ) (u : World) → entryOf w e ≡ rejected k gx u
-      → (es : List Cqe) (n : ℕ) (fx : List ℕ) → writeOn w (e ∷ es) n fx ≡ outcome (stopped n k) fx u
+  -- "a refusal after a good entry stops", whatever comes after it
+  pub stops : (w : World) (words : ℕ) (bs : List ℕ) (v : ℕ) → step w (on (write words bs)) .answer ≡ ok v → step w (on (write words bs)) .world ≡ leftAfter w bs (v / 16)

@@ -14,7 +14,7 @@ use Rattle.state.specs.State.{freshState}
 use Rattle.table.specs.declared.Table.{Table}
 use Rattle.table.specs.Table.{slotAt}
 use Rattle.wait_queue.specs.declared.WaitQueue.{WaitQueue}
-use Rattle.wait_queue.specs.Queue.{sentOf, sentWords}
+use Rattle.wait_queue.specs.Queue.{unread, sentOf, sentWords}
 
 pub record World : Type 0 where
   pub state : State
@@ -78,3 +78,7 @@ queueFull w = leb 128 (queueOf w .len)
 -- one entry more in the queue, where there is room
 abbrev pub queued : World → Sqe → World
 queued w e = withQueue w (sentOf (queueOf w) .queue) (sentWords (queueOf w) (w .words) e)
+
+-- the unread bytes, oldest first
+abbrev pub unreadIn : World → List ℕ
+unreadIn w = unread (queueOf w) (w .words)

@@ -40,7 +40,7 @@ one-if x m e = ap one (eq-eqb x m e)
 none-if : (x m : ℕ) → (x ≡ m → ⊥) → one (eqb x m) ≡ 0
 none-if x m e = ap one (ne-eqb x m e)
 
-linked-set : (l : List ℕ) (hd : ℕ) (c : List ℕ) (n v : ℕ) → times n c ≡ 0 → Linked l hd c → Linked (set l n v) hd c
+pub linked-set : (l : List ℕ) (hd : ℕ) (c : List ℕ) (n v : ℕ) → times n c ≡ 0 → Linked l hd c → Linked (set l n v) hd c
 linked-set l hd [] n v z p = p
 linked-set l hd (x ∷ c) n v z p =
     let ne : x ≢ n = λ e. omega (arith, one-if x n e) in
@@ -107,7 +107,7 @@ getD-rising zero k i h = absurd (not-suc-le-zero h)
 getD-rising (suc n) k zero h = omega arith
 getD-rising (suc n) k (suc i) h = getD-rising n (suc k) i (le-of-suc-le-suc h) ∙ omega arith
 
-linked-rising : (n k : ℕ) → k + n ≡ 64 → Linked (rising 1 64) k (rising k n)
+pub linked-rising : (n k : ℕ) → k + n ≡ 64 → Linked (rising 1 64) k (rising k n)
 linked-rising zero k e = omega arith
 linked-rising (suc n) k e =
     (refl, omega arith, subst (λ (j : ℕ). Linked (rising 1 64) j (rising (suc k) n)) (sym (getD-rising 64 1 k (omega arith) ∙ step)) (linked-rising n (suc k) (omega arith)))

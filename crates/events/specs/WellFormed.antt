@@ -5,7 +5,7 @@ use lib.ListN.{length}
 use Rattle.table.specs.Reached.{Chain}
 use Rattle.events.specs.World.{World, tableOf, queueOf, slotIn}
 
-pub record Whole (w : World) : Type 0 where
+pub record WellFormed (w : World) : Type 0 where
   pub slots : length (tableOf w .slots) ≡ 64
   pub next : length (tableOf w .next) ≡ 64
   pub chain : Chain (tableOf w)  -- the chain is exactly the vacant slots, each once
