@@ -23,7 +23,7 @@ ghost use lib.Seq.{sets};
 ghost use Rattle.fd_list.specs.declared.List.{List as Fds};
 ghost use Rattle.holds.specs.declared.Holds.{Holds as Counts};
 ghost use Rattle.holds.specs.Holds.{holdsWith};
-ghost use Rattle.state.specs.declared.State.{State as Whole};
+ghost use Rattle.state.specs.declared.State.{State as AnyState};
 ghost use Rattle.part.specs.Part.{Stands, found, leaves};
 ghost use Rattle.slot.specs.declared.Reply.{Reply as SlotReply};
 ghost use Rattle.answer_words.specs.Words.{answerOf, repliedOf};
@@ -50,7 +50,7 @@ pub struct Woken {
     pub part: Part,
 }
 
-pub struct Received {
+pub struct ReadPart {
     pub answer: AnswerWords,
     pub part: Part,
 }
@@ -152,7 +152,7 @@ pub fn wake(
     base: u64,
     count: u64,
 ) -> Woken
-    ensures { λ r. ⌜ ((s : Whole) (all : Words ℕ) → length (now (outside .entry)) ≡ 64 → Stands s (tag .0 % 64) p → outcome (repliedOf (r .answer) (r .reply) (r .fds)) (effectWords (r .effect)) (world (leaves s (tag .0 % 64) (r .part) (holdsWith all (now (outside .exit)))) (now (words .exit))) ≡ wakeOf (world (found s p (holdsWith all (now (outside .entry)))) (now (words .entry))) (tag .0) caller killed base count) ⌝ }
+    ensures { λ r. ⌜ ((s : AnyState) (all : Words ℕ) → length (now (outside .entry)) ≡ 64 → Stands s (tag .0 % 64) p → outcome (repliedOf (r .answer) (r .reply) (r .fds)) (effectWords (r .effect)) (world (leaves s (tag .0 % 64) (r .part) (holdsWith all (now (outside .exit)))) (now (words .exit))) ≡ wakeOf (world (found s p (holdsWith all (now (outside .entry)))) (now (words .entry))) (tag .0) caller killed base count) ⌝ }
 {
     let r = call_inner::wake(p, words, tag, caller, killed, base, count);
     let answer = r.answer;
@@ -172,14 +172,14 @@ pub fn wake(
     }
 }
 
-pub fn read(p: Part, words: &[u64; 1024], out: &mut [u8], flags: u32) -> Received
-    ensures { λ r. ⌜ ((s : Whole) (n : ℕ) (h : Counts) → Stands s n p → (answerOf (r .answer) ≡ readOf (world (found s p h) (now (words .entry))) (length (now (out .entry))) flags .answer) × ((world (leaves s n (r .part) h) (now (words .entry)) ≡ readOf (world (found s p h) (now (words .entry))) (length (now (out .entry))) flags .world) × (now (out .exit) ≡ sets (now (out .entry)) 0 (readOf (world (found s p h) (now (words .entry))) (length (now (out .entry))) flags .bytes)))) ⌝ }
+pub fn read(p: Part, words: &[u64; 1024], out: &mut [u8], flags: u32) -> ReadPart
+    ensures { λ r. ⌜ ((s : AnyState) (n : ℕ) (h : Counts) → Stands s n p → (answerOf (r .answer) ≡ readOf (world (found s p h) (now (words .entry))) (length (now (out .entry))) flags .answer) × ((world (leaves s n (r .part) h) (now (words .entry)) ≡ readOf (world (found s p h) (now (words .entry))) (length (now (out .entry))) flags .world) × (now (out .exit) ≡ sets (now (out .entry)) 0 (readOf (world (found s p h) (now (words .entry))) (length (now (out .entry))) flags .bytes)))) ⌝ }
 {
     let r = read::read(p, words, out, flags);
     let answer = r.answer;
     let after = r.part;
     let said = receive_words(answer);
-    Received {
+    ReadPart {
         answer: said,
         part: after,
     }
@@ -209,7 +209,7 @@ pub fn call_fdwrite(
     metadata: &[u64],
     fds: &[u64],
 ) -> PartStep
-    ensures { λ r. ⌜ ((s : Whole) (ws : Words ℕ) → Stands s (requestOf (now (metadata .entry)) % 64) p → outcome (answerOf (r .answer)) (effectWords (r .effect)) (world (leaves s (requestOf (now (metadata .entry)) % 64) (r .part) (holdsWith (now (all .exit)) (now (outside .exit)))) ws) ≡ moveOf (world (found s p (holdsWith (now (all .entry)) (now (outside .entry)))) ws) (now (metadata .entry)) (now (fds .entry))) ⌝ }
+    ensures { λ r. ⌜ ((s : AnyState) (ws : Words ℕ) → Stands s (requestOf (now (metadata .entry)) % 64) p → outcome (answerOf (r .answer)) (effectWords (r .effect)) (world (leaves s (requestOf (now (metadata .entry)) % 64) (r .part) (holdsWith (now (all .exit)) (now (outside .exit)))) ws) ≡ moveOf (world (found s p (holdsWith (now (all .entry)) (now (outside .entry)))) ws) (now (metadata .entry)) (now (fds .entry))) ⌝ }
 {
     let a = *all;
     let o = *outside;
@@ -240,7 +240,7 @@ pub fn call_fdread(
     outside: &mut [u16; 64],
     metadata: &[u64],
 ) -> PartStep
-    ensures { λ r. ⌜ ((s : Whole) (ws : Words ℕ) → Stands s (requestOf (now (metadata .entry)) % 64) p → outcome (answerOf (r .answer)) (effectWords (r .effect)) (world (leaves s (requestOf (now (metadata .entry)) % 64) (r .part) (holdsWith (now (all .exit)) (now (outside .exit)))) ws) ≡ obtainCallOf (world (found s p (holdsWith (now (all .entry)) (now (outside .entry)))) ws) (now (metadata .entry))) ⌝ }
+    ensures { λ r. ⌜ ((s : AnyState) (ws : Words ℕ) → Stands s (requestOf (now (metadata .entry)) % 64) p → outcome (answerOf (r .answer)) (effectWords (r .effect)) (world (leaves s (requestOf (now (metadata .entry)) % 64) (r .part) (holdsWith (now (all .exit)) (now (outside .exit)))) ws) ≡ obtainCallOf (world (found s p (holdsWith (now (all .entry)) (now (outside .entry)))) ws) (now (metadata .entry))) ⌝ }
 {
     let a = *all;
     let o = *outside;
@@ -266,7 +266,7 @@ pub fn call_fdread(
 }
 
 pub fn provide_mmap(p: Part, tag: Tag, offset: u64, base: u64, count: u64) -> PartStep
-    ensures { λ r. ⌜ ((s : Whole) (h : Counts) (ws : Words ℕ) → Stands s (tag .0 % 64) p → outcome (answerOf (r .answer)) (effectWords (r .effect)) (world (leaves s (tag .0 % 64) (r .part) h) ws) ≡ supplyOf (world (found s p h) ws) (tag .0) offset base count) ⌝ }
+    ensures { λ r. ⌜ ((s : AnyState) (h : Counts) (ws : Words ℕ) → Stands s (tag .0 % 64) p → outcome (answerOf (r .answer)) (effectWords (r .effect)) (world (leaves s (tag .0 % 64) (r .part) h) ws) ≡ supplyOf (world (found s p h) ws) (tag .0) offset base count) ⌝ }
 {
     let r = provide_mmap::provide_mmap(p, tag, offset, base, count);
     let answer = r.answer;

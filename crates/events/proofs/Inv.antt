@@ -22,7 +22,7 @@ use Rattle.table.specs.Reached.{Linked}
 use Rattle.table.specs.Table.{noSlot, slotAt}
 use Rattle.events.specs.Outcome.{Response}
 use Rattle.events.specs.Wake.{responseOf}
-use Rattle.events.specs.History.{What, Fact, to, end, gave, asked, took, serve, block, break, pass, filled, Stage, free, reserved, waits, replied, mapping, Call, change, marked, onto, book}
+use Rattle.events.specs.History.{What, Fact, to, end, gave, took, serve, block, break, pass, filled, Stage, free, reserved, waits, replied, mapping, Call, change, marked, onto, book}
 use Rattle.events.specs.Demand3.{Every, needs, fair, sum}
 use Rattle.events.specs.Exactly.{relisted, vacantTags}
 use Rattle.events.proofs.Sane.{unwoken}
@@ -87,13 +87,13 @@ module _ (s : Shape) (h : List Fact) (i : Inv s h) (n : ℕ) where
           ap core (t .there m ne) ∙ i .fits m ∙ sym (ap (λ (b : Bool). wanted (cond b (change x (book h m)) (book h m))) (ne-eqb n m ne))
 
   -- given out for a call, for a map request
-  pub inv-gave : (c : ℕ) (s' : Shape) → Stored s n (placeholderOf c) (λ l. drop 1 l) s' → phaseOf (s .look n) ≡ Vacant → Inv s' (to n (gave c) ∷ h)
+  pub inv-gave : (c : ℕ) (s' : Shape) → Stored s n (placeholderOf c) (λ l. drop 1 l) s' → phaseOf (s .look n) ≡ Vacant → Inv s' (to n (gave false c) ∷ h)
   inv-gave c s' t p =
-      happened (gave c) (placeholderOf c) s' t refl (omega (arith, i .balance, t .sum, held-is (s .look n) Vacant p)) (in-stage Vacant p)
+      happened (gave false c) (placeholderOf c) s' t refl (omega (arith, i .balance, t .sum, held-is (s .look n) Vacant p)) (in-stage Vacant p)
 
-  pub inv-asked : (c : ℕ) (s' : Shape) → Stored s n (mapRequestOf c) (λ l. drop 1 l) s' → phaseOf (s .look n) ≡ Vacant → Inv s' (to n (asked c) ∷ h)
+  pub inv-asked : (c : ℕ) (s' : Shape) → Stored s n (mapRequestOf c) (λ l. drop 1 l) s' → phaseOf (s .look n) ≡ Vacant → Inv s' (to n (gave true c) ∷ h)
   inv-asked c s' t p =
-      happened (asked c) (mapRequestOf c) s' t refl (omega (arith, i .balance, t .sum, held-is (s .look n) Vacant p)) (in-stage Vacant p)
+      happened (gave true c) (mapRequestOf c) s' t refl (omega (arith, i .balance, t .sum, held-is (s .look n) Vacant p)) (in-stage Vacant p)
 
   -- its submit is accepted
   pub inv-took :

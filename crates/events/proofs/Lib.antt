@@ -13,3 +13,4 @@ pub mod Steps
 pub mod Exact
 pub mod Refused
 pub mod Demanded
+pub mod Examples

@@ -16,7 +16,7 @@ use Rattle.events.specs.World.{World, slotIn}
 use Rattle.events.specs.Outcome.{Response, success, Answer, ok, no, wait, blocked, reply, onAnswer, onOk}
 use Rattle.events.specs.Complete.{Offer, responseTo}
 use Rattle.events.specs.Event.{DriverEvent, hostPut, reserve, submit, call, generic, stdfs, fmap, close, detach, wake, read, write, move, obtain, supply, Event, hostOpen, hostCopy, hostDrop, hostEnded, on}
-use Rattle.events.specs.History.{What, Fact, to, end, gave, asked, took, serve, block, break, pass, filled, Stage, free, reserved, waits, replied, mapping, Call, change, onto, book, View, tells, sends, wakes, reads, writes, moves, supplies, viewOf, entryAt, afterEntries, offers, served, poured, news}
+use Rattle.events.specs.History.{What, Fact, to, end, gave, took, serve, block, break, pass, filled, Stage, free, reserved, waits, replied, mapping, Call, change, onto, book, View, tells, sends, wakes, reads, writes, moves, supplies, viewOf, entryAt, afterEntries, offers, served, poured, news}
 use Rattle.events.specs.Demand3.{needs, fair, Every, Some, apart, source, sourced, onReply, sum}
 use Rattle.events.proofs.Stage.{num}
 use Rattle.events.proofs.Sane.{either, at-tag}
@@ -42,8 +42,7 @@ abbrev Grows : Call → Call → Type 0
 Grows k j = (k .lap ≤ j .lap) × (j .lap ≡ k .lap → done (k .stage) ≡ 1 → done (j .stage) ≡ 1)
 
 grows-by : (x : What) (k : Call) → needs x (k .stage) → Grows k (change x k)
-grows-by (gave c) k q = (omega arith, λ e. absurd (omega arith))
-grows-by (asked c) k q = (omega arith, λ e. absurd (omega arith))
+grows-by (gave m c) k q = (omega arith, λ e. absurd (omega arith))
 grows-by took k q = (omega arith, λ e s. absurd (omega (arith, s, ap done q)))
 grows-by (serve i j r) k q = (omega arith, λ e s. done-served (k .ended) r)
 grows-by block k q = (omega arith, λ e s. s)
@@ -91,8 +90,7 @@ Sorted e q h = Every (earlier e q) h × Every (λ h f. Every (placed h f) h) h
 
 -- an accepted entry's place
 abbrev eventIn : What → ℕ
-eventIn (gave c) = 0
-eventIn (asked c) = 0
+eventIn (gave m c) = 0
 eventIn took = 0
 eventIn (serve i j r) = i
 eventIn block = 0
@@ -101,8 +99,7 @@ eventIn (pass r) = 0
 eventIn filled = 0
 
 abbrev entryIn : What → ℕ
-entryIn (gave c) = 0
-entryIn (asked c) = 0
+entryIn (gave m c) = 0
 entryIn took = 0
 entryIn (serve i j r) = j
 entryIn block = 0
@@ -281,8 +278,11 @@ replyIn (replied r) = r
 replyIn mapping = success 0 0 false
 
 come-by : (x : What) (t n : ℕ) (h : List Fact) → eqb t n ≡ true → Come n h (book h n) → Come n (to t x ∷ h) (change x (book h n))
-come-by (gave c) t n h b o r e = absurd (omega (arith, ap num e))
-come-by (asked c) t n h b o r e = absurd (omega (arith, ap num e))
+come-by (gave m c) t n h b o r e = go m e
+  where
+    go : (m : Bool) → cond m mapping reserved ≡ replied r → Some (source n (suc (book h n .lap)) r) (to t (gave m c) ∷ h)
+    go true e = absurd (omega (arith, ap num e))
+    go false e = absurd (omega (arith, ap num e))
 come-by took t n h b o r e = absurd (omega (arith, ap num e))
 come-by (serve i j v) t n h b o r e = go (book h n .ended) e
   where

@@ -6,7 +6,7 @@ use mathlib.Core.List.{List, [], _∷_}
 use native.Mathlib.Omega.{arith}
 use lib.Dec.{eqb}
 use borrow.Author.Tests.{eqb-true}
-use Rattle.events.specs.History.{What, Fact, to, end, gave, asked, took, serve, block, break, pass, filled, Stage, free, reserved, waits, replied, Call, change, book}
+use Rattle.events.specs.History.{What, Fact, to, end, gave, took, serve, block, break, pass, filled, Stage, free, reserved, waits, replied, Call, change, book}
 use Rattle.events.specs.Demand3.{needs, fair, Every}
 use Rattle.events.proofs.Stage.{num}
 
@@ -24,8 +24,7 @@ abbrev Unwoken : Call → Type 0
 Unwoken k = k .stage ≡ reserved → (k .waited ≡ false) × (k .returned ≡ false)
 
 unwoken-by : (x : What) (k : Call) → needs x (k .stage) → Unwoken k → Unwoken (change x k)
-unwoken-by (gave c) k q u = λ e. (refl, refl)
-unwoken-by (asked c) k q u = λ e. (refl, refl)
+unwoken-by (gave m c) k q u = λ e. (refl, refl)
 unwoken-by took k q u = λ e. absurd (omega (arith, ap num e))
 unwoken-by (serve i j r) k q u = go (k .ended)
   where

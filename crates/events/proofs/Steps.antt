@@ -147,20 +147,20 @@ module _ (r : Run) (whole : WellFormed (r .world)) (i : InvOf (r .world) (r .fac
     first-vacant : phaseIn w (tableOf w .head) ≡ Vacant
     first-vacant = head-vacant (tableOf w) (record { slots = whole .slots; next = whole .next }) first-in (whole .chain)
 
-    gave-inv : (c : ℕ) → Inv (shape (givenOut (tableOf w) (placeholderOf c))) (to (tableOf w .head) (gave c) ∷ h)
+    gave-inv : (c : ℕ) → Inv (shape (givenOut (tableOf w) (placeholderOf c))) (to (tableOf w .head) (gave false c) ∷ h)
     gave-inv c = inv-gave t h i (tableOf w .head) c _ (give-stored (tableOf w) (whole .slots) (placeholderOf c) first-in) first-vacant
 
     -- given out and submitted at once
-    begun-inv : (c : ℕ) (fds : Fds) (g : Holds) (e : ℕ → Sqe) → InvOf (begun w (waitingOf c fds) g e .world) (to (tableOf w .head) took ∷ to (tableOf w .head) (gave c) ∷ h)
+    begun-inv : (c : ℕ) (fds : Fds) (g : Holds) (e : ℕ → Sqe) → InvOf (begun w (waitingOf c fds) g e .world) (to (tableOf w .head) took ∷ to (tableOf w .head) (gave false c) ∷ h)
     begun-inv c fds g e =
         let a = give-stored (tableOf w) (whole .slots) (placeholderOf c) first-in in
         let b = give-stored (tableOf w) (whole .slots) (waitingOf c fds) first-in in
-        inv-took (shape (givenOut (tableOf w) (placeholderOf c))) (to (tableOf w .head) (gave c) ∷ h) (gave-inv c) (tableOf w .head) c fds (shape (givenOut (tableOf w) (waitingOf c fds)))
+        inv-took (shape (givenOut (tableOf w) (placeholderOf c))) (to (tableOf w .head) (gave false c) ∷ h) (gave-inv c) (tableOf w .head) c fds (shape (givenOut (tableOf w) (waitingOf c fds)))
         (stored-over a b (λ l p. p)) (ap phaseOf (a .here)) (ap (λ (v : Slot). v .caller) (a .here)) (ap (λ (v : Slot). v .ended) (a .here))
 
     sent-ok :
         (e : Event) (c : ℕ) (fds : Fds) (g : Holds) (s : ℕ → Sqe) → queueFull w ≡ false
-        → Ok r e (sends (λ n. to n took ∷ to n (gave c) ∷ []) s eventRead) (begun w (waitingOf c fds) g s)
+        → Ok r e (sends (λ n. to n took ∷ to n (gave false c) ∷ []) s eventRead) (begun w (waitingOf c fds) g s)
     sent-ok e c fds g s room =
         record {
           inv = begun-inv c fds g s;
@@ -170,7 +170,7 @@ module _ (r : Run) (whole : WellFormed (r .world)) (i : InvOf (r .world) (r .fac
   reserve-ok : (c : ℕ) → Ok r (on (reserve c)) (viewOf (on (reserve c))) (step w (on (reserve c)))
   reserve-ok c =
       checked-cases (Ok r (on (reserve c)) (viewOf (on (reserve c)))) (refuse w) (reserveRows w) (reserved w c) (turned-down _ _)
-      (λ f. plain-ok _ (λ n. to n (gave c) ∷ []) _ _ (gave-inv (f .0) c) refl (record { queue = refl; scheme = refl }))
+      (λ f. plain-ok _ (λ n. to n (gave false c) ∷ []) _ _ (gave-inv (f .0) c) refl (record { queue = refl; scheme = refl }))
 
   submit-ok :
       (n c op fl : ℕ) (args : Args) (pid : ℕ) (ds : List ℕ)

@@ -16,7 +16,7 @@ use Rattle.status.specs.Status.{isIn, wordOf}
 use Rattle.events.specs.World.{World, tableOf, schemeOf, unreadIn}
 use Rattle.events.specs.Outcome.{Response, onAnswer, onOk}
 use Rattle.events.specs.Event.{Event}
-use Rattle.events.specs.History.{What, Fact, to, end, gave, asked, took, serve, block, break, pass, filled, Stage, free, reserved, waits, replied, mapping, Call, book, View, tells, sends, wakes, reads, writes, moves, supplies, viewOf, news}
+use Rattle.events.specs.History.{What, Fact, to, end, gave, took, serve, block, break, pass, filled, Stage, free, reserved, waits, replied, mapping, Call, book, View, tells, sends, wakes, reads, writes, moves, supplies, viewOf, news}
 use Rattle.events.specs.Run.{Turn, Run, turnOf, Steps}
 
 -- every fact of a history, each with what had happened before it; some fact
@@ -31,8 +31,7 @@ Some P (f ∷ h) = P h f ⊎ Some P h
 -- the stage in which what happens to a tag finds its call
 abbrev pub needs : What → Stage → Type 0
 -- "a call's slot isn't given out again until a reply entry to it is accepted, a map request's not until map supply vacates it"
-needs (gave c) s = s ≡ free
-needs (asked c) s = s ≡ free
+needs (gave m c) s = s ≡ free
 needs took s = s ≡ reserved
 -- an accepted reply entry "serves its tag's call, which waits"
 needs (serve i j r) s = s ≡ waits
@@ -62,14 +61,13 @@ source n l r h₀ f₀ = (i : ℕ) × (j : ℕ) × (f₀ ≡ to n (serve i j r))
 abbrev pub sourced : List Fact → Fact → Type 0
 sourced h f = (n : ℕ) (r : Response) → f ≡ to n (pass r) → Some (source n (book h n .lap) r) h
 
--- what an event owes: it hands a reply over; so many bytes leave the queue's front, these join its end; these bytes are stored
--- in those that it is lent; these are its effects, all of them or the wakes among them
+-- what an event owes
 pub record Owed : Type 0 where
-  pub hands : Bool
-  pub removes : ℕ
-  pub adds : List ℕ
-  pub stores : List ℕ
-  pub all : Bool
+  pub hands : Bool  -- it hands a reply over
+  pub removes : ℕ  -- so many bytes leave the queue's front
+  pub adds : List ℕ  -- these join its end
+  pub stores : List ℕ  -- these are stored in the bytes that a read is lent
+  pub all : Bool  -- all its effects are told, or the wakes among them
   pub makes : List ℕ
 
 abbrev pub owed : Bool → ℕ → List ℕ → List ℕ → Bool → List ℕ → Owed
@@ -94,8 +92,7 @@ cancelBytes n = (25 ∷ sqeOneway ∷ 0 ∷ 0 ∷ bytes4 n) ++ replicate 56 0
 
 -- of what happens to a tag: a for an accepted reply entry, p for a hand-over, else z
 abbrev pub onReply : {A : Type 0} → What → A → A → A → A
-onReply (gave c) a p z = z
-onReply (asked c) a p z = z
+onReply (gave m c) a p z = z
 onReply took a p z = z
 onReply (serve i j r) a p z = a
 onReply block a p z = z
@@ -154,12 +151,10 @@ pub record Demanded (r : Run) : Type 0 where
   pub facts : Every fair (r .facts)
   pub entries : Every (λ h f. Every (apart h f) h) (r .facts)
   pub replies : Every sourced (r .facts)
-  -- whatever event comes next
-  pub turn : (e : Event) → Right (turnOf r e) (owes (turnOf r e) (viewOf e))
+  pub turn : (e : Event) → Right (turnOf r e) (owes (turnOf r e) (viewOf e))  -- whatever event comes next
   -- "Accepted reply entries = replies handed over + still held + dropped for ended callers", accepted when these had already ended
   pub balance : sum (λ k. 1) 0 (r .facts) ≡ sum (λ k. 0) 1 (r .facts) + (held (r .world) + sum (λ k. cond (k .ended) 1 0) 0 (r .facts))
 
--- of all that a run comes to: any scheme number, any 1,024 words lent for the queue, any events, each on the state that the
--- step before returned
+-- of every run: any scheme number, any 1,024 words lent for the queue, any events, each on the state that the last step returned
 abbrev pub Demand3 : Type 0
 Demand3 = (r : Run) → Steps r → Demanded r

@@ -18,7 +18,7 @@ use Rattle.table.specs.Table.{rising}
 use Rattle.events.specs.World.{World, holdsOf, handlesOf, slotIn, unreadIn}
 use Rattle.events.specs.Outcome.{Answer, ok, no, wait, blocked, reply, Row, row}
 use Rattle.events.specs.Event.{DriverEvent, hostPut, reserve, submit, call, generic, stdfs, fmap, close, detach, wake, read, write, move, obtain, supply, Event, hostOpen, hostCopy, hostDrop, hostEnded, on, step}
-use Rattle.events.specs.History.{What, Fact, to, end, gave, asked, took, serve, block, break, pass, filled, Stage, free, reserved, waits, replied, mapping, book, entryAt, afterEntries, poured}
+use Rattle.events.specs.History.{What, Fact, to, end, gave, took, serve, block, break, pass, filled, Stage, free, reserved, waits, replied, mapping, book, entryAt, afterEntries, poured}
 use Rattle.events.specs.Run.{Run, Steps}
 
 -- the number of the first row that is due; where none is, the answer
@@ -43,8 +43,7 @@ inState k h n = eqb (state (book h n .stage)) k
 
 -- the vacant tags, the next to be given out first: "last vacated first, unused slots rising from 0"
 abbrev pub relisted : What → ℕ → Bool → List ℕ → List ℕ
-relisted (gave c) n ended l = drop 1 l
-relisted (asked c) n ended l = drop 1 l
+relisted (gave m c) n ended l = drop 1 l
 relisted took n ended l = l
 relisted (serve i j r) n ended l = cond ended (n ∷ l) l
 relisted block n ended l = l

@@ -19,10 +19,17 @@ use Rattle.events.specs.Submit.{submitEntry, callEntry, genericEntry, st
 use Rattle.events.specs.Complete.{Offer, result, one, listed, responseTo, inHandle, worldOf, entryOf}
 use Rattle.events.specs.Event.{DriverEvent, hostPut, reserve, submit, call, generic, stdfs, fmap, close, detach, wake, read, write, move, obtain, supply, Event, hostOpen, hostCopy, hostDrop, hostEnded, on}
 
+-- how far the call or map request is that a tag was last given out for; it is the tag's until given out again
+pub data Stage : Type 0 where
+  free : Stage  -- none yet; or handed its reply, served when its caller had already ended, or supplied
+  reserved : Stage  -- a call, not submitted yet
+  waits : Stage  -- from its accepted submit or `call` until a reply entry to it is accepted
+  replied : Response → Stage  -- served by an entry that reads this, and not handed the reply yet
+  mapping : Stage  -- a map request
+
 -- what happens to a tag
 pub data What : Type 0 where
-  gave : (c : ℕ) → What  -- it was given out for a call of caller c; a reserve is a call from the start, submitted or not
-  asked : (c : ℕ) → What  -- it was given out for a map request of caller c
+  gave : (m : Bool) (c : ℕ) → What  -- it was given out to caller c, for a map request (m) or else for a call
   took : What  -- its call was submitted
   serve : (i j : ℕ) (r : Response) → What  -- the reply entry to it was accepted that reads r: entry j of event i, both from 0
   block : What  -- a wake of it was answered still blocked
@@ -33,14 +40,6 @@ pub data What : Type 0 where
 pub data Fact : Type 0 where
   to : (n : ℕ) → What → Fact  -- this happened to tag n
   end : (c : ℕ) → Fact  -- caller c was reported ended
-
--- how far the call or map request is that a tag was last given out for; it is the tag's until given out again
-pub data Stage : Type 0 where
-  free : Stage  -- none yet; or handed its reply, served when its caller had already ended, or supplied
-  reserved : Stage  -- a call, not submitted yet
-  waits : Stage  -- from its accepted submit or `call` until a reply entry to it is accepted
-  replied : Response → Stage  -- served by an entry that reads this, and not handed the reply yet
-  mapping : Stage  -- a map request
 
 pub record Call : Type 0 where
   pub stage : Stage
@@ -62,8 +61,7 @@ marked w r e k =
     record { stage = k .stage; caller = k .caller; waited = w || k .waited; returned = r || k .returned; ended = e || k .ended; lap = k .lap }
 
 abbrev pub change : What → Call → Call
-change (gave c) k = given reserved c k
-change (asked c) k = given mapping c k
+change (gave m c) k = given (cond m mapping reserved) c k
 change took k = onto waits k
 change (serve i j r) k = onto (cond (k .ended) free (replied r)) k
 change block k = marked true false false k
@@ -90,18 +88,18 @@ pub data View : Type 0 where
 abbrev pub plain : View
 plain = tells (λ v. [])
 
--- `call` in each form is given out and submitted at once
+-- a reserve is a call from the start; `call` in each form is given out and submitted at once
 abbrev pub begins : ℕ → (ℕ → Sqe) → View
-begins c e = sends (λ n. to n took ∷ to n (gave c) ∷ []) e eventRead
+begins c e = sends (λ n. to n took ∷ to n (gave false c) ∷ []) e eventRead
 
 abbrev pub driverView : DriverEvent → View
 driverView (hostPut d k) = plain
-driverView (reserve c) = tells (λ n. to n (gave c) ∷ [])
+driverView (reserve c) = tells (λ n. to n (gave false c) ∷ [])
 driverView (submit n c op fl args pid ds) = sends (λ v. to n took ∷ []) (λ v. submitEntry n op fl args pid) eventRead
 driverView (call c op args uid gid pid ds) = begins c (callEntry op args uid gid pid)
 driverView (generic c pid fds base len ms) = begins c (genericEntry 28 pid fds base len ms)
 driverView (stdfs c pid fds base len ms) = begins c (genericEntry 33 pid fds base len (stdMeta ms))
-driverView (fmap c id pages flags uid gid pid) = sends (λ n. to n (asked c) ∷ []) (fmapEntry id pages flags uid gid pid) eventRead
+driverView (fmap c id pages flags uid gid pid) = sends (λ n. to n (gave true c) ∷ []) (fmapEntry id pages flags uid gid pid) eventRead
 driverView (close id) = sends (λ v. []) (λ v. closeEntry id) (eventRead + eventHup)
 driverView (detach id pid) = sends (λ v. []) (λ v. detachEntry id pid) eventRead
 driverView (wake n c killed base count) = wakes n c killed (record { base = base; count = count })

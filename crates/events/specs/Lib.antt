@@ -15,3 +15,4 @@ pub mod Demand3
 pub mod WellFormed
 pub mod Refusals
 pub mod Exactly
+pub mod Examples

@@ -3,5 +3,5 @@ use Rattle.holds.specs.declared.Holds.{Holds}
 use Rattle.state.specs.declared.State.{State}
 use Rattle.events.specs.World.{tableWith}
 
-abbrev pub stateWith : State → Holds → State
-stateWith s h = record { driver = s .driver; table = tableWith (s .table) h }
+abbrev pub stateWithHolds : State → Holds → State
+stateWithHolds s h = record { driver = s .driver; table = tableWith (s .table) h }

@@ -14,7 +14,7 @@ ghost use Rattle.host_put.specs.Put.{putAnswer};
 ghost use Rattle.events.specs.World.{world};
 ghost use Rattle.events.specs.Outcome.{outcome, answered, ok};
 ghost use Rattle.events.specs.Host.{hostOpenOf, hostCopyOf, hostDropOf, hostPutOf, hostEndedOf};
-ghost use Rattle.host.specs.Holds.{stateWith};
+ghost use Rattle.host.specs.Holds.{stateWithHolds};
 
 pub struct Opened {
     pub answer: OpenAnswer,
@@ -37,7 +37,7 @@ pub struct Placed {
 }
 
 fn with_holds(s: State, h: Holds) -> State
-    ensures { λ r. ⌜ r ≡ stateWith s h ⌝ }
+    ensures { λ r. ⌜ r ≡ stateWithHolds s h ⌝ }
 {
     let mut t = s.table;
     t.holds = h;

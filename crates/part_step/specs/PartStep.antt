@@ -4,7 +4,7 @@ use mathlib.Core.List.{List, [], _∷_}
 use lib.ListN.{getD}
 use Rattle.record.specs.declared.Record.{Record}
 use Rattle.record.specs.Record.{supplyOf}
-use Rattle.events.specs.Event.{Event, reserve, submit, call, generic, stdfs, fmap, close, detach, move, obtain}
+use Rattle.events.specs.Event.{reserve, submit, call, generic, stdfs, fmap, close, detach, move, obtain, Event, on}
 
 abbrev pub namedOf : ℕ → ℕ
 namedOf tag = tag % 64
@@ -29,19 +29,19 @@ partEvent kind r xs ys =
     ∷ s
     ∷ s
     ∷ s
-    ∷ reserve c
-    ∷ submit (a .0) c (a .1) (r .flags) (record { 0 = a .2; 1 = a .3; 2 = a .4; 3 = a .5; 4 = a .6; 5 = a .7 }) (a .8) xs
-    ∷ call c (a .0) (record { 0 = a .1; 1 = a .2; 2 = a .3; 3 = a .4; 4 = a .5; 5 = a .6 }) (r .uid) (r .gid) (a .7) xs
-    ∷ generic c (a .0) xs (a .1) (a .2) ys
-    ∷ stdfs c (a .0) xs (a .1) (a .2) ys
-    ∷ fmap c (a .0) (a .1) (a .2) (r .uid) (r .gid) (a .3)
-    ∷ close (a .0)
-    ∷ detach (a .0) (a .1)
+    ∷ on (reserve c)
+    ∷ on (submit (a .0) c (a .1) (r .flags) (record { 0 = a .2; 1 = a .3; 2 = a .4; 3 = a .5; 4 = a .6; 5 = a .7 }) (a .8) xs)
+    ∷ on (call c (a .0) (record { 0 = a .1; 1 = a .2; 2 = a .3; 3 = a .4; 4 = a .5; 5 = a .6 }) (r .uid) (r .gid) (a .7) xs)
+    ∷ on (generic c (a .0) xs (a .1) (a .2) ys)
+    ∷ on (stdfs c (a .0) xs (a .1) (a .2) ys)
+    ∷ on (fmap c (a .0) (a .1) (a .2) (r .uid) (r .gid) (a .3))
+    ∷ on (close (a .0))
+    ∷ on (detach (a .0) (a .1))
     ∷ s
     ∷ s
     ∷ s
-    ∷ move xs ys
-    ∷ obtain xs
+    ∷ on (move xs ys)
+    ∷ on (obtain xs)
     ∷ [])
     kind
     s

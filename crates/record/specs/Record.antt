@@ -1,5 +1,5 @@
 -- The format of a run's events. A record is 16 bytes, then words, a first and a second list of words, and bytes:
---   byte 0 the kind, 1 to 19 in the order of `Event`; byte 1 how many words the first list has, byte 2 the second; byte 3 a submit's
+--   byte 0 the kind, 1 to 19 in the order of `eventNamed`; byte 1 how many words the first list has, byte 2 the second; byte 3 a submit's
 --   flags; bytes 4 to 7 the caller, a read's flags or how many bytes a write has; bytes 8 to 11 uid, 12 to 15 gid.
 -- Numbers are little-endian, words have eight bytes. What an event lacks must be 0.
 use Prim.Native.Nat.{ℕ, zero, suc, _+_, _-_, _*_, min}
@@ -8,7 +8,7 @@ use mathlib.Core.List.{List, [], _∷_, _++_}
 use lib.Dec.{eqb, leb}
 use lib.ListN.{length, getD, take, drop}
 use Rattle.le.specs.Le.{byte, half, word}
-use Rattle.events.specs.Event.{Event, hostOpen, hostCopy, hostDrop, hostPut, hostEnded, reserve, submit, call, generic, stdfs, fmap, close, detach, wake, read, write, move, obtain, supply}
+use Rattle.events.specs.Event.{hostPut, reserve, submit, call, generic, stdfs, fmap, close, detach, wake, read, write, move, obtain, supply, Event, hostOpen, hostCopy, hostDrop, hostEnded, on}
 use Rattle.record.specs.declared.Nine.{Nine}
 use Rattle.record.specs.declared.Record.{Record}
 
@@ -116,7 +116,7 @@ wordsAt bs k n = each (λ i. word bs (k + 8 * i)) n
 
 -- the event of a record with lists xs and ys and bytes bs. A write is lent at most the words that there are.
 abbrev pub supplyOf : Nine → Event
-supplyOf a = supply (a .0) (a .1) (a .2) (a .3)
+supplyOf a = on (supply (a .0) (a .1) (a .2) (a .3))
 
 abbrev pub eventNamed : ℕ → Record → List ℕ → List ℕ → List ℕ → ℕ → Event
 eventNamed kind r xs ys bs lent =
@@ -127,21 +127,21 @@ eventNamed kind r xs ys bs lent =
     ∷ hostOpen (a .0)
     ∷ hostCopy (a .0)
     ∷ hostDrop (a .0)
-    ∷ hostPut (a .0) (a .1)
+    ∷ on (hostPut (a .0) (a .1))
     ∷ hostEnded c
-    ∷ reserve c
-    ∷ submit (a .0) c (a .1) (r .flags) (record { 0 = a .2; 1 = a .3; 2 = a .4; 3 = a .5; 4 = a .6; 5 = a .7 }) (a .8) xs
-    ∷ call c (a .0) (record { 0 = a .1; 1 = a .2; 2 = a .3; 3 = a .4; 4 = a .5; 5 = a .6 }) (r .uid) (r .gid) (a .7) xs
-    ∷ generic c (a .0) xs (a .1) (a .2) ys
-    ∷ stdfs c (a .0) xs (a .1) (a .2) ys
-    ∷ fmap c (a .0) (a .1) (a .2) (r .uid) (r .gid) (a .3)
-    ∷ close (a .0)
-    ∷ detach (a .0) (a .1)
-    ∷ wake (a .0) c (a .1) (a .2) (a .3)
-    ∷ read (a .0) c
-    ∷ write (min (a .0) lent) bs
-    ∷ move xs ys
-    ∷ obtain xs
+    ∷ on (reserve c)
+    ∷ on (submit (a .0) c (a .1) (r .flags) (record { 0 = a .2; 1 = a .3; 2 = a .4; 3 = a .5; 4 = a .6; 5 = a .7 }) (a .8) xs)
+    ∷ on (call c (a .0) (record { 0 = a .1; 1 = a .2; 2 = a .3; 3 = a .4; 4 = a .5; 5 = a .6 }) (r .uid) (r .gid) (a .7) xs)
+    ∷ on (generic c (a .0) xs (a .1) (a .2) ys)
+    ∷ on (stdfs c (a .0) xs (a .1) (a .2) ys)
+    ∷ on (fmap c (a .0) (a .1) (a .2) (r .uid) (r .gid) (a .3))
+    ∷ on (close (a .0))
+    ∷ on (detach (a .0) (a .1))
+    ∷ on (wake (a .0) c (a .1) (a .2) (a .3))
+    ∷ on (read (a .0) c)
+    ∷ on (write (min (a .0) lent) bs)
+    ∷ on (move xs ys)
+    ∷ on (obtain xs)
     ∷ [])
     kind
     (supplyOf a)

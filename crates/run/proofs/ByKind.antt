@@ -16,12 +16,12 @@ use Rattle.part_step.specs.PartStep.{placeOf, partEvent}
 use Rattle.events.specs.World.{World, world}
 use Rattle.events.specs.Outcome.{Outcome}
 use Rattle.events.specs.Event.{Event, step}
-use Rattle.events.specs.Exactly.{isWrite}
+use Rattle.events.specs.History.{viewOf}
 use Rattle.record.specs.declared.Record.{Record}
 use Rattle.record.specs.Record.{recordOf, firstAt, secondAt, tailAt, tailOf, sizeOf, isEvent, nextOf, wordsAt, eventNamed, eventOf, eventAt}
 use Rattle.record.proofs.Laws.{all-there}
 use Rattle.run_room.specs.Room.{roomOf}
-use Rattle.run.specs.Run.{isWhole, Told, writeIn, listIn, storedBy}
+use Rattle.run.specs.Run.{isWrite, isOnState, Told, writeIn, listIn, storedBy}
 
 module _ (r : Record) (xs ys bs : List ℕ) (lent : ℕ) where
   pub as-kind : (o : Outcome) (w : World) (n k : ℕ) → n ≡ k → o ≡ step w (eventNamed k r xs ys bs lent) → o ≡ step w (eventNamed n r xs ys bs lent)
@@ -51,7 +51,7 @@ module _ (r : Record) (xs ys bs : List ℕ) (lent : ℕ) where
   parts (suc (suc (suc (suc (suc (suc (suc (suc (suc (suc (suc (suc (suc (suc (suc (suc (suc (suc (suc n))))))))))))))))))) low a b c = refl
 
   -- no kind but 16 is a write
-  not-write : (n : ℕ) → (n ≡ 16 → ⊥) → isWrite (eventNamed n r xs ys bs lent) ≡ false
+  not-write : (n : ℕ) → (n ≡ 16 → ⊥) → isWrite (viewOf (eventNamed n r xs ys bs lent)) ≡ false
   not-write zero a = refl
   not-write (suc zero) a = refl
   not-write (suc (suc zero)) a = refl
@@ -90,7 +90,7 @@ module _ (n : ℕ) where
   whole-by false true ex ey e a = absurd (a (eqb-true n 16 ey))
   whole-by false false ex ey e a = absurd (omega (arith, ap {B = ℕ} (λ (b : Bool). cond b 1 0) e))
 
-  pub whole-low : isWhole n ≡ true → (n ≡ 16 → ⊥) → n < 6
+  pub whole-low : isOnState n ≡ true → (n ≡ 16 → ⊥) → n < 6
   whole-low e a = whole-by (ltb n 6) (eqb n 16) refl refl e a
 
   part-by : (x y : Bool) → ltb n 6 ≡ x → eqb n 16 ≡ y → x || y ≡ false → (6 ≤ n) × (n ≡ 16 → ⊥)
@@ -98,10 +98,10 @@ module _ (n : ℕ) where
   part-by false true ex ey e = absurd (omega (arith, ap {B = ℕ} (λ (b : Bool). cond b 1 0) e))
   part-by false false ex ey e = (ltb-false n 6 ex, λ q. omega (arith, ap {B = ℕ} (λ (b : Bool). cond b 1 0) (sym (eq-eqb n 16 q) ∙ ey)))
 
-  pub part-high : isWhole n ≡ false → (6 ≤ n) × (n ≡ 16 → ⊥)
+  pub part-high : isOnState n ≡ false → (6 ≤ n) × (n ≡ 16 → ⊥)
   part-high e = part-by (ltb n 6) (eqb n 16) refl refl e
 
-pub whole-is : (n : ℕ) (x y : Bool) → ltb n 6 ≡ x → eqb n 16 ≡ y → x || y ≡ isWhole n
+pub whole-is : (n : ℕ) (x y : Bool) → ltb n 6 ≡ x → eqb n 16 ≡ y → x || y ≡ isOnState n
 whole-is n x y ex ey = ap₂ (λ (a b : Bool). a || b) (sym ex) (sym ey)
 
 -- what is told of an event at its slot

@@ -9,7 +9,7 @@ use lib.ListN.{length, replicate, length-replicate}
 use lib.Seq.{sets}
 use borrow.Author.Tests.{leb-true}
 use Rattle.events.specs.Demand3.{Demanded}
-use Rattle.events.proofs.Demanded.{demand3}
+use Rattle.events.proofs.Demanded.{demand3, run-steps}
 use Rattle.record.specs.Record.{decoded}
 use Rattle.run.specs.declared.RunEnd.{RunEnd}
 use Rattle.run_room.specs.declared.Walked.{Walked}
@@ -18,7 +18,8 @@ use Rattle.run.specs.Run.{runOf, outputOf, lentAfter, wholeEnd, endOf, o
 
 -- demand 3 of the events that any bytes hold
 pub run-demand3 : (scheme lent : ℕ) (bs : List ℕ) → Demanded (runOf scheme lent bs)
-run-demand3 scheme lent bs = demand3 scheme (replicate 1024 0) (length-replicate {A = ℕ} 1024 0) (decoded lent bs .events)
+run-demand3 scheme lent bs =
+    demand3 (runOf scheme lent bs) (run-steps scheme (replicate 1024 0) (length-replicate {A = ℕ} 1024 0) (decoded lent bs .events))
 
 -- where the events end
 pub ends-at : (ev : List ℕ) (most : ℕ) (w : Walked) → w ≡ walkedOf ev most → w .fits ≡ true → w .end ≡ length ev - leftOf ev

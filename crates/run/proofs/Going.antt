@@ -13,8 +13,8 @@ use Rattle.state.specs.State.{freshState}
 use Rattle.events.specs.World.{World, world}
 use Rattle.events.specs.Event.{Event, step}
 use Rattle.events.specs.Run.{Turn, Run, next, runFrom, run}
-use Rattle.events.specs.Whole.{Whole}
-use Rattle.events.proofs.Whole.{whole-run}
+use Rattle.events.specs.WellFormed.{WellFormed}
+use Rattle.events.proofs.WellFormed.{formed-run}
 use Rattle.outcome_bytes.specs.Output.{outcomeBytes}
 use Rattle.state_bytes.specs.StateBytes.{stateBytes}
 use Rattle.record.specs.Record.{recordOf, sizeOf, nextOf, eventAt, Decoded, stops, before, decoded}
@@ -107,8 +107,8 @@ module _ (scheme : ℕ) (ev out₀ fx₀ : List ℕ) (end : ℕ) (out fx words :
   abbrev R : Run
   R = run scheme zeros (g .done)
 
-  pub whole : Whole (world s words)
-  whole = subst Whole (sym (g .state)) (whole-run scheme zeros (length-replicate {A = ℕ} 1024 0) (g .done))
+  pub whole : WellFormed (world s words)
+  whole = subst WellFormed (sym (g .state)) (formed-run scheme zeros (length-replicate {A = ℕ} 1024 0) (g .done))
 
   pub out-length : length out ≡ length out₀
   out-length = ap length (g .told) ∙ length-sets out₀ 0 (toldOf (R .turns))

@@ -19,7 +19,7 @@ use Rattle.events.specs.Submit.{queueRows, notified, closeEntry, detachEntry}
 use Rattle.flag.specs.Flags.{eventRead, eventHup}
 use Rattle.events.specs.Event.{Event, step}
 use Rattle.events.specs.Complete.{writeOf}
-use Rattle.events.specs.Whole.{Whole}
+use Rattle.events.specs.WellFormed.{WellFormed}
 use Rattle.record.specs.declared.Record.{Record}
 use Rattle.record.specs.Record.{tailAt, tailOf, eventNamed}
 use Rattle.run.specs.Run.{isQueue, isSingle, Told}
@@ -90,7 +90,7 @@ module _ (r : Record) (e : isSingle r ≡ true) where
       ap (λ (n : ℕ). n / 16) (tail-counts rec (tailAt r) (tailOf r) h ∙ ap (λ (b : Bool). cond b (r .number) 0) (eq-eqb (r .kind) 16 single-kind)) ∙ by (eqb (r .kind) 16) refl e .1
 
 -- its effects, in the front of the words that it was lent
-module _ (w : World) (i : Whole w) (words n m k : ℕ) (fx front bs : List ℕ) (en : n ≡ min words (length fx)) (em : m ≡ length (take n fx)) (ek : k ≡ length (writeOf w m bs .effects))
+module _ (w : World) (i : WellFormed w) (words n m k : ℕ) (fx front bs : List ℕ) (en : n ≡ min words (length fx)) (em : m ≡ length (take n fx)) (ek : k ≡ length (writeOf w m bs .effects))
     (is : front ≡ sets (take n fx) 0 (writeOf w m bs .effects)) (j : ℕ) (ej : j ≡ min k (length (front ++ drop n fx))) where
   all-there : j ≡ k
   all-there = omega (arith, ej, write-fits w i words n m k fx front bs bs en em ek refl is)

@@ -13,10 +13,10 @@ use Rattle.events.specs.World.{World, queueOf, withQueue}
 use Rattle.events.specs.Outcome.{Answer, Outcome, outcome, answered, refuse}
 use Rattle.events.specs.Complete.{Entered, accepted, rejected, entryOf, entriesOf, stopped, onEntered, shortWords, writeOn, writeOf}
 use Rattle.schemev2.specs.declared.Cqe.{Cqe}
-use Rattle.events.specs.Event.{write}
+use Rattle.events.specs.Event.{write, on}
 use Rattle.events.specs.Read.{readOf}
-use Rattle.events.specs.Whole.{Whole}
-use Rattle.events.proofs.Exact.{exact-at}
+use Rattle.events.specs.WellFormed.{WellFormed}
+use Rattle.events.proofs.Exact.{write-most, write-room}
 use Rattle.outcome_bytes.specs.Output.{told, outcomeBytes}
 use Rattle.le.specs.Le.{word}
 use Rattle.record.specs.Record.{wordsAt}
@@ -109,7 +109,7 @@ module _ (w : World) (len flags n m k : ℕ) (b front : List ℕ) (size : 8192 �
   pub read-holds : take k (front ++ drop n b) ≡ readOf w m flags .bytes
   read-holds = front-holds b front (readOf w m flags .bytes) n k (omega (arith, size, en)) (omega (arith, ek)) counts is
 
-  pub read-whole : Whole w → readOf w m flags ≡ readOf w len flags
+  pub read-whole : WellFormed w → readOf w m flags ≡ readOf w len flags
   read-whole i = ap (λ (x : ℕ). readOf w x flags) (exact ∙ en) ∙ same-read w len flags (i .room)
 
 -- a write reads nothing
@@ -128,30 +128,17 @@ write-bytes w words bs = go (shortWords words bs)
     go true = refl
     go false = sym (on-bytes (entriesOf bs) w 0 [])
 
-effects-most : (w : World) → Whole w → (words : ℕ) (bs : List ℕ) → length (writeOf w words bs .effects) ≤ 54 * (length bs / 16)
-effects-most w i words bs = go (shortWords words bs)
-  where
-    most : ℕ
-    most = 54 * (length bs / 16)
-
-    full : length (cond (ltb most most) (refuse w 204) (writeOn w (entriesOf bs) 0 []) .effects) ≤ most
-    full = exact-at w i .room most bs
-
-    go : (b : Bool) → length (cond b (refuse w 204) (writeOn w (entriesOf bs) 0 []) .effects) ≤ 54 * (length bs / 16)
-    go true = omega arith
-    go false = subst (λ (b : Bool). length (cond b (refuse w 204) (writeOn w (entriesOf bs) 0 []) .effects) ≤ most) (le-ltb most most (omega arith)) full
-
 pub tail-counts : (bs : List ℕ) (at k : ℕ) → at + k ≤ length bs → length (take k (drop at bs)) ≡ k
 tail-counts bs at k h = length-take-le k (drop at bs) (omega (arith, h, length-drop at bs))
 
 -- a write that is lent a front of the words
-module _ (w : World) (i : Whole w) (words n m k : ℕ) (fx front bs bs' : List ℕ) (en : n ≡ min words (length fx)) (em : m ≡ length (take n fx)) (ek : k ≡ length (writeOf w m bs .effects))
+module _ (w : World) (i : WellFormed w) (words n m k : ℕ) (fx front bs bs' : List ℕ) (en : n ≡ min words (length fx)) (em : m ≡ length (take n fx)) (ek : k ≡ length (writeOf w m bs .effects))
     (eb : bs ≡ bs') (is : front ≡ sets (take n fx) 0 (writeOf w m bs .effects)) where
   lent : m ≡ n
   lent = em ∙ length-take-le n fx (omega (arith, en))
 
   fits : k ≤ n
-  fits = omega (arith, lent, ek, exact-at w i .room m bs)
+  fits = omega (arith, lent, ek, write-room w i m bs)
 
   pub write-part : k ≡ length (take k (front ++ drop n fx))
   write-part = front-counts fx front (writeOf w m bs .effects) n k (omega (arith, en)) fits ek is
@@ -164,7 +151,7 @@ module _ (w : World) (i : Whole w) (words n m k : ℕ) (fx front bs bs' : List �
 
   -- 18 effects an entry have room in 27 bytes for each of its own
   pub write-most : (tail : ℕ) → length bs' ≡ tail → 32 + 8 * k ≤ 192 + 27 * tail
-  write-most tail e = omega (arith, ek, effects-most w i m bs, ap length eb, e)
+  write-most tail e = omega (arith, ek, write-most w i m bs, ap length eb, e)
 
   pub write-fits : k ≤ length (front ++ drop n fx)
   write-fits = omega (arith, write-part, length-take k (front ++ drop n fx))

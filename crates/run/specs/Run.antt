@@ -1,15 +1,14 @@
 -- A run as bytes: decoded to events (crate record), run as `Run` of crate events has it, and told in bytes (crate outcome_bytes).
 use Prim.Native.Nat.{ℕ, _-_, _/_, min}
 use mathlib.Core.Path.{_≡_}
-use mathlib.Core.Bool.{Bool, false, cond, _||_}
+use mathlib.Core.Bool.{Bool, true, false, cond, _||_}
 use mathlib.Core.List.{List, [], _∷_, _++_}
 use lib.Dec.{eqb, leb, ltb}
 use lib.ListN.{length, take, drop, replicate}
 use lib.Seq.{sets}
 use Rattle.events.specs.World.{World}
-use Rattle.events.specs.Outcome.{Outcome}
-use Rattle.events.specs.Event.{Event, wake, read, write, step}
-use Rattle.events.specs.Exactly.{isWrite}
+use Rattle.events.specs.Event.{wake, read, write, Event, on, step}
+use Rattle.events.specs.History.{View, tells, sends, wakes, reads, writes, moves, supplies, viewOf}
 use Rattle.events.specs.Run.{Turn, Run, run}
 use Rattle.outcome_bytes.specs.Output.{outcomeBytes}
 use Rattle.state_bytes.specs.StateBytes.{stateBytes}
@@ -22,26 +21,32 @@ use Rattle.run.specs.declared.RunEnd.{RunEnd}
 abbrev pub runOf : ℕ → ℕ → List ℕ → Run
 runOf scheme lent bs = run scheme (replicate 1024 0) (decoded lent bs .events)
 
--- the outcome of a turn, and what it stores in the words that writes are lent
-abbrev pub outcomeOf : Turn → Outcome
-outcomeOf t = step (t .before) (t .event)
+-- what an event stores in the words that writes are lent
+abbrev pub isWrite : View → Bool
+isWrite (tells f) = false
+isWrite (sends f e flags) = false
+isWrite (wakes n c killed span) = false
+isWrite reads = false
+isWrite (writes words bs) = true
+isWrite (moves ds) = false
+isWrite (supplies n) = false
 
 abbrev pub storedBy : World → Event → List ℕ
-storedBy w e = cond (isWrite e) (step w e .effects) []
+storedBy w e = cond (isWrite (viewOf e)) (step w e .effects) []
 
 -- the event of a record by its kind: a wake, a read, a write
 abbrev pub wakeIn : Record → Event
-wakeIn r = wake (r .words .0) (r .number) (r .words .1) (r .words .2) (r .words .3)
+wakeIn r = on (wake (r .words .0) (r .number) (r .words .1) (r .words .2) (r .words .3))
 
 abbrev pub readIn : Record → Event
-readIn r = read (r .words .0) (r .number)
+readIn r = on (read (r .words .0) (r .number))
 
 abbrev pub writeIn : Record → List ℕ → ℕ → Event
-writeIn r bs lent = write (min (r .words .0) lent) (take (tailOf r) (drop (tailAt r) bs))
+writeIn r bs lent = on (write (min (r .words .0) lent) (take (tailOf r) (drop (tailAt r) bs)))
 
 -- the host's events and the write look at more than one slot
-abbrev pub isWhole : ℕ → Bool
-isWhole kind = ltb kind 6 || eqb kind 16
+abbrev pub isOnState : ℕ → Bool
+isOnState kind = ltb kind 6 || eqb kind 16
 
 -- a close, a detach and a read look at no slot, a write of one entry at one
 abbrev pub isQueue : ℕ → Bool
@@ -61,7 +66,7 @@ listIn kind r rec bs lent = eventNamed kind r (wordsAt rec (firstAt r) (r .first
 -- turns stand newest first
 abbrev pub toldOf : List Turn → List ℕ
 toldOf [] = []
-toldOf (t ∷ ts) = toldOf ts ++ outcomeBytes (outcomeOf t)
+toldOf (t ∷ ts) = toldOf ts ++ outcomeBytes (t .outcome)
 
 abbrev pub lentAfter : List ℕ → List Turn → List ℕ
 lentAfter fx [] = fx

@@ -22,20 +22,20 @@ ghost use Rattle.answer_words.specs.Words.{answerOf};
 ghost use Rattle.effect.specs.Effect.{effectWords};
 ghost use Rattle.holds.specs.declared.Holds.{Holds as Counts};
 ghost use Rattle.holds.specs.Holds.{holdsWith};
-ghost use Rattle.state.specs.declared.State.{State as World};
+ghost use Rattle.state.specs.declared.State.{State as AnyState};
 ghost use Rattle.part.specs.Part.{queuedOf, Stands, found, leaves};
 ghost use Rattle.schemev2.specs.Entry.{cqeOf};
 ghost use Rattle.handles.specs.Handles.{handlesWith};
-ghost use Rattle.write.specs.Write.{stateWith};
+ghost use Rattle.write.specs.Write.{stateWithHandles};
 ghost use Rattle.part_step.specs.PartStep.{placeOf, partEvent};
 ghost use Rattle.events.specs.World.{world};
 ghost use Rattle.events.specs.Outcome.{outcome};
-ghost use Rattle.events.specs.Event.{step, write};
-ghost use Rattle.events.specs.Whole.{Whole};
+ghost use Rattle.events.specs.Event.{write, on, step};
+ghost use Rattle.events.specs.WellFormed.{WellFormed};
 ghost use Rattle.outcome_bytes.specs.Output.{outcomeBytes};
 ghost use Rattle.record.specs.Record.{recordOf, firstAt, secondAt, tailAt, tailOf, wordsAt, nextOf, eventNamed, eventAt};
 ghost use Rattle.run_room.specs.Room.{roomOf, needed, leftOf};
-ghost use Rattle.run.specs.Run.{isWhole, isQueue, isSingle, Told, wakeIn, readIn, writeIn, storedBy, runOf, outputOf, lentAfter, wholeEnd, endOf, outAfter, fxAfter};
+ghost use Rattle.run.specs.Run.{isOnState, isQueue, isSingle, Told, wakeIn, readIn, writeIn, storedBy, runOf, outputOf, lentAfter, wholeEnd, endOf, outAfter, fxAfter};
 
 // The run's own answer: 0, 204 or 205, the place of the record that is no event, and how many bytes were written.
 #[repr(C)]
@@ -67,7 +67,7 @@ fn wake_turn(
     r: Record,
     out: &mut [u8],
 ) -> Turned
-    ensures { λ o. ⌜ ((s : World) (all : List ℕ) → length (now (outside .entry)) ≡ 64 → Stands s (r .words .0 % 64) p → Told (world (found s p (holdsWith all (now (outside .entry)))) (now (words .entry))) (world (leaves s (r .words .0 % 64) (o .part) (holdsWith all (now (outside .exit)))) (now (words .exit))) (wakeIn r) (now (out .entry)) (now (out .exit)) (o .used)) ⌝ }
+    ensures { λ o. ⌜ ((s : AnyState) (all : List ℕ) → length (now (outside .entry)) ≡ 64 → Stands s (r .words .0 % 64) p → Told (world (found s p (holdsWith all (now (outside .entry)))) (now (words .entry))) (world (leaves s (r .words .0 % 64) (o .part) (holdsWith all (now (outside .exit)))) (now (words .exit))) (wakeIn r) (now (out .entry)) (now (out .exit)) (o .used)) ⌝ }
     ensures { λ o. ⌜ o .used ≤ 192 ⌝ }
 {
     let a = r.words;
@@ -87,7 +87,7 @@ fn wake_turn(
 // Into the first of the bytes lent: no more than 8,192 are ever unread.
 fn read_turn(p: Part, words: &[u64; 1024], r: Record, buf: &mut [u8], out: &mut [u8]) -> Turned
     requires { ⌜ 8192 ≤ length (now buf) ⌝ }
-    ensures { λ o. ⌜ ((s : World) (n : ℕ) (h : Counts) → Whole (world (found s p h) (now (words .entry))) → Stands s n p → Told (world (found s p h) (now (words .entry))) (world (leaves s n (o .part) h) (now (words .entry))) (readIn r) (now (out .entry)) (now (out .exit)) (o .used)) ⌝ }
+    ensures { λ o. ⌜ ((s : AnyState) (n : ℕ) (h : Counts) → WellFormed (world (found s p h) (now (words .entry))) → Stands s n p → Told (world (found s p h) (now (words .entry))) (world (leaves s n (o .part) h) (now (words .entry))) (readIn r) (now (out .entry)) (now (out .exit)) (o .used)) ⌝ }
     ensures { λ o. ⌜ o .used ≤ 192 + min (r .words .0) 8192 ⌝ }
 {
     let a = r.words;
@@ -115,7 +115,7 @@ fn list_turn(
     second: &[u64],
     out: &mut [u8],
 ) -> Turned
-    ensures { λ o. ⌜ ((s : World) → Stands s (placeOf (r .kind) r (now (first .entry)) (p .head)) p → Told (world (found s p (holdsWith (now (all .entry)) (now (outside .entry)))) (now (words .entry))) (world (leaves s (placeOf (r .kind) r (now (first .entry)) (p .head)) (o .part) (holdsWith (now (all .exit)) (now (outside .exit)))) (now (words .exit))) (partEvent (r .kind) r (now (first .entry)) (now (second .entry))) (now (out .entry)) (now (out .exit)) (o .used)) ⌝ }
+    ensures { λ o. ⌜ ((s : AnyState) → Stands s (placeOf (r .kind) r (now (first .entry)) (p .head)) p → Told (world (found s p (holdsWith (now (all .entry)) (now (outside .entry)))) (now (words .entry))) (world (leaves s (placeOf (r .kind) r (now (first .entry)) (p .head)) (o .part) (holdsWith (now (all .exit)) (now (outside .exit)))) (now (words .exit))) (partEvent (r .kind) r (now (first .entry)) (now (second .entry))) (now (out .entry)) (now (out .exit)) (o .used)) ⌝ }
     ensures { λ o. ⌜ o .used ≤ 192 ⌝ }
 {
     let o = part_step::one_effect(p, all, outside, words, r, first, second);
@@ -132,7 +132,7 @@ fn list_turn(
 // What the driver is told: a close, or a detach.
 fn notice(p: Part, words: &mut [u64; 1024], r: Record) -> PartStep
     requires { ⌜ (isQueue (r .kind) ≡ true) × (r .kind ≡ 15 → ⊥) ⌝ }
-    ensures { λ o. ⌜ ((s : World) (n : ℕ) (h : Counts) (xs ys bs : List ℕ) (lent : ℕ) → Stands s n p → outcome (answerOf (o .answer)) (effectWords (o .effect)) (world (leaves s n (o .part) h) (now (words .exit))) ≡ step (world (found s p h) (now (words .entry))) (eventNamed (r .kind) r xs ys bs lent)) ⌝ }
+    ensures { λ o. ⌜ ((s : AnyState) (n : ℕ) (h : Counts) (xs ys bs : List ℕ) (lent : ℕ) → Stands s n p → outcome (answerOf (o .answer)) (effectWords (o .effect)) (world (leaves s n (o .part) h) (now (words .exit))) ≡ step (world (found s p h) (now (words .entry))) (eventNamed (r .kind) r xs ys bs lent)) ⌝ }
 {
     let a = r.words;
     let kind = r.kind;
@@ -151,7 +151,7 @@ fn queue_turn(
     out: &mut [u8],
 ) -> QueueTurned
     requires { ⌜ (isQueue (r .kind) ≡ true) × (8192 ≤ length (now buf)) ⌝ }
-    ensures { λ o. ⌜ ((s : World) (n : ℕ) (h : Counts) (xs ys bs : List ℕ) (lent : ℕ) → Whole (world (found s p h) (now (words .entry))) → Stands s n p → Told (world (found s p h) (now (words .entry))) (world (found s (queuedOf p (o .queue)) h) (now (words .exit))) (eventNamed (r .kind) r xs ys bs lent) (now (out .entry)) (now (out .exit)) (o .used)) ⌝ }
+    ensures { λ o. ⌜ ((s : AnyState) (n : ℕ) (h : Counts) (xs ys bs : List ℕ) (lent : ℕ) → WellFormed (world (found s p h) (now (words .entry))) → Stands s n p → Told (world (found s p h) (now (words .entry))) (world (found s (queuedOf p (o .queue)) h) (now (words .exit))) (eventNamed (r .kind) r xs ys bs lent) (now (out .entry)) (now (out .exit)) (o .used)) ⌝ }
     ensures { λ o. ⌜ o .used ≤ roomOf r ⌝ }
 {
     let kind = r.kind;
@@ -196,7 +196,7 @@ fn entry_turn(
     fx: &mut [u64],
     out: &mut [u8],
 ) -> Turned
-    ensures { λ t. ⌜ ((s : World) (o ws bs : List ℕ) → length bs / 16 ≡ 1 → e ≡ cqeOf bs → Whole (world (found (stateWith s (handlesWith (now (handles .entry)))) p (holdsWith (now (all .entry)) o)) ws) → Stands s (e .tag % 64) p → Told (world (found (stateWith s (handlesWith (now (handles .entry)))) p (holdsWith (now (all .entry)) o)) ws) (world (leaves (stateWith s (handlesWith (now (handles .exit)))) (e .tag % 64) (t .part) (holdsWith (now (all .exit)) o)) ws) (write (min (r .words .0) (length (now (fx .entry)))) bs) (now (out .entry)) (now (out .exit)) (t .used) × ((now (fx .exit) ≡ sets (now (fx .entry)) 0 (step (world (found (stateWith s (handlesWith (now (handles .entry)))) p (holdsWith (now (all .entry)) o)) ws) (write (min (r .words .0) (length (now (fx .entry)))) bs) .effects)) × (t .used ≤ 192 + 27 * length bs))) ⌝ }
+    ensures { λ t. ⌜ ((s : AnyState) (o ws bs : List ℕ) → length bs / 16 ≡ 1 → e ≡ cqeOf bs → WellFormed (world (found (stateWithHandles s (handlesWith (now (handles .entry)))) p (holdsWith (now (all .entry)) o)) ws) → Stands s (e .tag % 64) p → Told (world (found (stateWithHandles s (handlesWith (now (handles .entry)))) p (holdsWith (now (all .entry)) o)) ws) (world (leaves (stateWithHandles s (handlesWith (now (handles .exit)))) (e .tag % 64) (t .part) (holdsWith (now (all .exit)) o)) ws) (on (write (min (r .words .0) (length (now (fx .entry)))) bs)) (now (out .entry)) (now (out .exit)) (t .used) × ((now (fx .exit) ≡ sets (now (fx .entry)) 0 (step (world (found (stateWithHandles s (handlesWith (now (handles .entry)))) p (holdsWith (now (all .entry)) o)) ws) (on (write (min (r .words .0) (length (now (fx .entry)))) bs)) .effects)) × (t .used ≤ 192 + 27 * length bs))) ⌝ }
 {
     let a = r.words;
     let n = run_room::least(a.0, fx.len());
@@ -223,8 +223,8 @@ fn turn(
     second: &[u64],
     out: &mut [u8],
 ) -> Turned
-    requires { ⌜ (isWhole (r .kind) ≡ false) × ((isQueue (r .kind) ≡ false) × ((255 ≤ length (now first)) × (255 ≤ length (now second)))) ⌝ }
-    ensures { λ o. ⌜ ((s : World) (bs : List ℕ) (lent : ℕ) → length (now (outside .entry)) ≡ 64 → Stands s (placeOf (r .kind) r (take (r .first) (now (first .entry))) (p .head)) p → Told (world (found s p (holdsWith (now (all .entry)) (now (outside .entry)))) (now (words .entry))) (world (leaves s (placeOf (r .kind) r (take (r .first) (now (first .entry))) (p .head)) (o .part) (holdsWith (now (all .exit)) (now (outside .exit)))) (now (words .exit))) (eventNamed (r .kind) r (take (r .first) (now (first .entry))) (take (r .second) (now (second .entry))) bs lent) (now (out .entry)) (now (out .exit)) (o .used)) ⌝ }
+    requires { ⌜ (isOnState (r .kind) ≡ false) × ((isQueue (r .kind) ≡ false) × ((255 ≤ length (now first)) × (255 ≤ length (now second)))) ⌝ }
+    ensures { λ o. ⌜ ((s : AnyState) (bs : List ℕ) (lent : ℕ) → length (now (outside .entry)) ≡ 64 → Stands s (placeOf (r .kind) r (take (r .first) (now (first .entry))) (p .head)) p → Told (world (found s p (holdsWith (now (all .entry)) (now (outside .entry)))) (now (words .entry))) (world (leaves s (placeOf (r .kind) r (take (r .first) (now (first .entry))) (p .head)) (o .part) (holdsWith (now (all .exit)) (now (outside .exit)))) (now (words .exit))) (eventNamed (r .kind) r (take (r .first) (now (first .entry))) (take (r .second) (now (second .entry))) bs lent) (now (out .entry)) (now (out .exit)) (o .used)) ⌝ }
     ensures { λ o. ⌜ o .used ≤ roomOf r ⌝ }
 {
     let kind = r.kind;
@@ -276,7 +276,7 @@ fn write_turn(
     fx: &mut [u64],
     out: &mut [u8],
 ) -> WholeTurned
-    requires { ⌜ Whole (world s (now words)) × (tailAt r + tailOf r ≤ length (now rec)) ⌝ }
+    requires { ⌜ WellFormed (world s (now words)) × (tailAt r + tailOf r ≤ length (now rec)) ⌝ }
     ensures { λ o. ⌜ world (o .state) (now (words .entry)) ≡ step (world s (now (words .entry))) (writeIn r (now (rec .entry)) (length (now (fx .entry)))) .world ⌝ }
     ensures { λ o. ⌜ now (out .exit) ≡ sets (now (out .entry)) 0 (outcomeBytes (step (world s (now (words .entry))) (writeIn r (now (rec .entry)) (length (now (fx .entry)))))) ⌝ }
     ensures { λ o. ⌜ o .used ≡ length (outcomeBytes (step (world s (now (words .entry))) (writeIn r (now (rec .entry)) (length (now (fx .entry)))))) ⌝ }
@@ -299,7 +299,7 @@ fn write_turn(
 }
 
 // An event on the whole state: the host's, or a write. It leaves the queue's words as they are.
-fn whole_turn(
+fn state_turn(
     s: State,
     words: &[u64; 1024],
     rec: &[u8],
@@ -307,7 +307,7 @@ fn whole_turn(
     fx: &mut [u64],
     out: &mut [u8],
 ) -> WholeTurned
-    requires { ⌜ Whole (world s (now words)) × ((0 < nextOf (now rec)) × ((r ≡ recordOf (now rec)) × (isWhole (r .kind) ≡ true))) ⌝ }
+    requires { ⌜ WellFormed (world s (now words)) × ((0 < nextOf (now rec)) × ((r ≡ recordOf (now rec)) × (isOnState (r .kind) ≡ true))) ⌝ }
     ensures { λ o. ⌜ Told (world s (now (words .entry))) (world (o .state) (now (words .entry))) (eventAt (length (now (fx .entry))) (now (rec .entry))) (now (out .entry)) (now (out .exit)) (o .used) ⌝ }
     ensures { λ o. ⌜ now (fx .exit) ≡ sets (now (fx .entry)) 0 (storedBy (world s (now (words .entry))) (eventAt (length (now (fx .entry))) (now (rec .entry)))) ⌝ }
     ensures { λ o. ⌜ o .used ≤ roomOf (recordOf (now (rec .entry))) ⌝ }
@@ -334,7 +334,7 @@ fn find(rec: &[u8], r: Record, head: u8, first: &mut [u64], second: &mut [u64]) 
 
 // The host's events and the write look at more than one slot.
 fn is_whole(kind: u8) -> bool
-    ensures { λ r. ⌜ r ≡ isWhole kind ⌝ }
+    ensures { λ r. ⌜ r ≡ isOnState kind ⌝ }
 {
     if kind < 6 {
         return true;
@@ -457,7 +457,7 @@ fn run_all(scheme: u64, events: &[u8], end: usize, out: &mut [u8], fx: &mut [u64
                     },
                 },
             };
-            let t = whole_turn(s, &words, &events[at..], r, fx, &mut out[j..]);
+            let t = state_turn(s, &words, &events[at..], r, fx, &mut out[j..]);
             let after = t.state;
             let table = after.table;
             let driver = after.driver;

@@ -17,7 +17,7 @@ ghost use mathlib.Core.List.{List as Words};
 ghost use lib.ListN.{length};
 ghost use Prim.Native.Nat.{ℕ, _/_, _%_};
 ghost use lib.Seq.{sets};
-ghost use Rattle.state.specs.declared.State.{State as Whole};
+ghost use Rattle.state.specs.declared.State.{State as AnyState};
 ghost use Rattle.part.specs.Part.{Stands, found, leaves};
 ghost use Rattle.answer_words.specs.Words.{answerOf, repliedOf};
 ghost use Rattle.effect.specs.Effect.{effectWords};
@@ -41,7 +41,7 @@ pub struct Woken {
 }
 
 #[repr(C)]
-pub struct Received {
+pub struct ReadState {
     pub answer: AnswerWords,
     pub state: State,
 }
@@ -114,7 +114,7 @@ fn wake_part(
     base: u64,
     count: u64,
 ) -> WokenPart
-    ensures { λ r. ⌜ ((s : Whole) → Stands s (tag .0 % 64) p → outcome (repliedOf (r .woken .answer) (r .woken .reply) (r .woken .fds)) (effectWords (r .woken .effect)) (world (leaves s (tag .0 % 64) (r .woken .part) (r .holds)) (now (words .exit))) ≡ wakeOf (world (found s p h) (now (words .entry))) (tag .0) caller killed base count) ⌝ }
+    ensures { λ r. ⌜ ((s : AnyState) → Stands s (tag .0 % 64) p → outcome (repliedOf (r .woken .answer) (r .woken .reply) (r .woken .fds)) (effectWords (r .woken .effect)) (world (leaves s (tag .0 % 64) (r .woken .part) (r .holds)) (now (words .exit))) ≡ wakeOf (world (found s p h) (now (words .entry))) (tag .0) caller killed base count) ⌝ }
 {
     part_step::known(h);
     let all = h.holds;
@@ -182,7 +182,7 @@ pub fn wake(
 }
 
 // The words of the queue stay as they are; of the lent bytes those beyond the stored ones keep what they held.
-pub fn read(s: State, words: &[u64; 1024], out: &mut [u8], flags: u32) -> Received
+pub fn read(s: State, words: &[u64; 1024], out: &mut [u8], flags: u32) -> ReadState
     ensures { λ r. ⌜ answerOf (r .answer) ≡ readOf (world s (now (words .entry))) (length (now (out .entry))) flags .answer ⌝ }
     ensures { λ r. ⌜ world (r .state) (now (words .entry)) ≡ readOf (world s (now (words .entry))) (length (now (out .entry))) flags .world ⌝ }
     ensures { λ r. ⌜ now (out .exit) ≡ sets (now (out .entry)) 0 (readOf (world s (now (words .entry))) (length (now (out .entry))) flags .bytes) ⌝ }
@@ -208,7 +208,7 @@ pub fn read(s: State, words: &[u64; 1024], out: &mut [u8], flags: u32) -> Receiv
     t.next[0] = u.next;
     t.head = u.head;
     d.queue = left;
-    Received {
+    ReadState {
         answer: answer,
         state: State {
             driver: d,

@@ -18,7 +18,7 @@ use schemev2::Cqe;
 use schemev2::Sqe;
 use slot::Reply;
 use state::State;
-use state_step::Received;
+use state_step::ReadState;
 use state_step::Woken;
 use status::Status;
 ghost use mathlib.Core.Path.{_≡_};
@@ -318,7 +318,7 @@ pub extern "C" fn tilgurap_read(
     words: &[u64; 1024],
     out: &mut [u8],
     flags: u32,
-) -> Received
+) -> ReadState
     ensures { λ r. ⌜ answerOf (r .answer) ≡ readOf (world s (now (words .entry))) (length (now (out .entry))) flags .answer ⌝ }
     ensures { λ r. ⌜ world (r .state) (now (words .entry)) ≡ readOf (world s (now (words .entry))) (length (now (out .entry))) flags .world ⌝ }
     ensures { λ r. ⌜ now (out .exit) ≡ sets (now (out .entry)) 0 (readOf (world s (now (words .entry))) (length (now (out .entry))) flags .bytes) ⌝ }

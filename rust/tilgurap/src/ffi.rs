@@ -127,7 +127,7 @@ pub struct Woken {
 }
 
 #[repr(C)]
-pub struct Received {
+pub struct ReadState {
     pub answer: AnswerWords,
     pub state: State,
 }
@@ -193,7 +193,7 @@ const _: () = assert!(size_of::<Slot>() == 72 && size_of::<List>() == 17);
 const _: () = assert!(size_of::<Table>() == 4_936 && size_of::<Driver>() == 144);
 const _: () = assert!(size_of::<State>() == 5_080);
 const _: () = assert!(size_of::<Step>() == 5_120 && size_of::<Woken>() == 5_160);
-const _: () = assert!(size_of::<Received>() == 5_096 && size_of::<Completed>() == 5_104);
+const _: () = assert!(size_of::<ReadState>() == 5_096 && size_of::<Completed>() == 5_104);
 const _: () = assert!(size_of::<Regular>() == 24 && size_of::<OpenedWords>() == 24);
 const _: () = assert!(size_of::<Args>() == 48);
 #[cfg(feature = "script")]
@@ -288,7 +288,7 @@ unsafe extern "C" {
         out: *mut u8,
         out_len: usize,
         flags: u32,
-    ) -> Received;
+    ) -> ReadState;
     pub fn tilgurap_write(
         s: State,
         fx: *mut u64,

@@ -4,7 +4,7 @@ use Rattle.handles.specs.Handles.{handlesWith}
 use Rattle.run.proofs.Lanes.{entry-holds, entry-most, entry-part}
 use Rattle.run.proofs.Turns.{front-length, turned, write-whole, write-none, write-back}
 use Rattle.events.specs.World.{world}
-use Rattle.write.specs.Write.{stateWith}
+use Rattle.write.specs.Write.{stateWithHandles}
 use Rattle.part.specs.Part.{found}
 use native.Mathlib.Omega.{arith}
 use mathlib.Core.Path.{refl, _∙_}
@@ -46,7 +46,7 @@ same-length-2 : tie.Need-same-length-2
 same-length-2 c = search needs
 
 returns : tie.Need-returns
-returns c = let a = c .before .before .before .before .before .before .before .before .before .before .before .before .before .before .before .before .before .before .args in λ s o ws bs one ee whole st. (turned (a .out .now) _ _ _ _ _ _ _ _ (write-whole (world (found (stateWith s (handlesWith (a .handles .now))) (a .p) (holdsWith (a .all .now) o)) ws) whole (a .r .words .0) (c .before .before .before .before .before .before .before .before .before .before .before .before .before .before .least .result) _ (c .before .before .before .before .before .before .before .before .before .before .entry .result .words) (a .fx .now) _ bs bs (c .before .before .before .before .before .before .before .before .before .before .before .before .before .before .least .ensures) refl ((c .before .before .before .before .before .before .before .before .before .before .entry .ensures s o ws bs one ee st) .1 .1 .1) refl ((c .before .before .before .before .before .before .before .before .before .before .entry .ensures s o ws bs one ee st) .1 .1 .0)) (c .before .before .before .before .before .write-words .ensures ∙ (c .before .before .before .before .before .before .before .before .before .before .entry .ensures s o ws bs one ee st) .0) (entry-holds (world (found (stateWith s (handlesWith (a .handles .now))) (a .p) (holdsWith (a .all .now) o)) ws) whole (a .r .words .0) (c .before .before .before .before .before .before .before .before .before .before .before .before .before .before .least .result) _ (c .before .before .before .before .before .before .before .before .before .before .entry .result .words) (a .fx .now) _ bs (c .before .before .before .before .before .before .before .before .before .before .before .before .before .before .least .ensures) refl ((c .before .before .before .before .before .before .before .before .before .before .entry .ensures s o ws bs one ee st) .1 .1 .1) ((c .before .before .before .before .before .before .before .before .before .before .entry .ensures s o ws bs one ee st) .1 .1 .0) (c .before .before .before .before .before .before .before .least2 .result) (c .before .before .before .before .before .before .before .least2 .ensures)) (write-none (world (found (stateWith s (handlesWith (a .handles .now))) (a .p) (holdsWith (a .all .now) o)) ws) whole (a .r .words .0) (c .before .before .before .before .before .before .before .before .before .before .before .before .before .before .least .result) _ (c .before .before .before .before .before .before .before .before .before .before .entry .result .words) (a .fx .now) _ bs bs (c .before .before .before .before .before .before .before .before .before .before .before .before .before .before .least .ensures) refl ((c .before .before .before .before .before .before .before .before .before .before .entry .ensures s o ws bs one ee st) .1 .1 .1) refl ((c .before .before .before .before .before .before .before .before .before .before .entry .ensures s o ws bs one ee st) .1 .1 .0)) ((c .before .before .before .before .before .before .before .before .before .before .entry .ensures s o ws bs one ee st) .1 .0) (c .before .before .put-completed .ensures .0, c .before .before .put-completed .ensures .1 .0), (write-back (world (found (stateWith s (handlesWith (a .handles .now))) (a .p) (holdsWith (a .all .now) o)) ws) whole (a .r .words .0) (c .before .before .before .before .before .before .before .before .before .before .before .before .before .before .least .result) _ (c .before .before .before .before .before .before .before .before .before .before .entry .result .words) (a .fx .now) _ bs bs (c .before .before .before .before .before .before .before .before .before .before .before .before .before .before .least .ensures) refl ((c .before .before .before .before .before .before .before .before .before .before .entry .ensures s o ws bs one ee st) .1 .1 .1) refl ((c .before .before .before .before .before .before .before .before .before .before .entry .ensures s o ws bs one ee st) .1 .1 .0), entry-most (world (found (stateWith s (handlesWith (a .handles .now))) (a .p) (holdsWith (a .all .now) o)) ws) whole (a .r .words .0) (c .before .before .before .before .before .before .before .before .before .before .before .before .before .before .least .result) _ (c .before .before .before .before .before .before .before .before .before .before .entry .result .words) (a .fx .now) _ bs (c .before .before .before .before .before .before .before .before .before .before .before .before .before .before .least .ensures) refl ((c .before .before .before .before .before .before .before .before .before .before .entry .ensures s o ws bs one ee st) .1 .1 .1) ((c .before .before .before .before .before .before .before .before .before .before .entry .ensures s o ws bs one ee st) .1 .1 .0) (c .before .before .before .before .before .before .before .least2 .result) (c .before .before .before .before .before .before .before .least2 .ensures) _ (c .before .before .put-completed .ensures .1 .1)))
+returns c = let a = c .before .before .before .before .before .before .before .before .before .before .before .before .before .before .before .before .before .before .args in λ s o ws bs one ee whole st. (turned (a .out .now) _ _ _ _ _ _ _ _ (write-whole (world (found (stateWithHandles s (handlesWith (a .handles .now))) (a .p) (holdsWith (a .all .now) o)) ws) whole (a .r .words .0) (c .before .before .before .before .before .before .before .before .before .before .before .before .before .before .least .result) _ (c .before .before .before .before .before .before .before .before .before .before .entry .result .words) (a .fx .now) _ bs bs (c .before .before .before .before .before .before .before .before .before .before .before .before .before .before .least .ensures) refl ((c .before .before .before .before .before .before .before .before .before .before .entry .ensures s o ws bs one ee st) .1 .1 .1) refl ((c .before .before .before .before .before .before .before .before .before .before .entry .ensures s o ws bs one ee st) .1 .1 .0)) (c .before .before .before .before .before .write-words .ensures ∙ (c .before .before .before .before .before .before .before .before .before .before .entry .ensures s o ws bs one ee st) .0) (entry-holds (world (found (stateWithHandles s (handlesWith (a .handles .now))) (a .p) (holdsWith (a .all .now) o)) ws) whole (a .r .words .0) (c .before .before .before .before .before .before .before .before .before .before .before .before .before .before .least .result) _ (c .before .before .before .before .before .before .before .before .before .before .entry .result .words) (a .fx .now) _ bs (c .before .before .before .before .before .before .before .before .before .before .before .before .before .before .least .ensures) refl ((c .before .before .before .before .before .before .before .before .before .before .entry .ensures s o ws bs one ee st) .1 .1 .1) ((c .before .before .before .before .before .before .before .before .before .before .entry .ensures s o ws bs one ee st) .1 .1 .0) (c .before .before .before .before .before .before .before .least2 .result) (c .before .before .before .before .before .before .before .least2 .ensures)) (write-none (world (found (stateWithHandles s (handlesWith (a .handles .now))) (a .p) (holdsWith (a .all .now) o)) ws) whole (a .r .words .0) (c .before .before .before .before .before .before .before .before .before .before .before .before .before .before .least .result) _ (c .before .before .before .before .before .before .before .before .before .before .entry .result .words) (a .fx .now) _ bs bs (c .before .before .before .before .before .before .before .before .before .before .before .before .before .before .least .ensures) refl ((c .before .before .before .before .before .before .before .before .before .before .entry .ensures s o ws bs one ee st) .1 .1 .1) refl ((c .before .before .before .before .before .before .before .before .before .before .entry .ensures s o ws bs one ee st) .1 .1 .0)) ((c .before .before .before .before .before .before .before .before .before .before .entry .ensures s o ws bs one ee st) .1 .0) (c .before .before .put-completed .ensures .0, c .before .before .put-completed .ensures .1 .0), (write-back (world (found (stateWithHandles s (handlesWith (a .handles .now))) (a .p) (holdsWith (a .all .now) o)) ws) whole (a .r .words .0) (c .before .before .before .before .before .before .before .before .before .before .before .before .before .before .least .result) _ (c .before .before .before .before .before .before .before .before .before .before .entry .result .words) (a .fx .now) _ bs bs (c .before .before .before .before .before .before .before .before .before .before .before .before .before .before .least .ensures) refl ((c .before .before .before .before .before .before .before .before .before .before .entry .ensures s o ws bs one ee st) .1 .1 .1) refl ((c .before .before .before .before .before .before .before .before .before .before .entry .ensures s o ws bs one ee st) .1 .1 .0), entry-most (world (found (stateWithHandles s (handlesWith (a .handles .now))) (a .p) (holdsWith (a .all .now) o)) ws) whole (a .r .words .0) (c .before .before .before .before .before .before .before .before .before .before .before .before .before .before .least .result) _ (c .before .before .before .before .before .before .before .before .before .before .entry .result .words) (a .fx .now) _ bs (c .before .before .before .before .before .before .before .before .before .before .before .before .before .before .least .ensures) refl ((c .before .before .before .before .before .before .before .before .before .before .entry .ensures s o ws bs one ee st) .1 .1 .1) ((c .before .before .before .before .before .before .before .before .before .before .entry .ensures s o ws bs one ee st) .1 .1 .0) (c .before .before .before .before .before .before .before .least2 .result) (c .before .before .before .before .before .before .before .least2 .ensures) _ (c .before .before .put-completed .ensures .1 .1)))
 
 pub entry-turn-spec : {M : Type 1} → statement M
 entry-turn-spec =

@@ -144,29 +144,29 @@ loop-again-2 c = let a = c .before .before .before .before .before .before .befo
 is-whole-requires : tie.Need-is-whole-requires Inv-loop μ-loop
 is-whole-requires c κs = search needs
 
-sub-whole-turn : tie.Need-sub-whole-turn Inv-loop μ-loop
-sub-whole-turn c = omega (arith, c .before .before .before .before .before .before .before .before .before .before .before .loop .inv .0 .place)
+sub-state-turn : tie.Need-sub-state-turn Inv-loop μ-loop
+sub-state-turn c = omega (arith, c .before .before .before .before .before .before .before .before .before .before .before .loop .inv .0 .place)
 
-part-whole-turn-start : tie.Need-part-whole-turn-start Inv-loop μ-loop
-part-whole-turn-start c = omega (arith, c .before .before .before .before .before .before .before .before .before .before .before .loop .inv .0 .place)
+part-state-turn-start : tie.Need-part-state-turn-start Inv-loop μ-loop
+part-state-turn-start c = omega (arith, c .before .before .before .before .before .before .before .before .before .before .before .loop .inv .0 .place)
 
-part-whole-turn-end : tie.Need-part-whole-turn-end Inv-loop μ-loop
-part-whole-turn-end c = omega arith
+part-state-turn-end : tie.Need-part-state-turn-end Inv-loop μ-loop
+part-state-turn-end c = omega arith
 
-sub-whole-turn-2 : tie.Need-sub-whole-turn-2 Inv-loop μ-loop
-sub-whole-turn-2 c = let a = c .before .before .before .before .before .before .before .before .before .before .before .before .before .before .before .before .before .before .before .before .args in let l = c .before .before .before .before .before .before .before .before .before .before .before .before .before .loop in omega (arith, in-out (a .scheme) (a .events .now) (a .out .now) (a .fx .now) (a .end) (l .out) (l .fx) (l .words) (stateOf (l .own) (l .slots) (l .next) (l .head) (l .all) (l .outside) (handlesWith (l .handles)) (l .queue)) (l .at) (l .j) (l .inv .0))
+sub-state-turn-2 : tie.Need-sub-state-turn-2 Inv-loop μ-loop
+sub-state-turn-2 c = let a = c .before .before .before .before .before .before .before .before .before .before .before .before .before .before .before .before .before .before .before .before .args in let l = c .before .before .before .before .before .before .before .before .before .before .before .before .before .loop in omega (arith, in-out (a .scheme) (a .events .now) (a .out .now) (a .fx .now) (a .end) (l .out) (l .fx) (l .words) (stateOf (l .own) (l .slots) (l .next) (l .head) (l .all) (l .outside) (handlesWith (l .handles)) (l .queue)) (l .at) (l .j) (l .inv .0))
 
-part-whole-turn-start-2 : tie.Need-part-whole-turn-start-2 Inv-loop μ-loop
-part-whole-turn-start-2 c = let a = c .before .before .before .before .before .before .before .before .before .before .before .before .before .before .before .before .before .before .before .before .args in let l = c .before .before .before .before .before .before .before .before .before .before .before .before .before .loop in omega (arith, in-out (a .scheme) (a .events .now) (a .out .now) (a .fx .now) (a .end) (l .out) (l .fx) (l .words) (stateOf (l .own) (l .slots) (l .next) (l .head) (l .all) (l .outside) (handlesWith (l .handles)) (l .queue)) (l .at) (l .j) (l .inv .0))
+part-state-turn-start-2 : tie.Need-part-state-turn-start-2 Inv-loop μ-loop
+part-state-turn-start-2 c = let a = c .before .before .before .before .before .before .before .before .before .before .before .before .before .before .before .before .before .before .before .before .args in let l = c .before .before .before .before .before .before .before .before .before .before .before .before .before .loop in omega (arith, in-out (a .scheme) (a .events .now) (a .out .now) (a .fx .now) (a .end) (l .out) (l .fx) (l .words) (stateOf (l .own) (l .slots) (l .next) (l .head) (l .all) (l .outside) (handlesWith (l .handles)) (l .queue)) (l .at) (l .j) (l .inv .0))
 
-part-whole-turn-end-2 : tie.Need-part-whole-turn-end-2 Inv-loop μ-loop
-part-whole-turn-end-2 c = omega arith
+part-state-turn-end-2 : tie.Need-part-state-turn-end-2 Inv-loop μ-loop
+part-state-turn-end-2 c = omega arith
 
-whole-turn-requires : tie.Need-whole-turn-requires Inv-loop μ-loop
-whole-turn-requires c κs = let a = c .before .before .before .before .before .before .before .before .before .before .before .before .before .before .before .before .before .before .before .before .before .args in let l = c .before .before .before .before .before .before .before .before .before .before .before .before .before .before .loop in (whole (a .scheme) (a .events .now) (a .out .now) (a .fx .now) (a .end) (l .out) (l .fx) (l .words) (stateOf (l .own) (l .slots) (l .next) (l .head) (l .all) (l .outside) (handlesWith (l .handles)) (l .queue)) (l .at) (l .j) (l .inv .0), (some-next (a .scheme) (a .events .now) (a .out .now) (a .fx .now) (a .end) (l .out) (l .fx) (l .words) (stateOf (l .own) (l .slots) (l .next) (l .head) (l .all) (l .outside) (handlesWith (l .handles)) (l .queue)) (l .at) (l .j) (l .inv .0) (c .before .before .before .before .before .before .before .before .before .before .before .before .before .loop-test .taken), (c .before .before .before .before .before .before .before .before .before .before .before .record-at .ensures, sym (c .before .before .before .before .before .is-whole .ensures) ∙ c .before .before .before .before .if3 .taken)))
+state-turn-requires : tie.Need-state-turn-requires Inv-loop μ-loop
+state-turn-requires c κs = let a = c .before .before .before .before .before .before .before .before .before .before .before .before .before .before .before .before .before .before .before .before .before .args in let l = c .before .before .before .before .before .before .before .before .before .before .before .before .before .before .loop in (whole (a .scheme) (a .events .now) (a .out .now) (a .fx .now) (a .end) (l .out) (l .fx) (l .words) (stateOf (l .own) (l .slots) (l .next) (l .head) (l .all) (l .outside) (handlesWith (l .handles)) (l .queue)) (l .at) (l .j) (l .inv .0), (some-next (a .scheme) (a .events .now) (a .out .now) (a .fx .now) (a .end) (l .out) (l .fx) (l .words) (stateOf (l .own) (l .slots) (l .next) (l .head) (l .all) (l .outside) (handlesWith (l .handles)) (l .queue)) (l .at) (l .j) (l .inv .0) (c .before .before .before .before .before .before .before .before .before .before .before .before .before .loop-test .taken), (c .before .before .before .before .before .before .before .before .before .before .before .record-at .ensures, sym (c .before .before .before .before .before .is-whole .ensures) ∙ c .before .before .before .before .if3 .taken)))
 
 add-j-3 : tie.Need-add-j-3 Inv-loop μ-loop
-add-j-3 c = let a = c .before .before .before .before .before .before .before .before .before .before .before .before .before .before .before .before .before .before .before .before .before .before .before .before .before .before .before .before .before .before .before .before .before .before .before .before .before .before .args in let l = c .before .before .before .before .before .before .before .before .before .before .before .before .before .before .before .before .before .before .before .before .before .before .before .before .before .before .before .before .before .before .before .loop in omega (arith, room-more (a .scheme) (a .events .now) (a .out .now) (a .fx .now) (a .end) (l .out) (l .fx) (l .words) (stateOf (l .own) (l .slots) (l .next) (l .head) (l .all) (l .outside) (handlesWith (l .handles)) (l .queue)) (l .at) (l .j) (l .inv .0) (c .before .before .before .before .before .before .before .before .before .before .before .before .before .before .before .before .before .before .before .before .before .before .before .before .before .before .before .before .before .before .loop-test .taken) (c .before .before .before .before .before .before .before .before .before .before .before .before .before .before .before .before .before .before .before .before .before .before .before .before .before .before .before .size-by .result) (c .before .before .before .before .before .before .before .before .before .before .before .before .before .before .before .before .before .before .before .before .before .before .before .before .before .before .before .size-by .ensures ∙ ap sizeOf (c .before .before .before .before .before .before .before .before .before .before .before .before .before .before .before .before .before .before .before .before .before .before .before .before .before .before .before .before .record-at .ensures)) (c .before .before .before .before .before .before .before .before .before .before .before .before .before .before .before .before .whole-turn .result .used) (c .before .before .before .before .before .before .before .before .before .before .before .before .before .before .before .before .whole-turn .ensures .1 .1), c .before .before .before .before .before .before .before .before .before .before .before .before .before .before .before .before .before .before .before .before .before .before .before .before .before .before .before .before .before .before .before .before .before .before .before .before .before .before .good .1 .1 .1 .0 .0)
+add-j-3 c = let a = c .before .before .before .before .before .before .before .before .before .before .before .before .before .before .before .before .before .before .before .before .before .before .before .before .before .before .before .before .before .before .before .before .before .before .before .before .before .before .args in let l = c .before .before .before .before .before .before .before .before .before .before .before .before .before .before .before .before .before .before .before .before .before .before .before .before .before .before .before .before .before .before .before .loop in omega (arith, room-more (a .scheme) (a .events .now) (a .out .now) (a .fx .now) (a .end) (l .out) (l .fx) (l .words) (stateOf (l .own) (l .slots) (l .next) (l .head) (l .all) (l .outside) (handlesWith (l .handles)) (l .queue)) (l .at) (l .j) (l .inv .0) (c .before .before .before .before .before .before .before .before .before .before .before .before .before .before .before .before .before .before .before .before .before .before .before .before .before .before .before .before .before .before .loop-test .taken) (c .before .before .before .before .before .before .before .before .before .before .before .before .before .before .before .before .before .before .before .before .before .before .before .before .before .before .before .size-by .result) (c .before .before .before .before .before .before .before .before .before .before .before .before .before .before .before .before .before .before .before .before .before .before .before .before .before .before .before .size-by .ensures ∙ ap sizeOf (c .before .before .before .before .before .before .before .before .before .before .before .before .before .before .before .before .before .before .before .before .before .before .before .before .before .before .before .before .record-at .ensures)) (c .before .before .before .before .before .before .before .before .before .before .before .before .before .before .before .before .state-turn .result .used) (c .before .before .before .before .before .before .before .before .before .before .before .before .before .before .before .before .state-turn .ensures .1 .1), c .before .before .before .before .before .before .before .before .before .before .before .before .before .before .before .before .before .before .before .before .before .before .before .before .before .before .before .before .before .before .before .before .before .before .before .before .before .before .good .1 .1 .1 .0 .0)
 
 add-at-3 : tie.Need-add-at-3 Inv-loop μ-loop
 add-at-3 c = let a = c .before .before .before .before .before .before .before .before .before .before .before .before .before .before .before .before .before .before .before .before .before .before .before .before .before .before .before .before .before .before .before .before .before .before .before .before .before .before .args in let l = c .before .before .before .before .before .before .before .before .before .before .before .before .before .before .before .before .before .before .before .before .before .before .before .before .before .before .before .before .before .before .before .loop in omega (arith, place-more (a .scheme) (a .events .now) (a .out .now) (a .fx .now) (a .end) (l .out) (l .fx) (l .words) (stateOf (l .own) (l .slots) (l .next) (l .head) (l .all) (l .outside) (handlesWith (l .handles)) (l .queue)) (l .at) (l .j) (l .inv .0) (c .before .before .before .before .before .before .before .before .before .before .before .before .before .before .before .before .before .before .before .before .before .before .before .before .before .before .before .before .before .before .loop-test .taken) (c .before .before .before .before .before .before .before .before .before .before .before .before .before .before .before .before .before .before .before .before .before .before .before .before .before .before .before .size-by .result) (c .before .before .before .before .before .before .before .before .before .before .before .before .before .before .before .before .before .before .before .before .before .before .before .before .before .before .before .size-by .ensures ∙ ap sizeOf (c .before .before .before .before .before .before .before .before .before .before .before .before .before .before .before .before .before .before .before .before .before .before .before .before .before .before .before .before .record-at .ensures)), c .before .before .before .before .before .before .before .before .before .before .before .before .before .before .before .before .before .before .before .before .before .before .before .before .before .before .before .before .before .before .before .before .before .before .before .before .before .before .good .1 .0 .0)
@@ -175,7 +175,7 @@ loop-less-3 : tie.Need-loop-less-3 Inv-loop μ-loop
 loop-less-3 c = let a = c .before .before .before .before .before .before .before .before .before .before .before .before .before .before .before .before .before .before .before .before .before .before .before .before .before .before .before .before .before .before .before .before .before .before .before .before .before .before .args in let l = c .before .before .before .before .before .before .before .before .before .before .before .before .before .before .before .before .before .before .before .before .before .before .before .before .before .before .before .before .before .before .before .loop in omega (arith, place-more (a .scheme) (a .events .now) (a .out .now) (a .fx .now) (a .end) (l .out) (l .fx) (l .words) (stateOf (l .own) (l .slots) (l .next) (l .head) (l .all) (l .outside) (handlesWith (l .handles)) (l .queue)) (l .at) (l .j) (l .inv .0) (c .before .before .before .before .before .before .before .before .before .before .before .before .before .before .before .before .before .before .before .before .before .before .before .before .before .before .before .before .before .before .loop-test .taken) (c .before .before .before .before .before .before .before .before .before .before .before .before .before .before .before .before .before .before .before .before .before .before .before .before .before .before .before .size-by .result) (c .before .before .before .before .before .before .before .before .before .before .before .before .before .before .before .before .before .before .before .before .before .before .before .before .before .before .before .size-by .ensures ∙ ap sizeOf (c .before .before .before .before .before .before .before .before .before .before .before .before .before .before .before .before .before .before .before .before .before .before .before .before .before .before .before .before .record-at .ensures)), some-size (a .scheme) (a .events .now) (a .out .now) (a .fx .now) (a .end) (l .out) (l .fx) (l .words) (stateOf (l .own) (l .slots) (l .next) (l .head) (l .all) (l .outside) (handlesWith (l .handles)) (l .queue)) (l .at) (l .j) (l .inv .0) (c .before .before .before .before .before .before .before .before .before .before .before .before .before .before .before .before .before .before .before .before .before .before .before .before .before .before .before .before .before .before .loop-test .taken) (c .before .before .before .before .before .before .before .before .before .before .before .before .before .before .before .before .before .before .before .before .before .before .before .before .before .before .before .size-by .result) (c .before .before .before .before .before .before .before .before .before .before .before .before .before .before .before .before .before .before .before .before .before .before .before .before .before .before .before .size-by .ensures ∙ ap sizeOf (c .before .before .before .before .before .before .before .before .before .before .before .before .before .before .before .before .before .before .before .before .before .before .before .before .before .before .before .before .record-at .ensures)))
 
 loop-again-3 : tie.Need-loop-again-3 Inv-loop μ-loop
-loop-again-3 c = let a = c .before .before .before .before .before .before .before .before .before .before .before .before .before .before .before .before .before .before .before .before .before .before .before .before .before .before .before .before .before .before .before .before .before .before .before .before .before .before .args in let l = c .before .before .before .before .before .before .before .before .before .before .before .before .before .before .before .before .before .before .before .before .before .before .before .before .before .before .before .before .before .before .before .loop in (goes-on-told (a .scheme) (a .events .now) (a .out .now) (a .fx .now) (a .end) (l .out) (l .fx) (l .words) (stateOf (l .own) (l .slots) (l .next) (l .head) (l .all) (l .outside) (handlesWith (l .handles)) (l .queue)) (l .at) (l .j) (l .inv .0) (c .before .before .before .before .before .before .before .before .before .before .before .before .before .before .before .before .before .before .before .before .before .before .before .before .before .before .before .before .before .before .loop-test .taken) (c .before .before .before .before .before .before .before .before .before .before .before .before .before .before .before .before .before .before .before .before .before .before .before .before .before .before .before .size-by .result) (c .before .before .before .before .before .before .before .before .before .before .before .before .before .before .before .before .before .before .before .before .before .before .before .before .before .before .before .size-by .ensures ∙ ap sizeOf (c .before .before .before .before .before .before .before .before .before .before .before .before .before .before .before .before .before .before .before .before .before .before .before .before .before .before .before .before .record-at .ensures)) _ _ _ _ (c .before .before .before .before .before .before .before .before .before .before .before .before .before .before .before .before .whole-turn .result .used) (c .before .before .before .before .before .before .before .before .before .before .before .before .before .before .before .before .whole-turn .ensures .0) (c .before .before .before .before .before .before .before .before .before .before .before .before .before .before .before .before .whole-turn .ensures .1 .0) (c .before .before .before .before .before .before .before .before .before .before .before .before .before .before .before .before .whole-turn .ensures .1 .1), l .inv .1, l .inv .2, l .inv .3)
+loop-again-3 c = let a = c .before .before .before .before .before .before .before .before .before .before .before .before .before .before .before .before .before .before .before .before .before .before .before .before .before .before .before .before .before .before .before .before .before .before .before .before .before .before .args in let l = c .before .before .before .before .before .before .before .before .before .before .before .before .before .before .before .before .before .before .before .before .before .before .before .before .before .before .before .before .before .before .before .loop in (goes-on-told (a .scheme) (a .events .now) (a .out .now) (a .fx .now) (a .end) (l .out) (l .fx) (l .words) (stateOf (l .own) (l .slots) (l .next) (l .head) (l .all) (l .outside) (handlesWith (l .handles)) (l .queue)) (l .at) (l .j) (l .inv .0) (c .before .before .before .before .before .before .before .before .before .before .before .before .before .before .before .before .before .before .before .before .before .before .before .before .before .before .before .before .before .before .loop-test .taken) (c .before .before .before .before .before .before .before .before .before .before .before .before .before .before .before .before .before .before .before .before .before .before .before .before .before .before .before .size-by .result) (c .before .before .before .before .before .before .before .before .before .before .before .before .before .before .before .before .before .before .before .before .before .before .before .before .before .before .before .size-by .ensures ∙ ap sizeOf (c .before .before .before .before .before .before .before .before .before .before .before .before .before .before .before .before .before .before .before .before .before .before .before .before .before .before .before .before .record-at .ensures)) _ _ _ _ (c .before .before .before .before .before .before .before .before .before .before .before .before .before .before .before .before .state-turn .result .used) (c .before .before .before .before .before .before .before .before .before .before .before .before .before .before .before .before .state-turn .ensures .0) (c .before .before .before .before .before .before .before .before .before .before .before .before .before .before .before .before .state-turn .ensures .1 .0) (c .before .before .before .before .before .before .before .before .before .before .before .before .before .before .before .before .state-turn .ensures .1 .1), l .inv .1, l .inv .2, l .inv .3)
 
 sub-find : tie.Need-sub-find Inv-loop μ-loop
 sub-find c = omega (arith, c .before .before .before .before .before .before .before .before .before .before .loop .inv .0 .place)
@@ -319,13 +319,13 @@ run-all-spec =
     loop-less-2
     loop-again-2
     is-whole-requires
-    sub-whole-turn
-    part-whole-turn-start
-    part-whole-turn-end
-    sub-whole-turn-2
-    part-whole-turn-start-2
-    part-whole-turn-end-2
-    whole-turn-requires
+    sub-state-turn
+    part-state-turn-start
+    part-state-turn-end
+    sub-state-turn-2
+    part-state-turn-start-2
+    part-state-turn-end-2
+    state-turn-requires
     add-j-3
     add-at-3
     loop-less-3

@@ -1,7 +1,7 @@
--- `run::whole_turn` meets its contract. Assumes nothing.
+-- `run::state_turn` meets its contract. Assumes nothing.
 use borrow.Author.Needs.{needs}
-use Rattle.run.proofs.whole_turn.Statement.{statement}
-use Rattle.run.proofs.whole_turn.Tie as tie
+use Rattle.run.proofs.state_turn.Statement.{statement}
+use Rattle.run.proofs.state_turn.Tie as tie
 use lib.ListN.{length}
 use Rattle.events.specs.World.{world}
 use Rattle.run.proofs.ByKind.{told-of, stored-of, tail-there, kind-there, whole-low, write-is, list-is, list-stores, room-of, room-write, room-other}
@@ -29,8 +29,8 @@ same-length-3 c = search needs
 returns-2 : tie.Need-returns-2
 returns-2 c = let a = c .before .before .before .before .before .before .before .before .args in let q = list-is (a .rec .now) (length (a .fx .now)) (a .r) (c .before .before .before .before .before .before .before .before .pre .1 .1 .0) in (told-of (world (a .s) (a .words .now)) _ _ _ (a .out .now) _ _ q (c .before .before .host-turn .ensures .0 (wordsAt (a .rec .now) (firstAt (a .r)) (a .r .first)) (wordsAt (a .rec .now) (secondAt (a .r)) (a .r .second)) (take (tailOf (a .r)) (drop (tailAt (a .r)) (a .rec .now))) (a .words .now) (length (a .fx .now))), (stored-of (world (a .s) (a .words .now)) _ _ (a .fx .now) _ q (list-stores (a .rec .now) (length (a .fx .now)) (a .r) (c .before .before .before .before .before .before .before .before .pre .1 .1 .0) (world (a .s) (a .words .now)) (a .fx .now) (c .before .before .before .before .if1 .left)), room-of (a .rec .now) (a .r) _ (c .before .before .before .before .before .before .before .before .pre .1 .1 .0) (room-other (a .r) _ (c .before .before .host-turn .ensures .1))))
 
-pub whole-turn-spec : {M : Type 1} → statement M
-whole-turn-spec =
+pub state-turn-spec : {M : Type 1} → statement M
+state-turn-spec =
     tie.close
     (tie.spec
     write-turn-requires
