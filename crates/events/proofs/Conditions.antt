@@ -22,7 +22,7 @@ use Rattle.events.specs.World.{World, tableOf, queueOf, holdsOf, handles
 use Rattle.events.specs.Submit.{badOpcode, tableFull, isPlaceholder, submittable, wrongKind}
 use Rattle.events.specs.Wake.{awaits, wakeable}
 use Rattle.events.specs.Descriptors.{requestOf, wrongWords}
-use Rattle.events.specs.Complete.{isVacant, isWaiting}
+use Rattle.events.specs.Entry.{isVacant, isWaiting}
 use Rattle.events.specs.Whole.{Whole}
 use Rattle.events.specs.Exactly.{inState, vacant, noSlotVacant, all128Unread, holdsIn, outsideIn, lacks, handleAt, wrongOpcode, wrongFsKind}
 

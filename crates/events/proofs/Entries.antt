@@ -12,8 +12,7 @@ use Rattle.fd_list.specs.declared.List.{List as Fds}
 use Rattle.fd_list.specs.Lists.{numbers}
 use Rattle.flag.specs.Flags.{within, eventFlags, fobtainFdFlags}
 use Rattle.handles.specs.declared.Handles.{Handles}
-use Rattle.handles.specs.Handles.{obtainOf}
-use Rattle.holds.specs.declared.Holds.{Holds}
+use Rattle.handles.specs.Handles.{heldAt, emptied, obtainOf}
 use Rattle.parse_cqe.specs.Parsed.{parsedBy, eventIf, obtainIf}
 use Rattle.schemev2.specs.declared.Cqe.{Cqe}
 use Rattle.schemev2.specs.declared.CqeOpcode.{CqeOpcode}
@@ -26,14 +25,16 @@ use Rattle.slot.specs.Slots.{phaseOf, respondedOf, withFdsOf}
 use Rattle.table.specs.Reached.{idle}
 use Rattle.table.specs.Table.{slotAt, putAt, vacateAt}
 use Rattle.table.proofs.Chain.{occupied-within}
-use Rattle.events.specs.World.{World, tableOf, holdsOf, handlesOf, slotIn, phaseIn, withTable, tableWith, withHandles}
+use Rattle.events.specs.World.{World, tableOf, holdsOf, handlesOf, slotIn, phaseIn}
 use Rattle.events.specs.Outcome.{Outcome, outcome}
 use Rattle.events.specs.Wake.{responseOf}
-use Rattle.events.specs.Complete.{Entered, accepted, rejected, reject, Offer, result, one, listed, responseTo, storedAs, keptFds, isWaiting, inHandle, servedBy, respondBy, handleRows, byDescriptor, obtainRows, obtained, obtainEntryOf, entryBy, entryOf, stopped, onEntered, writeOn}
+use Rattle.events.specs.Entry.{Decision, Offer, result, one, listed, responseTo, storedAs, keptFds, namedOf, isWaiting, inHandle, servedBy, respondBy, takenOut, byDescriptor, obtainRows, obtained, obtainEntryOf}
+use Rattle.events.specs.Complete.{Entered, accepted, rejected, carried, entryBy, entryOf, stopped, onEntered, writeOn}
 use Rattle.events.specs.History.{Place, Fact, serve, hands, counted, isReply, offerOf, reading, worldOf, pour}
 use Rattle.events.specs.Demand3.{unreadIn}
 use Rattle.events.specs.Whole.{Whole}
 use Rattle.events.proofs.Checked.{checked-cases}
+use Rattle.events.proofs.Decided.{refusedIn, carried-cases}
 use Rattle.events.proofs.Inv.{Inv, inv-same, inv-serve, inv-lose}
 use Rattle.events.proofs.Stage.{core, coreBy}
 use Rattle.events.proofs.Stored.{heldOf, put-stored, vacate-stored}
@@ -69,49 +70,44 @@ Entered-ok w h told (accepted fx u) = InvOf u told × (unreadIn u ≡ unreadIn w
 Entered-ok w h told (rejected k fx u) = InvOf u h × (unreadIn u ≡ unreadIn w)
 
 module _ (w : World) (h : List Fact) (whole : Whole w) (i : InvOf w h) where
-  -- a reply entry: w' is what a refusal leaves, u what it is served on; both differ from w in handles and holds alone
-  module _ (q : Place) (n : ℕ) (o : Offer) (k' k : Handles) (g' g : Holds) (fx : List ℕ) where
-    abbrev left : World
-    left = withHandles (withTable w (tableWith (tableOf w) g')) k'
+  -- a reply entry, served with the handles k
+  module _ (q : Place) (n : ℕ) (o : Offer) (k : Handles) where
+    abbrev Replied : Decision → Type 0
+    Replied d = Entered-ok w h (serve q n (responseTo (slotIn w n) o) ∷ h) (carried w n d)
 
-    abbrev used : World
-    used = withHandles (withTable w (tableWith (tableOf w) g)) k
-
-    abbrev Replied : Entered → Type 0
-    Replied e = Entered-ok w h (serve q n (responseTo (slotIn w n) o) ∷ h) e
-
-    serve-go : (b : Bool) → phaseIn w n ≡ Waiting → slotIn w n .ended ≡ b → Replied (servedBy b used n o)
+    serve-go : (b : Bool) → phaseIn w n ≡ Waiting → slotIn w n .ended ≡ b → Replied (servedBy b (slotIn w n) n o (holdsOf w) k)
     serve-go false p e =
         let b = in-range w n Waiting p refl in
         let v = respondedOf (slotIn w n) (storedAs (responseTo (slotIn w n) o)) (keptFds o (slotIn w n)) in (
-          inv-serve (slotIn w) (heldOf (tableOf w)) h i n q (responseTo (slotIn w n) o) (storedAs (responseTo (slotIn w n) o)) (keptFds o (slotIn w n)) (slotAt (putAt (tableOf used) n v)) (heldOf (putAt (tableOf used) n v))
-              (put-stored (tableOf used) (whole .slots) n v b) p e (reads-back (slotIn w n) o),
+          inv-serve (slotIn w) (heldOf (tableOf w)) h i n q (responseTo (slotIn w n) o) (storedAs (responseTo (slotIn w n) o)) (keptFds o (slotIn w n)) (slotAt (putAt (tableOf w) n v)) (heldOf (putAt (tableOf w) n v))
+              (put-stored (tableOf w) (whole .slots) n v b) p e (reads-back (slotIn w n) o),
           refl,
         )
     serve-go true p e =
         let b = in-range w n Waiting p refl in (
-          inv-lose (slotIn w) (heldOf (tableOf w)) h i n q (responseTo (slotIn w n) o) (slotAt (vacateAt (tableOf used) n)) (heldOf (vacateAt (tableOf used) n))
-              (vacate-stored (tableOf used) (whole .slots) n b) p e,
+          inv-lose (slotIn w) (heldOf (tableOf w)) h i n q (responseTo (slotIn w n) o) (slotAt (vacateAt (tableOf w) n)) (heldOf (vacateAt (tableOf w) n))
+              (vacate-stored (tableOf w) (whole .slots) n b) p e,
           refl,
         )
 
-    respond-go : (p : Phase) → phaseIn w n ≡ p → Replied (respondBy p left fx used n o)
-    respond-go Vacant e = (i, refl)
-    respond-go Placeholder e = (i, refl)
-    respond-go Waiting e = serve-go (slotIn w n .ended) e refl
-    respond-go Responded e = (i, refl)
-    respond-go Fmap e = (i, refl)
+    respond-go : (turn : ℕ → Decision) → Replied (turn 77) → Replied (turn 22) → (p : Phase) → phaseIn w n ≡ p → Replied (respondBy p turn (slotIn w n) n o (holdsOf w) k)
+    respond-go turn x y Vacant e = x
+    respond-go turn x y Placeholder e = x
+    respond-go turn x y Waiting e = serve-go (slotIn w n .ended) e refl
+    respond-go turn x y Responded e = y
+    respond-go turn x y Fmap e = y
 
-  obtain-ok : (n k : ℕ) → Entered-ok w h h (obtainEntryOf w n k)
+  obtain-ok : (n k : ℕ) → Entered-ok w h h (carried w n (obtainEntryOf (slotIn w n) k (holdsOf w) (handlesOf w)))
   obtain-ok n k =
-      checked-cases (Entered-ok w h h) (reject w) (obtainRows w n) (obtained w n k) (λ m. (i, refl))
+      checked-cases (λ (d : Decision). Entered-ok w h h (carried w n d)) (refusedIn w n) (obtainRows (slotIn w n)) (obtained (slotIn w n) k (holdsOf w) (handlesOf w))
+      (λ m. carried-cases (Entered-ok w h h) w n (refusedIn w n m) (i, refl) (i, refl))
       (λ f. go (waiting-is (phaseIn w n) (waits (isWaiting (phaseIn w n)) (eqb (length (numbers (slotIn w n .fds))) 0) (f .1 .0))))
     where
       waits : (a b : Bool) → not a || b ≡ false → a ≡ true
       waits true b e = refl
       waits false b e = absurd (let z : _≡_ {A = ℕ} 0 1 = cc in omega arith)
 
-      go : phaseIn w n ≡ Waiting → Entered-ok w h h (obtained w n k)
+      go : phaseIn w n ≡ Waiting → Entered-ok w h h (carried w n (obtained (slotIn w n) k (holdsOf w) (handlesOf w)))
       go p =
           let v = withFdsOf (slotIn w n) (obtainOf (holdsOf w) (handlesOf w) (slotIn w n .fds) k .list) in (
             inv-same (slotIn w) (heldOf (tableOf w)) h i n v (slotAt (putAt (tableOf w) n v)) (heldOf (putAt (tableOf w) n v))
@@ -124,24 +120,31 @@ module _ (w : World) (h : List Fact) (whole : Whole w) (i : InvOf w h) where
     abbrev toldBy : CqeOpcode → List Fact
     toldBy k = cond (isReply k) (serve q (e .tag) (responseTo (slotIn w (e .tag)) (offerOf k w e)) ∷ h) h
 
-    event-go : (b : Bool) → Entered-ok w h h (entryBy (eventIf b e) w)
+    event-go : (b : Bool) → Entered-ok w h h (entryBy (eventIf b e) w (e .tag))
     event-go true = (i, refl)
     event-go false = (i, refl)
 
-    obtain-go : (b : Bool) → Entered-ok w h h (entryBy (obtainIf b e) w)
+    obtain-go : (b : Bool) → Entered-ok w h h (entryBy (obtainIf b e) w (e .tag))
     obtain-go true = obtain-ok (e .tag) (e .result)
     obtain-go false = (i, refl)
 
-    kind-go : (k : CqeOpcode) → Entered-ok w h (toldBy k) (entryBy (parsedBy k e) w)
-    kind-go RespondRegular = respond-go q (e .tag) (offerOf RespondRegular w e) (handlesOf w) (handlesOf w) (holdsOf w) (holdsOf w) [] (phaseIn w (e .tag)) refl
-    kind-go RespondWithFd =
-        checked-cases (Entered-ok w h (toldBy RespondWithFd)) (reject w) (handleRows w (e .result)) (byDescriptor w (e .tag) (e .result)) (λ m. (i, refl))
-        (λ f. respond-go q (e .tag) (one (inHandle w (e .result))) _ _ _ _ _ (phaseIn w (e .tag)) refl)
+    -- is the handle empty
+    handle-go :
+        (b : Bool)
+        → Entered-ok w h (toldBy RespondWithFd)
+        (carried w (e .tag) (cond b (refusedIn w (e .tag) 22) (byDescriptor (slotIn w (e .tag)) (e .tag) (e .result) (holdsOf w) (handlesOf w))))
+    handle-go true = (i, refl)
+    handle-go false = respond-go q (e .tag) (one (inHandle (handlesOf w) (e .result))) (emptied (handlesOf w) (e .result))
+        (takenOut (slotIn w (e .tag)) (numbers (namedOf (inHandle (handlesOf w) (e .result)))) (holdsOf w) (emptied (handlesOf w) (e .result))) (i, refl) (i, refl) (phaseIn w (e .tag)) refl
+
+    kind-go : (k : CqeOpcode) → Entered-ok w h (toldBy k) (entryBy (parsedBy k e) w (e .tag))
+    kind-go RespondRegular = respond-go q (e .tag) (offerOf RespondRegular w e) (handlesOf w) (refusedIn w (e .tag)) (i, refl) (i, refl) (phaseIn w (e .tag)) refl
+    kind-go RespondWithFd = handle-go (eqb (heldAt (handlesOf w) (e .result)) 0)
     kind-go SendFevent = event-go (within eventFlags (e .tag))
     kind-go ObtainFd = obtain-go (within fobtainFdFlags (extraOf e))
-    kind-go RespondWithMultipleFds = respond-go q (e .tag) listed (handlesOf w) (handlesOf w) (holdsOf w) (holdsOf w) [] (phaseIn w (e .tag)) refl
+    kind-go RespondWithMultipleFds = respond-go q (e .tag) listed (handlesOf w) (refusedIn w (e .tag)) (i, refl) (i, refl) (phaseIn w (e .tag)) refl
     kind-go RespondAndNotifyOnDetach =
-        respond-go q (e .tag) (offerOf RespondAndNotifyOnDetach w e) (handlesOf w) (handlesOf w) (holdsOf w) (holdsOf w) [] (phaseIn w (e .tag)) refl
+        respond-go q (e .tag) (offerOf RespondAndNotifyOnDetach w e) (handlesOf w) (refusedIn w (e .tag)) (i, refl) (i, refl) (phaseIn w (e .tag)) refl
     kind-go Unknown = (i, refl)
 
     entry-ok : Entered-ok w h (toldBy (cqeOpcodeOf (kindOf e))) (entryOf w e)

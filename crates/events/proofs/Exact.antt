@@ -8,17 +8,16 @@ use lib.Dec.{ltb, eqb}
 use lib.ListN.{length, length-append, drop}
 use borrow.Author.Tests.{lt-ltb, ltb-false, eqb-true}
 use Rattle.counts.specs.Counts.{lasts}
-use Rattle.closes.specs.declared.Reason.the-variants.{Replied, Ended, Refused, Unusable}
+use Rattle.closes.specs.declared.Reason.the-variants.{Replied, Ended, Unusable}
 use Rattle.closes.specs.Closes.{closing, only, closes}
 use Rattle.closes.proofs.Laws.{closes-room}
-use Rattle.error.specs.declared.Result.the-variants.{Ok, Err}
 use Rattle.error.specs.Errors.{demuxOf}
 use Rattle.fd_list.specs.declared.List.{List as Fds}
-use Rattle.fd_list.specs.Lists.{numbers}
+use Rattle.fd_list.specs.Lists.{numbers, listOf}
 use Rattle.fd_list.proofs.Laws.{numbers-most}
 use Rattle.flag.specs.Flags.{within, eventFlags, fobtainFdFlags}
 use Rattle.handles.specs.declared.Handles.{Handles}
-use Rattle.handles.specs.Handles.{isFree, obtainLasts, obtainCloses}
+use Rattle.handles.specs.Handles.{heldAt, emptied, isFree, obtainLasts, obtainCloses}
 use Rattle.holds.specs.declared.Holds.{Holds}
 use Rattle.holds.specs.Holds.{discardedOf, unheld}
 use Rattle.host_holds.specs.declared.OpenAnswer.the-variants as opening
@@ -37,22 +36,25 @@ use Rattle.schemev2.specs.Entry.{kindOf, extraOf, cqeOpcodeOf}
 use Rattle.slot.specs.declared.PageSpan.{PageSpan}
 use Rattle.slot.specs.declared.Phase.{Phase}
 use Rattle.slot.specs.declared.Phase.the-variants.{Vacant, Placeholder, Waiting, Responded, Fmap}
+use Rattle.slot.specs.Slots.{noFds}
 use Rattle.wait_queue.specs.declared.WaitQueue.{WaitQueue}
 use Rattle.wait_queue_receive.specs.Receive.{receiveAnswer, emptyBy, receivedIf}
-use Rattle.events.specs.World.{World, queueOf, holdsOf, handlesOf, slotIn, phaseIn, withHandles, queueFull}
+use Rattle.events.specs.World.{World, queueOf, holdsOf, handlesOf, slotIn, phaseIn, queueFull}
 use Rattle.events.specs.Outcome.{Answer, ok, answered, Outcome, outcome, Row, row, checked, refuse}
 use Rattle.events.specs.Submit.{reserveRows, submitRows, callRows, genericRows, stdfsRows, fmapRows, queueRows, longList, kindByte, isPlaceholder}
-use Rattle.events.specs.Wake.{heldIn, awaits, wakeable, wakeRows, blockedBy, waitedBy, wokenBy}
+use Rattle.events.specs.Wake.{awaits, wakeable, wakeRows, blockedBy, waitedBy, wokenBy}
 use Rattle.events.specs.Descriptors.{requestOf, requestRows, listRows}
 use Rattle.events.specs.Supply.{wrongPages, pageRows, suppliedAs, suppliedBy}
-use Rattle.events.specs.Complete.{handleRows, obtainRows, writeRows, Entered, accepted, rejected, reject, closesOf, Offer, result, one, listed, responseTo, droppedFds, unmapOf, releaseOf, servedBy, respondBy, inHandle, isVacant, isWaiting, entryBy, entryOf, cut, entriesOf, stopped, onEntered, writeOn}
+use Rattle.events.specs.Entry.{Decision, closesOf, Offer, result, one, listed, goneFds, namedOf, ownFds, unmapOf, releaseOf, servedBy, respondBy, inHandle, handleRows, takenOut, byDescriptor, isVacant, isWaiting, obtainRows, obtained, decisionOf}
+use Rattle.events.specs.Complete.{writeRows, Entered, accepted, rejected, carried, entryBy, entryOf, cut, entriesOf, stopped, onEntered, writeOn}
 use Rattle.events.specs.Event.{Event, hostOpen, hostCopy, hostDrop, hostPut, hostEnded, reserve, submit, call, generic, stdfs, fmap, close, detach, wake, read, write, move, obtain, supply, step}
 use Rattle.events.specs.Whole.{Whole}
 use Rattle.events.specs.Exactly.{entryEffects, EntryExact, Along, ExactAt, Exactly, firstRows, waitsFor, isWrite, listLacks, Verdict, goes, refusedWith, first, entryVerdict, respondRows, entryRows, verdict, isWait, rowsOf, vacant, holdsIn}
 use Rattle.events.specs.History.{worldOf}
 use Rattle.events.specs.Run.{run}
-use Rattle.events.proofs.Whole.{whole-handles, whole-entry, whole-run}
+use Rattle.events.proofs.Whole.{whole-entry, whole-run}
 use Rattle.events.proofs.Checked.{Passed, checked-cases}
+use Rattle.events.proofs.Decided.{refusedIn, carried-cases}
 use Rattle.events.proofs.Refused.{wrote}
 use Rattle.events.proofs.Conditions.{opcode-same, not-ltb, some-same, odd-same, count-same, kind-same, queue-same, isResponded, isFmap, slot-named, table-same, submit-same, wake-same, awaits-same, lacks-same, free-same, words-same}
 
@@ -177,36 +179,54 @@ read-told q n flags true x e =
 read-told q n flags false x e = quiet refl refl
 
 -- the number of a completion entry
-served-goes : (b : Bool) (w : World) (n : ℕ) (o : Offer) → entryVerdict (servedBy b w n o) ≡ goes
-served-goes true w n o = refl
-served-goes false w n o = refl
+served-goes : (b : Bool) (w : World) (n : ℕ) (o : Offer) (k : Handles) → entryVerdict (carried w n (servedBy b (slotIn w n) n o (holdsOf w) k)) ≡ goes
+served-goes true w n o k = refl
+served-goes false w n o k = refl
 
-respond-number : (w u : World) (fx : List ℕ) (n : ℕ) (o : Offer) → entryVerdict (respondBy (phaseIn w n) u fx w n o) ≡ first (respondRows (slotIn w n))
-respond-number w u fx n o =
+respond-number :
+    (w : World) (turn : ℕ → Decision) (n : ℕ) (o : Offer) (k : Handles)
+    → entryVerdict (carried w n (turn 77)) ≡ refusedWith 77 → entryVerdict (carried w n (turn 22)) ≡ refusedWith 22
+    → entryVerdict (carried w n (respondBy (phaseIn w n) turn (slotIn w n) n o (holdsOf w) k)) ≡ first (respondRows (slotIn w n))
+respond-number w turn n o k x y =
     let t = slot-named (slotIn w n) in
     go (phaseIn w n) ∙ ap first (λ j. row 77 (t .vacant j || t .placeholder j) ∷ row 22 (t .responded j || t .mapping j) ∷ [])
   where
-    go : (p : Phase) → entryVerdict (respondBy p u fx w n o) ≡ first (row 77 (isVacant p || isPlaceholder p) ∷ row 22 (isResponded p || isFmap p) ∷ [])
-    go Vacant = refl
-    go Placeholder = refl
-    go Waiting = served-goes (slotIn w n .ended) w n o
-    go Responded = refl
-    go Fmap = refl
+    go : (p : Phase) → entryVerdict (carried w n (respondBy p turn (slotIn w n) n o (holdsOf w) k)) ≡ first (row 77 (isVacant p || isPlaceholder p) ∷ row 22 (isResponded p || isFmap p) ∷ [])
+    go Vacant = x
+    go Placeholder = x
+    go Waiting = served-goes (slotIn w n .ended) w n o k
+    go Responded = y
+    go Fmap = y
 
 module _ (w : World) (e : Cqe) where
-  event-number : (b : Bool) → entryVerdict (entryBy (eventIf b e) w) ≡ first (row 22 (not b) ∷ [])
+  event-number : (b : Bool) → entryVerdict (entryBy (eventIf b e) w (e .tag)) ≡ first (row 22 (not b) ∷ [])
   event-number true = refl
   event-number false = refl
 
-  obtain-number : (b : Bool) → entryVerdict (entryBy (obtainIf b e) w) ≡ first (row 22 (not b) ∷ obtainRows w (e .tag))
-  obtain-number true = first-checked entryVerdict (reject w) (λ k. refl) (obtainRows w (e .tag)) [] _ (λ p. refl)
+  obtain-number : (b : Bool) → entryVerdict (entryBy (obtainIf b e) w (e .tag)) ≡ first (row 22 (not b) ∷ obtainRows (slotIn w (e .tag)))
+  obtain-number true = go (isVacant (phaseIn w (e .tag))) (not (isWaiting (phaseIn w (e .tag))) || eqb (length (numbers (slotIn w (e .tag) .fds))) 0)
+    where
+      go :
+          (a b : Bool)
+          → entryVerdict (carried w (e .tag) (cond a (refusedIn w (e .tag) 22) (cond b (refusedIn w (e .tag) 2) (obtained (slotIn w (e .tag)) (e .result) (holdsOf w) (handlesOf w))))) ≡ first (row 22 a ∷ row 2 b ∷ [])
+      go true b = refl
+      go false true = refl
+      go false false = refl
   obtain-number false = refl
 
-  entry-number : (op : CqeOpcode) → entryVerdict (entryBy (parsedBy op e) w) ≡ first (entryRows op w e)
-  entry-number RespondRegular = respond-number w w [] (e .tag) (result (demuxOf (e .result)) (e .«extra_raw» .0) false)
-  entry-number RespondWithFd =
-      first-checked entryVerdict (reject w) (λ k. refl) (handleRows w (e .result)) (respondRows (slotIn w (e .tag))) _
-      (λ p. respond-number (withHandles w _) _ _ (e .tag) (one (inHandle w (e .result))))
+  -- is the handle empty
+  handle-number :
+      (b : Bool)
+      → entryVerdict (carried w (e .tag) (cond b (refusedIn w (e .tag) 22) (byDescriptor (slotIn w (e .tag)) (e .tag) (e .result) (holdsOf w) (handlesOf w))))
+      ≡ first (row 22 b ∷ respondRows (slotIn w (e .tag)))
+  handle-number true = refl
+  handle-number false =
+      respond-number w (takenOut (slotIn w (e .tag)) (numbers (namedOf (inHandle (handlesOf w) (e .result)))) (holdsOf w) (emptied (handlesOf w) (e .result)))
+      (e .tag) (one (inHandle (handlesOf w) (e .result))) (emptied (handlesOf w) (e .result)) refl refl
+
+  entry-number : (op : CqeOpcode) → entryVerdict (entryBy (parsedBy op e) w (e .tag)) ≡ first (entryRows op w e)
+  entry-number RespondRegular = respond-number w (refusedIn w (e .tag)) (e .tag) (result (demuxOf (e .result)) (e .«extra_raw» .0) false) (handlesOf w) refl refl
+  entry-number RespondWithFd = handle-number (eqb (heldAt (handlesOf w) (e .result)) 0)
   entry-number SendFevent = event-number (within eventFlags (e .tag))
   entry-number ObtainFd =
       obtain-number (within fobtainFdFlags (extraOf e))
@@ -216,57 +236,66 @@ module _ (w : World) (e : Cqe) where
       ∷ row 22 (slot-named (slotIn w (e .tag)) .vacant j)
       ∷ row 2 (not (slot-named (slotIn w (e .tag)) .waiting j) || eqb (length (numbers (slotIn w (e .tag) .fds))) 0)
       ∷ [])
-  entry-number RespondWithMultipleFds = respond-number w w [] (e .tag) listed
-  entry-number RespondAndNotifyOnDetach = respond-number w w [] (e .tag) (result (demuxOf (e .result)) (e .«extra_raw» .0) true)
+  entry-number RespondWithMultipleFds = respond-number w (refusedIn w (e .tag)) (e .tag) listed (handlesOf w) refl refl
+  entry-number RespondAndNotifyOnDetach = respond-number w (refusedIn w (e .tag)) (e .tag) (result (demuxOf (e .result)) (e .«extra_raw» .0) true) (handlesOf w) refl refl
   entry-number Unknown = refl
 
 -- its effects, three words each: a wake, an unmap and a close of each of at most 16 listed descriptions; with no wake, of one more
 module _ (w : World) (i : Whole w) where
   abbrev Holding : ℕ → Offer → Type 0
   Holding n o =
-      (length (droppedFds o (slotIn w n)) ≤ 16) × (length (droppedFds o (slotIn w n)) + length (heldIn (responseTo (slotIn w n) o)) ≤ 17)
+      (length (numbers (goneFds o (slotIn w n))) ≤ 16) × (length (numbers (goneFds o (slotIn w n))) + length (numbers (ownFds o (slotIn w n))) ≤ 17)
+
+  named-most : (d : ℕ) → length (numbers (namedOf d)) ≤ 1
+  named-most d = go (ltb 63 d)
+    where
+      go : (b : Bool) → length (numbers (cond b noFds (listOf (d ∷ [])))) ≤ 1
+      go true = omega arith
+      go false = omega arith
 
   holding : (n : ℕ) (o : Offer) → Holding n o
   holding n o = go o (numbers-most (slotIn w n .fds) (i .lists n))
     where
       go : (o : Offer) → length (numbers (slotIn w n .fds)) ≤ 16 → Holding n o
-      go (result (Ok x) y b) h = omega arith
-      go (result (Err x) y b) h = omega arith
-      go (one d) h = omega arith
+      go (result r x b) h = omega arith
+      go (one d) h = omega (arith, named-most d)
       go listed h = omega arith
 
   unmap-most : (b : Bool) (s : PageSpan) → length (unmapOf b s) ≤ 3
   unmap-most true s = omega arith
   unmap-most false s = omega arith
 
-  release-most : (n : ℕ) (o : Offer) → length (releaseOf w (slotIn w n) o) ≤ 3 + 3 * length (droppedFds o (slotIn w n))
+  release-most : (n : ℕ) (o : Offer) → length (releaseOf (slotIn w n) (numbers (goneFds o (slotIn w n))) (holdsOf w)) ≤ 3 + 3 * length (numbers (goneFds o (slotIn w n)))
   release-most n o =
       omega (
         arith,
-        length-append (unmapOf (eqb (slotIn w n .span .count) 0) (slotIn w n .span)) (closesOf Replied (holdsOf w) (droppedFds o (slotIn w n))),
+        length-append (unmapOf (eqb (slotIn w n .span .count) 0) (slotIn w n .span)) (closesOf Replied (holdsOf w) (numbers (goneFds o (slotIn w n)))),
         unmap-most (eqb (slotIn w n .span .count) 0) (slotIn w n .span),
-        closes-room (closing Replied) (droppedFds o (slotIn w n)) (holdsOf w .holds),
+        closes-room (closing Replied) (numbers (goneFds o (slotIn w n))) (holdsOf w .holds),
       )
 
-  served-most : (b : Bool) (n : ℕ) (o : Offer) → length (entryEffects (servedBy b w n o)) ≤ 54
-  served-most false n o = omega (arith, release-most n o, holding n o)
-  served-most true n o =
-      let held = heldIn (responseTo (slotIn w n) o) in
-      let left = discardedOf (holdsOf w) (droppedFds o (slotIn w n)) in
+  served-most : (b : Bool) (n t : ℕ) (o : Offer) (k : Handles) → length (servedBy b (slotIn w n) t o (holdsOf w) k .effects) ≤ 54
+  served-most false n t o k = omega (arith, release-most n o, holding n o)
+  served-most true n t o k =
+      let gone = numbers (goneFds o (slotIn w n)) in
+      let held = numbers (ownFds o (slotIn w n)) in
+      let left = discardedOf (holdsOf w) gone in
       omega (
         arith,
-        length-append (releaseOf w (slotIn w n) o) (closesOf Ended left held),
+        length-append (releaseOf (slotIn w n) gone (holdsOf w)) (closesOf Ended left held),
         release-most n o,
         closes-room (closing Ended) held (left .holds),
         holding n o,
       )
 
-  respond-most : (u : World) (fx : List ℕ) (n : ℕ) (o : Offer) → length fx ≤ 54 → (p : Phase) → length (entryEffects (respondBy p u fx w n o)) ≤ 54
-  respond-most u fx n o h Vacant = h
-  respond-most u fx n o h Placeholder = h
-  respond-most u fx n o h Waiting = served-most (slotIn w n .ended) n o
-  respond-most u fx n o h Responded = h
-  respond-most u fx n o h Fmap = h
+  respond-most :
+      (turn : ℕ → Decision) (n t : ℕ) (o : Offer) (k : Handles) → ((m : ℕ) → length (turn m .effects) ≤ 54)
+      → (p : Phase) → length (respondBy p turn (slotIn w n) t o (holdsOf w) k .effects) ≤ 54
+  respond-most turn n t o k h Vacant = h 77
+  respond-most turn n t o k h Placeholder = h 77
+  respond-most turn n t o k h Waiting = served-most (slotIn w n .ended) n t o k
+  respond-most turn n t o k h Responded = h 22
+  respond-most turn n t o k h Fmap = h 22
 
   obtain-most : (h : Holds) (k : Handles) (l : Fds) (n : ℕ) → length (obtainCloses h k l n) ≤ 54
   obtain-most h k l n = go (numbers l)
@@ -279,25 +308,28 @@ module _ (w : World) (i : Whole w) where
       go [] = omega arith
       go (d ∷ ds) = by (isFree k n) d
 
-entry-most : (w : World) → Whole w → (p : ParsedCqe) → length (entryEffects (entryBy p w)) ≤ 54
-entry-most w i (parsed.TriggerFevent number flags) = omega arith
-entry-most w i (parsed.RegularResponse t r x) = respond-most w i w [] (t .0) (result r x false) (omega arith) (phaseIn w (t .0))
-entry-most w i (parsed.ResponseWithFd t k) =
-    checked-cases (λ (y : Entered). length (entryEffects y) ≤ 54) (reject w) (handleRows w (k .0)) _ (λ k. omega arith)
-    (λ p.
-    respond-most _ (whole-handles w i _) _ _ (t .0) (one (inHandle w (k .0)))
-    (omega (arith, closes-room (closing Refused) (inHandle w (k .0) ∷ []) (holdsOf w .holds))) (phaseIn w (t .0)))
-entry-most w i (parsed.ResponseWithMultipleFds t n) = respond-most w i w [] (t .0) listed (omega arith) (phaseIn w (t .0))
-entry-most w i (parsed.ObtainFd t flags k) =
-    checked-cases (λ (y : Entered). length (entryEffects y) ≤ 54) (reject w) (obtainRows w (t .0)) _ (λ k. omega arith)
-    (λ p. obtain-most w i (holdsOf w) (handlesOf w) (slotIn w (t .0) .fds) (k .0))
-entry-most w i (parsed.RespondAndNotifyOnDetach t r x) = respond-most w i w [] (t .0) (result r x true) (omega arith) (phaseIn w (t .0))
-entry-most w i parsed.UnknownKind = omega arith
-entry-most w i parsed.UnknownEventFlags = omega arith
-entry-most w i parsed.UnknownObtainFlags = omega arith
+entry-most : (w : World) → Whole w → (p : ParsedCqe) (n : ℕ) → length (decisionOf p (slotIn w n) (holdsOf w) (handlesOf w) .effects) ≤ 54
+entry-most w i (parsed.TriggerFevent number flags) n = omega arith
+entry-most w i (parsed.RegularResponse t r x) n = respond-most w i (refusedIn w n) n (t .0) (result r x false) (handlesOf w) (λ m. omega arith) (phaseIn w n)
+entry-most w i (parsed.ResponseWithFd t k) n =
+    checked-cases (λ (d : Decision). length (d .effects) ≤ 54) (refusedIn w n) (handleRows (handlesOf w) (k .0)) _ (λ k. omega arith)
+    (λ p. respond-most w i _ n (t .0) (one (inHandle (handlesOf w) (k .0))) _ (λ m. omega arith) (phaseIn w n))
+entry-most w i (parsed.ResponseWithMultipleFds t c) n = respond-most w i (refusedIn w n) n (t .0) listed (handlesOf w) (λ m. omega arith) (phaseIn w n)
+entry-most w i (parsed.ObtainFd t flags k) n =
+    checked-cases (λ (d : Decision). length (d .effects) ≤ 54) (refusedIn w n) (obtainRows (slotIn w n)) _ (λ k. omega arith)
+    (λ p. obtain-most w i (holdsOf w) (handlesOf w) (slotIn w n .fds) (k .0))
+entry-most w i (parsed.RespondAndNotifyOnDetach t r x) n = respond-most w i (refusedIn w n) n (t .0) (result r x true) (handlesOf w) (λ m. omega arith) (phaseIn w n)
+entry-most w i parsed.UnknownKind n = omega arith
+entry-most w i parsed.UnknownEventFlags n = omega arith
+entry-most w i parsed.UnknownObtainFlags n = omega arith
 
 entry-exact : (w : World) → Whole w → (e : Cqe) → EntryExact w e
-entry-exact w i e = record { number = entry-number w e (cqeOpcodeOf (kindOf e)); most = entry-most w i (parsedOf e) }
+entry-exact w i e =
+    let m = entry-most w i (parsedOf e) (e .tag) in
+    record {
+      number = entry-number w e (cqeOpcodeOf (kindOf e));
+      most = carried-cases (λ (x : Entered). length (entryEffects x) ≤ 54) w (e .tag) (decisionOf (parsedOf e) (slotIn w (e .tag)) (holdsOf w) (handlesOf w)) m m;
+    }
 
 entries-exact : (w : World) → Whole w → (es : List Cqe) → Along EntryExact w es
 entries-exact w i [] = tt

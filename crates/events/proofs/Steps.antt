@@ -32,7 +32,8 @@ use Rattle.events.specs.World.{World, tableOf, holdsOf, handlesOf, queue
 use Rattle.events.specs.Outcome.{Answer, Outcome, outcome, reply, valued, answered, refuse, checked}
 use Rattle.events.specs.Submit.{badOpcode, badList, longList, isPlaceholder, submittable, tableFull, reserveRows, reserved, takenHolds, begun, callRows, genericRows, stdfsRows, fmapRows, queueRows, notified, submitEntry, callEntry, genericEntry, stdMeta, fmapEntry, closeEntry, detachEntry}
 use Rattle.events.specs.Wake.{cancelEntry, blockedBy, waitedBy, wokenBy, wakeable, wakeRows}
-use Rattle.events.specs.Complete.{isWaiting, writeRows, writeOn, entriesOf}
+use Rattle.events.specs.Entry.{isWaiting}
+use Rattle.events.specs.Complete.{writeRows, writeOn, entriesOf}
 use Rattle.events.specs.Descriptors.{requestOf, requestRows, listRows, broughtBack, moved, givenUp}
 use Rattle.events.specs.Supply.{wrongPages, suppliedAs, suppliedBy}
 use Rattle.events.specs.Event.{Event, hostOpen, hostCopy, hostDrop, hostPut, hostEnded, reserve, submit, call, generic, stdfs, fmap, close, detach, wake, read, write, move, obtain, supply, step}

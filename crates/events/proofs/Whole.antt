@@ -40,7 +40,8 @@ use Rattle.events.specs.Outcome.{Outcome, outcome, Row, checked, refuse}
 use Rattle.events.specs.Submit.{reserveRows, submitRows, callRows, genericRows, stdfsRows, fmapRows, queueRows, tableFull, isPlaceholder, begun, submitEntry, callEntry, genericEntry, stdMeta, fmapEntry, closeEntry, detachEntry}
 use Rattle.events.specs.Wake.{cancelEntry, wakeable, wakeRows, blockedBy, waitedBy, wokenBy}
 use Rattle.events.specs.Read.{readOf}
-use Rattle.events.specs.Complete.{handleRows, obtainRows, writeRows, Entered, accepted, rejected, reject, Offer, result, one, listed, keptFds, servedBy, respondBy, inHandle, isWaiting, entryBy, entryOf, entriesOf, stopped, onEntered, writeOn}
+use Rattle.events.specs.Entry.{Decision, Offer, result, one, listed, keptFds, servedBy, respondBy, inHandle, handleRows, isWaiting, obtainRows, decisionOf}
+use Rattle.events.specs.Complete.{writeRows, Entered, accepted, rejected, after, entryOf, entriesOf, stopped, onEntered, writeOn}
 use Rattle.events.specs.Descriptors.{requestOf, requestRows, listRows}
 use Rattle.events.specs.Supply.{pageRows, suppliedBy}
 use Rattle.events.specs.History.{worldOf}
@@ -48,6 +49,7 @@ use Rattle.events.specs.Event.{Event, hostOpen, hostCopy, hostDrop, host
 use Rattle.events.specs.Run.{Run, next, runFrom, run}
 use Rattle.events.specs.Whole.{Whole}
 use Rattle.events.proofs.Checked.{Passed, checked-cases}
+use Rattle.events.proofs.Decided.{refusedIn, carried-cases}
 
 -- what a well-formed state says of its table, whatever the hold counts
 record Sound (t : Table) : Type 0 where
@@ -232,39 +234,41 @@ module _ (w : World) (i : Whole w) where
       go true = i
       go false = whole-queue w i _ (w .words) (omega (arith, i .room)) (i .words)
 
-  whole-served : (b : Bool) (n : ℕ) (o : Offer) → Occupied (slotIn w n) → Whole (worldOf (servedBy b w n o))
-  whole-served false n o p = whole-put n _ _ p refl (kept-full o (slotIn w n) (i .lists n))
-  whole-served true n o p = whole-vacate n _ p
+  whole-served : (b : Bool) (n t : ℕ) (o : Offer) (k : Handles) → Occupied (slotIn w n) → Whole (after w n (servedBy b (slotIn w n) t o (holdsOf w) k))
+  whole-served false n t o k p = whole-handles _ (whole-put n _ _ p refl (kept-full o (slotIn w n) (i .lists n))) k
+  whole-served true n t o k p = whole-handles _ (whole-vacate n _ p) k
 
-  whole-respond : (w' : World) (fx : List ℕ) (n : ℕ) (o : Offer) → Whole w' → (p : Phase) → phaseIn w n ≡ p → Whole (worldOf (respondBy p w' fx w n o))
-  whole-respond w' fx n o j Vacant e = j
-  whole-respond w' fx n o j Placeholder e = j
-  whole-respond w' fx n o j Waiting e = whole-served (slotIn w n .ended) n o (ap idle e)
-  whole-respond w' fx n o j Responded e = j
-  whole-respond w' fx n o j Fmap e = j
+  whole-respond :
+      (turn : ℕ → Decision) (n t : ℕ) (o : Offer) (k : Handles) → ((m : ℕ) → Whole (after w n (turn m)))
+      → (p : Phase) → phaseIn w n ≡ p → Whole (after w n (respondBy p turn (slotIn w n) t o (holdsOf w) k))
+  whole-respond turn n t o k j Vacant e = j 77
+  whole-respond turn n t o k j Placeholder e = j 77
+  whole-respond turn n t o k j Waiting e = whole-served (slotIn w n .ended) n t o k (ap idle e)
+  whole-respond turn n t o k j Responded e = j 22
+  whole-respond turn n t o k j Fmap e = j 22
 
-  kept-entry : (rows : List Row) (x : Entered) → (Passed rows → Whole (worldOf x)) → Whole (worldOf (checked (reject w) rows x))
-  kept-entry rows x good = checked-cases (λ (y : Entered). Whole (worldOf y)) (reject w) rows x (λ k. i) good
+  kept-entry : (rows : List Row) (n : ℕ) (d : Decision) → (Passed rows → Whole (after w n d)) → Whole (after w n (checked (refusedIn w n) rows d))
+  kept-entry rows n d good = checked-cases (λ (x : Decision). Whole (after w n x)) (refusedIn w n) rows d (λ k. i) good
 
-whole-parsed : (w : World) (p : ParsedCqe) → Whole w → Whole (worldOf (entryBy p w))
-whole-parsed w (parsed.TriggerFevent number flags) i = i
-whole-parsed w (parsed.RegularResponse t r x) i = whole-respond w i w [] (t .0) (result r x false) i _ refl
-whole-parsed w (parsed.ResponseWithFd t k) i =
-    kept-entry w i (handleRows w (k .0)) _
-    (λ p. whole-respond _ (whole-handles w i _) _ _ (t .0) (one (inHandle w (k .0))) (whole-handles _ (whole-holds w i _) _) _ refl)
-whole-parsed w (parsed.ResponseWithMultipleFds t n) i = whole-respond w i w [] (t .0) listed i _ refl
-whole-parsed w (parsed.ObtainFd t flags k) i =
-    kept-entry w i (obtainRows w (t .0)) _
+whole-parsed : (w : World) (p : ParsedCqe) (n : ℕ) → Whole w → Whole (after w n (decisionOf p (slotIn w n) (holdsOf w) (handlesOf w)))
+whole-parsed w (parsed.TriggerFevent number flags) n i = i
+whole-parsed w (parsed.RegularResponse t r x) n i = whole-respond w i (refusedIn w n) n (t .0) (result r x false) (handlesOf w) (λ m. i) _ refl
+whole-parsed w (parsed.ResponseWithFd t k) n i =
+    kept-entry w i (handleRows (handlesOf w) (k .0)) n _
+    (λ p. whole-respond w i _ n (t .0) (one (inHandle (handlesOf w) (k .0))) _ (λ m. whole-handles _ (whole-holds w i _) _) _ refl)
+whole-parsed w (parsed.ResponseWithMultipleFds t c) n i = whole-respond w i (refusedIn w n) n (t .0) listed (handlesOf w) (λ m. i) _ refl
+whole-parsed w (parsed.ObtainFd t flags k) n i =
+    kept-entry w i (obtainRows (slotIn w n)) n _
     (λ p.
     whole-handles _
-    (whole-list w i (t .0) _ _ (or-left _ _ (p .1 .0)) (obtained-full (holdsOf w) (handlesOf w) (slotIn w (t .0) .fds) (k .0) (i .lists (t .0)))) _)
-whole-parsed w (parsed.RespondAndNotifyOnDetach t r x) i = whole-respond w i w [] (t .0) (result r x true) i _ refl
-whole-parsed w parsed.UnknownKind i = i
-whole-parsed w parsed.UnknownEventFlags i = i
-whole-parsed w parsed.UnknownObtainFlags i = i
+    (whole-list w i n _ _ (or-left _ _ (p .1 .0)) (obtained-full (holdsOf w) (handlesOf w) (slotIn w n .fds) (k .0) (i .lists n))) _)
+whole-parsed w (parsed.RespondAndNotifyOnDetach t r x) n i = whole-respond w i (refusedIn w n) n (t .0) (result r x true) (handlesOf w) (λ m. i) _ refl
+whole-parsed w parsed.UnknownKind n i = i
+whole-parsed w parsed.UnknownEventFlags n i = i
+whole-parsed w parsed.UnknownObtainFlags n i = i
 
 pub whole-entry : (w : World) (e : Cqe) → Whole w → Whole (worldOf (entryOf w e))
-whole-entry w e i = whole-parsed w (parsedOf e) i
+whole-entry w e i = let j = whole-parsed w (parsedOf e) (e .tag) i in carried-cases (λ (x : Entered). Whole (worldOf x)) w (e .tag) (decisionOf (parsedOf e) (slotIn w (e .tag)) (holdsOf w) (handlesOf w)) j j
 
 whole-write : (es : List Cqe) (w : World) → Whole w → (n : ℕ) (fx : List ℕ) → Whole (writeOn w es n fx .world)
 whole-write [] w i n fx = i

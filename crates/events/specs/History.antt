@@ -9,9 +9,10 @@ use Rattle.schemev2.specs.declared.Cqe.{Cqe}
 use Rattle.schemev2.specs.declared.CqeOpcode.{CqeOpcode}
 use Rattle.schemev2.specs.declared.CqeOpcode.the-variants.{RespondRegular, RespondWithFd, SendFevent, ObtainFd, RespondWithMultipleFds, RespondAndNotifyOnDetach, Unknown}
 use Rattle.schemev2.specs.Entry.{kindOf, cqeOpcodeOf}
-use Rattle.events.specs.World.{World, slotIn}
+use Rattle.events.specs.World.{World, handlesOf, slotIn}
 use Rattle.events.specs.Outcome.{Response, success, Answer, ok, no, wait, blocked, reply}
-use Rattle.events.specs.Complete.{Entered, accepted, rejected, Offer, result, one, listed, responseTo, inHandle, entryOf, entriesOf}
+use Rattle.events.specs.Entry.{Offer, result, one, listed, responseTo, inHandle}
+use Rattle.events.specs.Complete.{Entered, accepted, rejected, entryOf, entriesOf}
 use Rattle.events.specs.Event.{Event, hostOpen, hostCopy, hostDrop, hostPut, hostEnded, reserve, submit, call, generic, stdfs, fmap, close, detach, wake, read, write, move, obtain, supply}
 
 -- a completion entry by its place: which event of the run, and which entry of that write, both from 0
@@ -84,7 +85,7 @@ isReply Unknown = false
 -- of the other kinds is never read
 abbrev pub offerOf : CqeOpcode → World → Cqe → Offer
 offerOf RespondRegular w e = result (demuxOf (e .result)) (e .«extra_raw» .0) false
-offerOf RespondWithFd w e = one (inHandle w (e .result))
+offerOf RespondWithFd w e = one (inHandle (handlesOf w) (e .result))
 offerOf SendFevent w e = listed
 offerOf ObtainFd w e = listed
 offerOf RespondWithMultipleFds w e = listed

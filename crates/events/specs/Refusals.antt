@@ -6,6 +6,7 @@ use mathlib.Core.Bool.{cond, _||_}
 use mathlib.Core.List.{List, [], _∷_}
 use lib.Dec.{eqb, ltb}
 use lib.ListN.{length}
+use Rattle.fd_list.specs.Lists.{numbers}
 use Rattle.handles.specs.Handles.{heldAt, emptied}
 use Rattle.schemev2.specs.declared.Cqe.{Cqe}
 use Rattle.schemev2.specs.declared.CqeOpcode.{CqeOpcode}
@@ -16,7 +17,8 @@ use Rattle.table.specs.Table.{putAt, vacateAt}
 use Rattle.events.specs.World.{World, tableOf, holdsOf, handlesOf, slotIn, withTable, withHolds, withHandles}
 use Rattle.events.specs.Outcome.{Outcome, outcome, no, wait}
 use Rattle.events.specs.Submit.{takenHolds}
-use Rattle.events.specs.Complete.{dropped, inHandle, rejected, entryOf, entriesOf, stopped, writeOn}
+use Rattle.events.specs.Entry.{dropped, namedOf, inHandle}
+use Rattle.events.specs.Complete.{rejected, entryOf, entriesOf, stopped, writeOn}
 use Rattle.events.specs.Event.{Event, hostOpen, hostCopy, hostDrop, hostPut, hostEnded, reserve, submit, call, generic, stdfs, fmap, close, detach, wake, read, write, move, obtain, supply, step}
 
 -- no effect was made and no byte stored, so that lent words and bytes keep what they held
@@ -30,7 +32,7 @@ abbrev pub leftBy : CqeOpcode → World → Cqe → World
 leftBy RespondRegular w e = w
 leftBy RespondWithFd w e =
     cond (eqb (heldAt (handlesOf w) (e .result)) 0) w
-    (withHandles (withHolds w (dropped (holdsOf w) (inHandle w (e .result) ∷ []))) (emptied (handlesOf w) (e .result)))
+    (withHandles (withHolds w (dropped (holdsOf w) (numbers (namedOf (inHandle (handlesOf w) (e .result)))))) (emptied (handlesOf w) (e .result)))
 leftBy SendFevent w e = w
 leftBy ObtainFd w e = w
 leftBy RespondWithMultipleFds w e = w

@@ -42,6 +42,13 @@ pub enum Phase {
     Fmap,
 }
 
+// What a completion entry decides to become of its slot.
+pub enum Act {
+    Leave,
+    Store,
+    Vacate,
+}
+
 // A number that names no phase reads as Vacant.
 pub fn phase_of(v: Slot) -> Phase
     ensures { λ r. ⌜ r ≡ phaseOf v ⌝ }

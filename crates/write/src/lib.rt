@@ -2,14 +2,13 @@
 // is carried out on the table in place, with no branch: what stays is stored as it was.
 use handles::Handles;
 use holds::Holds;
-use ids::Tag;
 use part::Part;
 use schemev2::Cqe;
 use state::Driver;
 use state::State;
 ghost use mathlib.Core.Path.{_≡_};
 ghost use mathlib.Core.List.{List};
-ghost use Prim.Native.Nat.{ℕ, _/_, _%_, _≤_, _<_};
+ghost use Prim.Native.Nat.{ℕ, _/_, _%_, _<_};
 ghost use lib.ListN.{length};
 ghost use lib.Seq.{sets};
 ghost use Rattle.state.specs.declared.State.{State as Whole};
@@ -144,11 +143,6 @@ pub fn write(s: State, fx: &mut [u64], bytes: &[u8]) -> WriteStep
     }
 }
 
-// Nothing but what is known of so many words: there are 64.
-fn known(a: [u16; 64])
-    ensures { λ r. ⌜ length a ≡ 64 ⌝ }
-{}
-
 // A write that holds the entry e alone, on the part at its tag. Hold counts and handles are lent.
 pub fn entry(
     p: Part,
@@ -166,8 +160,6 @@ pub fn entry(
             part: p,
         };
     }
-    let a = *all;
-    known(a);
     let c = parse_cqe::parse_cqe(e);
     let tag = e.tag as u64;
     let old = p.slot;
