@@ -28,7 +28,7 @@ use Rattle.table.proofs.Chain.{occupied-within}
 use Rattle.events.specs.World.{World, tableOf, holdsOf, handlesOf, slotIn, phaseIn}
 use Rattle.events.specs.Outcome.{Outcome, outcome}
 use Rattle.events.specs.Wake.{responseOf}
-use Rattle.events.specs.Entry.{Decision, Offer, result, one, listed, responseTo, storedAs, keptFds, namedOf, isWaiting, inHandle, servedBy, respondBy, takenOut, byDescriptor, obtainRows, obtained, obtainEntryOf}
+use Rattle.events.specs.Entry.{Decision, Offer, result, one, listed, responseTo, storedAs, keptFds, isWaiting, inHandle, servedBy, respondBy, takenOut, byDescriptor, obtainRows, obtained, obtainEntryOf}
 use Rattle.events.specs.Complete.{Entered, accepted, rejected, carried, entryBy, entryOf, stopped, onEntered, writeOn}
 use Rattle.events.specs.History.{Place, Fact, serve, hands, counted, isReply, offerOf, reading, worldOf, pour}
 use Rattle.events.specs.Demand3.{unreadIn}
@@ -135,7 +135,7 @@ module _ (w : World) (h : List Fact) (whole : Whole w) (i : InvOf w h) where
         (carried w (e .tag) (cond b (refusedIn w (e .tag) 22) (byDescriptor (slotIn w (e .tag)) (e .tag) (e .result) (holdsOf w) (handlesOf w))))
     handle-go true = (i, refl)
     handle-go false = respond-go q (e .tag) (one (inHandle (handlesOf w) (e .result))) (emptied (handlesOf w) (e .result))
-        (takenOut (slotIn w (e .tag)) (numbers (namedOf (inHandle (handlesOf w) (e .result)))) (holdsOf w) (emptied (handlesOf w) (e .result))) (i, refl) (i, refl) (phaseIn w (e .tag)) refl
+        (takenOut (slotIn w (e .tag)) (e .result) (holdsOf w) (handlesOf w)) (i, refl) (i, refl) (phaseIn w (e .tag)) refl
 
     kind-go : (k : CqeOpcode) → Entered-ok w h (toldBy k) (entryBy (parsedBy k e) w (e .tag))
     kind-go RespondRegular = respond-go q (e .tag) (offerOf RespondRegular w e) (handlesOf w) (refusedIn w (e .tag)) (i, refl) (i, refl) (phaseIn w (e .tag)) refl

@@ -221,8 +221,7 @@ module _ (w : World) (e : Cqe) where
       ≡ first (row 22 b ∷ respondRows (slotIn w (e .tag)))
   handle-number true = refl
   handle-number false =
-      respond-number w (takenOut (slotIn w (e .tag)) (numbers (namedOf (inHandle (handlesOf w) (e .result)))) (holdsOf w) (emptied (handlesOf w) (e .result)))
-      (e .tag) (one (inHandle (handlesOf w) (e .result))) (emptied (handlesOf w) (e .result)) refl refl
+      respond-number w (takenOut (slotIn w (e .tag)) (e .result) (holdsOf w) (handlesOf w)) (e .tag) (one (inHandle (handlesOf w) (e .result))) (emptied (handlesOf w) (e .result)) refl refl
 
   entry-number : (op : CqeOpcode) → entryVerdict (entryBy (parsedBy op e) w (e .tag)) ≡ first (entryRows op w e)
   entry-number RespondRegular = respond-number w (refusedIn w (e .tag)) (e .tag) (result (demuxOf (e .result)) (e .«extra_raw» .0) false) (handlesOf w) refl refl

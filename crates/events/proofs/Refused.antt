@@ -124,7 +124,7 @@ module _ (w : World) (e : Cqe) where
   turned-descriptor true = (refl, refl)
   turned-descriptor false =
       turned-respond (withHandles (withHolds w (dropped (holdsOf w) (numbers (namedOf (inHandle (handlesOf w) (e .result)))))) (emptied (handlesOf w) (e .result)))
-      (takenOut (slotIn w (e .tag)) (numbers (namedOf (inHandle (handlesOf w) (e .result)))) (holdsOf w) (emptied (handlesOf w) (e .result)))
+      (takenOut (slotIn w (e .tag)) (e .result) (holdsOf w) (handlesOf w))
       (e .tag) (one (inHandle (handlesOf w) (e .result))) (emptied (handlesOf w) (e .result)) (refl, refl) (refl, refl) (phaseIn w (e .tag))
 
   turned-by : (op : CqeOpcode) → Turned (leftBy op w e) (entryBy (parsedBy op e) w (e .tag))

@@ -146,12 +146,12 @@ abbrev pub handleRows : Handles → ℕ → List Row
 handleRows n k = row 22 (eqb (heldAt n k) 0) ∷ []
 
 -- refused by its tag: the description has left its handle, so its hold is dropped
-abbrev pub takenOut : Slot → List ℕ → Holds → Handles → ℕ → Decision
-takenOut v ds h n k = decided k Leave v (dropped h ds) n (closesOf Refused h ds)
+abbrev pub takenOut : Slot → ℕ → Holds → Handles → ℕ → Decision
+takenOut v k h n m =
+    decided m Leave v (dropped h (numbers (namedOf (inHandle n k)))) (emptied n k) (closesOf Refused h (numbers (namedOf (inHandle n k))))
 
 abbrev pub byDescriptor : Slot → ℕ → ℕ → Holds → Handles → Decision
-byDescriptor v t k h n =
-    respondBy (phaseOf v) (takenOut v (numbers (namedOf (inHandle n k))) h (emptied n k)) v t (one (inHandle n k)) h (emptied n k)
+byDescriptor v t k h n = respondBy (phaseOf v) (takenOut v k h n) v t (one (inHandle n k)) h (emptied n k)
 
 abbrev pub descriptorOf : Slot → ℕ → ℕ → Holds → Handles → Decision
 descriptorOf v t k h n = checked (refusedOf v h n) (handleRows n k) (byDescriptor v t k h n)

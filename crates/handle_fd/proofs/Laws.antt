@@ -72,7 +72,7 @@ module _ (v : Slot) (t k : ℕ) (h : Holds) (n : Handles) (fx : List ℕ) (at : 
 
     -- what a refusal by the tag leaves
     abbrev out : ℕ → Decision
-    out = takenOut v (numbers (namedOf (inHandle n k))) h (emptied n k)
+    out = takenOut v k h n
 
     same : respondOf v t (one (x - 1)) h m ≡ respondOf v t (one (inHandle n k)) h (emptied n k)
     same = λ i. respondOf v t (one (e i - 1)) h (em i)
