@@ -11,7 +11,7 @@ use Rattle.state.specs.declared.State.{State}
 use Rattle.user_args.specs.Args.{mergeOf}
 use Rattle.events.specs.World.{World, world, queueFull}
 use Rattle.events.specs.Outcome.{Outcome, outcome, ok, no}
-use Rattle.events.specs.Submit.{args6, entry, badOpcode, badList, longList, tableFull, takenHolds, begun, callEntry, callOf}
+use Rattle.events.specs.Submit.{args6, sqe, badOpcode, badList, longList, tableFull, takenHolds, begun, callEntry, callOf}
 
 module _ (s : State) (ws : List ℕ) (c op : ℕ) (args : Args) (uid gid pid : ℕ) (ds : List ℕ) (fx : List ℕ) (none : fx ≡ []) where
   abbrev w : World
@@ -47,5 +47,5 @@ module _ (s : State) (ws : List ℕ) (c op : ℕ) (args : Args) (uid gid pid : �
 
 pub entry-is :
     (op m : ℕ) (a : Args) (uid gid pid who n : ℕ) → op ≡ m → who ≡ mergeOf uid gid
-    → entry m 0 n (args6 (a .0) (a .1) (a .2) (a .3) (a .4) who) pid ≡ callEntry op a uid gid pid n
+    → sqe m 0 n (args6 (a .0) (a .1) (a .2) (a .3) (a .4) who) pid ≡ callEntry op a uid gid pid n
 entry-is op m a uid gid pid who n e f = rw (e, f) refl

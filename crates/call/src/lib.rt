@@ -1,4 +1,4 @@
-// `UserInner::call` (src/scheme/user.rs, lines 195 to 261): a slot is given out and its entry queued; argument 5 is
+// `UserInner::call` (src/scheme/user.rs, lines 195 to 254): a slot is given out and its entry queued; argument 5 is
 // overwritten with uid and gid.
 use effect::Effect;
 use holds::Holds;

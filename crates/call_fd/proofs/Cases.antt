@@ -29,7 +29,7 @@ use Rattle.take_holds.specs.declared.TakeAnswer.the-variants as take
 use Rattle.take_holds.specs.Take.{bad, takenAs, takeOf}
 use Rattle.events.specs.World.{World, world, tableOf, holdsOf, phaseIn, withTable, tableWith, withHolds}
 use Rattle.events.specs.Outcome.{Outcome, outcome, ok, refuse, row, checked}
-use Rattle.events.specs.Complete.{isVacant, isWaiting}
+use Rattle.events.specs.Entry.{isVacant, isWaiting}
 use Rattle.events.specs.Descriptors.{verbOf, requestOf, wrongWords, requestRows, listRows, broughtBack, moved, moveOf, givenUp, obtainCallOf}
 use Rattle.call_fd.specs.declared.Request.{Request}
 use Rattle.call_fd.specs.declared.Request.the-variants as request

@@ -15,7 +15,7 @@ use Rattle.slot.specs.Slots.{waitingOf}
 use Rattle.state.specs.declared.State.{State}
 use Rattle.events.specs.World.{World, world, holdsOf, queueFull}
 use Rattle.events.specs.Outcome.{Outcome, Answer, outcome, ok, no}
-use Rattle.events.specs.Submit.{args6, entry, wrongKind, kindByte, stdMeta, tableFull, begun, genericEntry, stdfsOf}
+use Rattle.events.specs.Submit.{args6, sqe, wrongKind, kindByte, stdMeta, tableFull, begun, genericEntry, stdfsOf}
 use Rattle.events.proofs.Conditions.{kind-same}
 use Rattle.call_generic.specs.Generic.{genericWith}
 

@@ -1,4 +1,4 @@
-// `call_generic` (src/scheme/user.rs, lines 1384 to 1426) with opcode Call, and `translate_std_fs_call` (line 2048), which
+// `call_generic` (src/scheme/user.rs, lines 1384 to 1429) with opcode Call, and `translate_std_fs_call` (line 2048), which
 // comes to it with opcode StdFsCall.
 use effect::Effect;
 use ids::Tag;

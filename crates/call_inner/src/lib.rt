@@ -1,4 +1,4 @@
-// One turn of `call_inner`'s loop, a wake (src/scheme/user.rs, lines 263 to 388).
+// One turn of `call_inner`'s loop, a wake (src/scheme/user.rs, lines 256 to 392).
 use effect::Effect;
 use fd_list::List;
 use ids::Tag;

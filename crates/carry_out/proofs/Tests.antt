@@ -4,7 +4,7 @@ use mathlib.Core.Path.{_≡_, sym, ap, ap₂, _∙_}
 use mathlib.Core.Bool.{Bool, false}
 use lib.Dec.{ltb}
 use borrow.Author.Tests.{lt-ltb, le-ltb}
-use Rattle.respond.specs.declared.Act.{Act}
+use Rattle.slot.specs.declared.Act.{Act}
 use Rattle.slot.specs.declared.Slot.{Slot}
 use Rattle.carry_out.specs.After.{lookOf, slotAfter, nextAfter, headAfter}
 

@@ -1,8 +1,8 @@
 -- A decision carried out at the tag's place.
 use Prim.Native.Nat.{ℕ}
 use mathlib.Core.Bool.{Bool, true, false}
-use Rattle.respond.specs.declared.Act.{Act}
-use Rattle.respond.specs.declared.Act.the-variants.{Leave, Store, Vacate}
+use Rattle.slot.specs.declared.Act.{Act}
+use Rattle.slot.specs.declared.Act.the-variants.{Leave, Store, Vacate}
 use Rattle.slot.specs.declared.Slot.{Slot}
 use Rattle.slot.specs.Slots.{vacantSlot}
 

@@ -1,6 +1,6 @@
 // An entry's decision carried out at its tag's place: the slot there and the chain of vacated ones, afterwards. A tag over 63
 // names no slot.
-use respond::Act;
+use slot::Act;
 use slot::Slot;
 ghost use mathlib.Core.Path.{_≡_};
 ghost use lib.Dec.{ltb};

@@ -21,7 +21,7 @@ use Rattle.events.specs.World.{World, tableOf, queueOf, holdsOf, handles
 use Rattle.events.specs.Submit.{badOpcode, tableFull, isPlaceholder, submittable, wrongKind}
 use Rattle.events.specs.Wake.{awaits, wakeable}
 use Rattle.events.specs.Descriptors.{requestOf, wrongWords}
-use Rattle.events.specs.Complete.{isVacant, isWaiting}
+use Rattle.events.specs.Entry.{isVacant, isWaiting}
 use Rattle.events.specs.History.{Fact, Stage, free, reserved, waits, replied, mapping, book}
 use Rattle.events.specs.WellFormed.{WellFormed}
 use Rattle.events.specs.Exactly.{state, inState, vacantTags, noTagVacant, nextTag, all128Unread, holdsIn, outsideIn, lacks, handleAt, wrongOpcode, wrongFsKind}

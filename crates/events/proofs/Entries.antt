@@ -14,8 +14,7 @@ use Rattle.fd_list.specs.declared.List.{List as Fds}
 use Rattle.fd_list.specs.Lists.{numbers}
 use Rattle.flag.specs.Flags.{within, eventFlags, fobtainFdFlags}
 use Rattle.handles.specs.declared.Handles.{Handles}
-use Rattle.handles.specs.Handles.{obtainOf, obtainLasts}
-use Rattle.holds.specs.declared.Holds.{Holds}
+use Rattle.handles.specs.Handles.{heldAt, emptied, obtainOf, obtainLasts}
 use Rattle.parse_cqe.specs.Parsed.{parsedBy, eventIf, obtainIf}
 use Rattle.schemev2.specs.declared.Cqe.{Cqe}
 use Rattle.schemev2.specs.declared.CqeOpcode.{CqeOpcode}
@@ -30,12 +29,14 @@ use Rattle.table.specs.Reached.{idle}
 use Rattle.table.specs.Table.{putAt, vacateAt}
 use Rattle.table.proofs.Chain.{occupied-within}
 use Rattle.events.specs.World.{World, tableOf, schemeOf, holdsOf, handlesOf, slotIn, phaseIn, withTable, tableWith, withHandles, unreadIn}
-use Rattle.events.specs.Wake.{heldIn, responseOf}
-use Rattle.events.specs.Complete.{Entered, accepted, rejected, reject, closesOf, Offer, result, one, listed, responseTo, storedAs, keptFds, droppedFds, dropped, unmapOf, releaseOf, isWaiting, inHandle, servedBy, respondBy, handleRows, byDescriptor, obtainRows, obtained, obtainEntryOf, entryBy, entryOf}
+use Rattle.events.specs.Wake.{responseOf}
+use Rattle.events.specs.Entry.{Decision, closesOf, Offer, result, one, listed, responseTo, storedAs, keptFds, goneFds, ownFds, namedOf, dropped, unmapOf, releaseOf, servedBy, respondBy, inHandle, takenOut, byDescriptor, isWaiting, obtainRows, obtained, obtainEntryOf}
+use Rattle.events.specs.Complete.{Entered, accepted, rejected, carried, entryBy, entryOf}
 use Rattle.events.specs.History.{Fact, to, serve, waits, book, offers, served}
 use Rattle.events.specs.Demand3.{wakesFor, wakesIn}
 use Rattle.events.specs.WellFormed.{WellFormed}
 use Rattle.events.proofs.Checked.{checked-cases}
+use Rattle.events.proofs.Decided.{refusedIn, carried-cases}
 use Rattle.events.proofs.Effects.{Triples, Silent, triples-append, silent-none, silent-append, silent-closes, wakes-append}
 use Rattle.events.proofs.Inv.{Inv, in-stage, in-phase, inv-same, inv-serve, inv-lose}
 use Rattle.events.proofs.Stage.{Core, core, coreBy, callerIs, endedIs}
@@ -84,32 +85,32 @@ unmap-silent true s = silent-none
 unmap-silent false s = record { whole = (1, refl); none = refl }
 
 module _ (w : World) (h : List Fact) (whole : WellFormed w) (i : InvOf w h) where
-  -- a reply entry: w' is what a refusal leaves, u what it is served on; both differ from w in handles and holds alone
-  module _ (e j n : ℕ) (o : Offer) (k' k : Handles) (g' g : Holds) (fx : List ℕ) (quiet : Silent fx) where
-    abbrev left : World
-    left = withHandles (withTable w (tableWith (tableOf w) g')) k'
-
-    abbrev used : World
-    used = withHandles (withTable w (tableWith (tableOf w) g)) k
-
+  -- a reply entry, with handles k where it is accepted
+  module _ (e j n : ℕ) (o : Offer) (k : Handles) where
     abbrev told : List Fact
     told = to n (serve e j (responseTo (slotIn w n) o)) ∷ []
 
-    release-silent : Silent (releaseOf used (slotIn w n) o)
-    release-silent =
-        silent-append (unmapOf (eqb (slotIn w n .span .count) 0) (slotIn w n .span)) (closesOf Replied g (droppedFds o (slotIn w n)))
-        (unmap-silent (eqb (slotIn w n .span .count) 0) (slotIn w n .span)) (silent-closes (only (closing Replied) (lasts (g .holds) (droppedFds o (slotIn w n)))))
+    abbrev Answered : Decision → Type 0
+    Answered d = Entered-ok w h told (carried w n d)
 
-    serve-go : (b : Bool) → phaseIn w n ≡ Waiting → slotIn w n .ended ≡ b → Entered-ok w h told (servedBy b used n o)
+    abbrev gone : List ℕ
+    gone = numbers (goneFds o (slotIn w n))
+
+    release-silent : Silent (releaseOf (slotIn w n) gone (holdsOf w))
+    release-silent =
+        silent-append (unmapOf (eqb (slotIn w n .span .count) 0) (slotIn w n .span)) (closesOf Replied (holdsOf w) gone)
+        (unmap-silent (eqb (slotIn w n .span .count) 0) (slotIn w n .span)) (silent-closes (only (closing Replied) (lasts (holdsOf w .holds) gone)))
+
+    serve-go : (b : Bool) → phaseIn w n ≡ Waiting → slotIn w n .ended ≡ b → Answered (servedBy b (slotIn w n) n o (holdsOf w) k)
     serve-go false p q =
         let m = in-range w n Waiting p refl in
         let c = in-phase (shape (tableOf w)) h i n Waiting waits p (in-stage (shape (tableOf w)) h i n Waiting p) in
         let v = respondedOf (slotIn w n) (storedAs (responseTo (slotIn w n) o)) (keptFds o (slotIn w n)) in
         let ke : book h n .ended ≡ false = ap endedIs (sym c) ∙ q in (
-          inv-serve (shape (tableOf w)) h i n e j (responseTo (slotIn w n) o) (storedAs (responseTo (slotIn w n) o)) (keptFds o (slotIn w n)) (shape (putAt (tableOf used) n v))
-              (put-stored (tableOf used) (whole .slots) n v m) p q (reads-back (slotIn w n) o),
+          inv-serve (shape (tableOf w)) h i n e j (responseTo (slotIn w n) o) (storedAs (responseTo (slotIn w n) o)) (keptFds o (slotIn w n)) (shape (putAt (tableOf w) n v))
+              (put-stored (tableOf w) (whole .slots) n v m) p q (reads-back (slotIn w n) o),
           record { queue = refl; scheme = refl },
-          triples-append (1 ∷ slotIn w n .caller ∷ n ∷ []) (releaseOf used (slotIn w n) o) (1, refl) (release-silent .whole),
+          triples-append (1 ∷ slotIn w n .caller ∷ n ∷ []) (releaseOf (slotIn w n) gone (holdsOf w)) (1, refl) (release-silent .whole),
           ap (λ (l : List ℕ). 1 ∷ slotIn w n .caller ∷ n ∷ l) (release-silent .none) ∙ ap (λ (x : ℕ). 1 ∷ x ∷ n ∷ []) (ap callerIs c)
               ∙ sym (ap (λ (b : Bool). cond b [] (1 ∷ book h n .caller ∷ n ∷ [])) ke),
         )
@@ -117,33 +118,37 @@ module _ (w : World) (h : List Fact) (whole : WellFormed w) (i : InvOf w h) wher
         let m = in-range w n Waiting p refl in
         let c = in-phase (shape (tableOf w)) h i n Waiting waits p (in-stage (shape (tableOf w)) h i n Waiting p) in
         let ke : book h n .ended ≡ true = ap endedIs (sym c) ∙ q in
+        let own = numbers (ownFds o (slotIn w n)) in
         let s =
-        silent-append (releaseOf used (slotIn w n) o) (closesOf Ended (dropped g (droppedFds o (slotIn w n))) (heldIn (responseTo (slotIn w n) o)))
-        release-silent (silent-closes (only (closing Ended) (lasts (dropped g (droppedFds o (slotIn w n)) .holds) (heldIn (responseTo (slotIn w n) o))))) in (
-          inv-lose (shape (tableOf w)) h i n e j (responseTo (slotIn w n) o) (shape (vacateAt (tableOf used) n))
-              (vacate-stored (tableOf used) (whole .slots) n m (whole .next) (whole .chain) (ap idle p)) p q,
+        silent-append (releaseOf (slotIn w n) gone (holdsOf w)) (closesOf Ended (dropped (holdsOf w) gone) own) release-silent
+        (silent-closes (only (closing Ended) (lasts (dropped (holdsOf w) gone .holds) own))) in (
+          inv-lose (shape (tableOf w)) h i n e j (responseTo (slotIn w n) o) (shape (vacateAt (tableOf w) n))
+              (vacate-stored (tableOf w) (whole .slots) n m (whole .next) (whole .chain) (ap idle p)) p q,
           record { queue = refl; scheme = refl },
           s .whole,
           s .none ∙ sym (ap (λ (b : Bool). cond b [] (1 ∷ book h n .caller ∷ n ∷ [])) ke),
         )
 
-    respond-go : (p : Phase) → phaseIn w n ≡ p → Entered-ok w h told (respondBy p left fx used n o)
-    respond-go Vacant q = (i, record { queue = refl; scheme = refl }, quiet)
-    respond-go Placeholder q = (i, record { queue = refl; scheme = refl }, quiet)
-    respond-go Waiting q = serve-go (slotIn w n .ended) q refl
-    respond-go Responded q = (i, record { queue = refl; scheme = refl }, quiet)
-    respond-go Fmap q = (i, record { queue = refl; scheme = refl }, quiet)
+    respond-go :
+        (turn : ℕ → Decision) → Answered (turn 77) → Answered (turn 22) → (p : Phase) → phaseIn w n ≡ p
+        → Answered (respondBy p turn (slotIn w n) n o (holdsOf w) k)
+    respond-go turn x y Vacant q = x
+    respond-go turn x y Placeholder q = x
+    respond-go turn x y Waiting q = serve-go (slotIn w n .ended) q refl
+    respond-go turn x y Responded q = y
+    respond-go turn x y Fmap q = y
 
-  obtain-ok : (n k : ℕ) → Entered-ok w h [] (obtainEntryOf w n k)
+  obtain-ok : (n k : ℕ) → Entered-ok w h [] (carried w n (obtainEntryOf (slotIn w n) k (holdsOf w) (handlesOf w)))
   obtain-ok n k =
-      checked-cases (Entered-ok w h []) (reject w) (obtainRows w n) (obtained w n k) (λ m. (i, same, silent-none))
+      checked-cases (λ (d : Decision). Entered-ok w h [] (carried w n d)) (refusedIn w n) (obtainRows (slotIn w n)) (obtained (slotIn w n) k (holdsOf w) (handlesOf w))
+      (λ m. carried-cases (Entered-ok w h []) w n (refusedIn w n m) (i, same, (0, refl), refl) (i, same, silent-none))
       (λ f. go (waiting-is (phaseIn w n) (waiting (isWaiting (phaseIn w n)) (eqb (length (numbers (slotIn w n .fds))) 0) (f .1 .0))))
     where
       waiting : (a b : Bool) → not a || b ≡ false → a ≡ true
       waiting true b e = refl
       waiting false b e = absurd (let z : _≡_ {A = ℕ} 0 1 = cc in omega arith)
 
-      go : phaseIn w n ≡ Waiting → Entered-ok w h [] (obtained w n k)
+      go : phaseIn w n ≡ Waiting → Entered-ok w h [] (carried w n (obtained (slotIn w n) k (holdsOf w) (handlesOf w)))
       go p =
           let v = withFdsOf (slotIn w n) (obtainOf (holdsOf w) (handlesOf w) (slotIn w n .fds) k .list) in
           let s = silent-closes (obtainLasts (numbers (slotIn w n .fds)) (holdsOf w) (handlesOf w) k) in (
@@ -159,24 +164,36 @@ module _ (w : World) (h : List Fact) (whole : WellFormed w) (i : InvOf w h) wher
     abbrev toldBy : CqeOpcode → List Fact
     toldBy k = map (λ o. to (c .tag) (serve e j (responseTo (slotIn w (c .tag)) o))) (offers k w c)
 
-    event-go : (b : Bool) → Entered-ok w h [] (entryBy (eventIf b c) w)
+    event-go : (b : Bool) → Entered-ok w h [] (entryBy (eventIf b c) w (c .tag))
     event-go true = (i, same, (1, refl), refl)
     event-go false = (i, same, silent-none)
 
-    obtain-go : (b : Bool) → Entered-ok w h [] (entryBy (obtainIf b c) w)
+    obtain-go : (b : Bool) → Entered-ok w h [] (entryBy (obtainIf b c) w (c .tag))
     obtain-go true = obtain-ok (c .tag) (c .result)
     obtain-go false = (i, same, silent-none)
 
-    regular-go : (o : Offer) → Entered-ok w h (to (c .tag) (serve e j (responseTo (slotIn w (c .tag)) o)) ∷ []) (respondBy (phaseIn w (c .tag)) w [] w (c .tag) o)
-    regular-go o = respond-go e j (c .tag) o (handlesOf w) (handlesOf w) (holdsOf w) (holdsOf w) [] silent-none (phaseIn w (c .tag)) refl
+    regular-go :
+        (o : Offer)
+        → Entered-ok w h (to (c .tag) (serve e j (responseTo (slotIn w (c .tag)) o)) ∷ [])
+        (carried w (c .tag) (respondBy (phaseIn w (c .tag)) (refusedIn w (c .tag)) (slotIn w (c .tag)) (c .tag) o (holdsOf w) (handlesOf w)))
+    regular-go o =
+        respond-go e j (c .tag) o (handlesOf w) (refusedIn w (c .tag)) (i, same, silent-none) (i, same, silent-none) (phaseIn w (c .tag)) refl
 
-    kind-go : (k : CqeOpcode) → Entered-ok w h (toldBy k) (entryBy (parsedBy k c) w)
+    -- is the handle empty
+    handle-go :
+        (b : Bool)
+        → Entered-ok w h (toldBy RespondWithFd)
+        (carried w (c .tag) (cond b (refusedIn w (c .tag) 22) (byDescriptor (slotIn w (c .tag)) (c .tag) (c .result) (holdsOf w) (handlesOf w))))
+    handle-go true = (i, same, silent-none)
+    handle-go false =
+        let s = silent-closes (only (closing Refused) (lasts (holdsOf w .holds) (numbers (namedOf (inHandle (handlesOf w) (c .result)))))) in
+        respond-go e j (c .tag) (one (inHandle (handlesOf w) (c .result))) (emptied (handlesOf w) (c .result))
+        (takenOut (slotIn w (c .tag)) (c .result) (holdsOf w) (handlesOf w)) (i, record { queue = refl; scheme = refl }, s) (i, record { queue = refl; scheme = refl }, s)
+        (phaseIn w (c .tag)) refl
+
+    kind-go : (k : CqeOpcode) → Entered-ok w h (toldBy k) (entryBy (parsedBy k c) w (c .tag))
     kind-go RespondRegular = regular-go _
-    kind-go RespondWithFd =
-        checked-cases (Entered-ok w h (toldBy RespondWithFd)) (reject w) (handleRows w (c .result)) (byDescriptor w (c .tag) (c .result)) (λ m. (i, same, silent-none))
-        (λ f.
-        respond-go e j (c .tag) (one (inHandle w (c .result))) _ _ _ _ _
-        (silent-closes (only (closing Refused) (lasts (holdsOf w .holds) (inHandle w (c .result) ∷ [])))) (phaseIn w (c .tag)) refl)
+    kind-go RespondWithFd = handle-go (eqb (heldAt (handlesOf w) (c .result)) 0)
     kind-go SendFevent = event-go (within eventFlags (c .tag))
     kind-go ObtainFd = obtain-go (within fobtainFdFlags (extraOf c))
     kind-go RespondWithMultipleFds = regular-go listed

@@ -8,12 +8,11 @@ use lib.Dec.{ltb, leb, eqb}
 use lib.ListN.{length, length-append, drop, getD}
 use borrow.Author.Tests.{lt-ltb, ltb-false, eqb-true, not-true}
 use Rattle.counts.specs.Counts.{lasts}
-use Rattle.closes.specs.declared.Reason.the-variants.{Replied, Ended, Refused, Unusable}
+use Rattle.closes.specs.declared.Reason.the-variants.{Replied, Ended, Unusable}
 use Rattle.closes.specs.Closes.{closing, only, closes}
 use Rattle.closes.proofs.Laws.{closes-room}
-use Rattle.error.specs.declared.Result.the-variants.{Ok, Err}
 use Rattle.fd_list.specs.declared.List.{List as Fds}
-use Rattle.fd_list.specs.Lists.{numbers}
+use Rattle.fd_list.specs.Lists.{numbers, listOf}
 use Rattle.fd_list.proofs.Laws.{numbers-most}
 use Rattle.handles.specs.declared.Handles.{Handles}
 use Rattle.handles.specs.Handles.{isFree, obtainLasts, obtainCloses}
@@ -22,7 +21,7 @@ use Rattle.holds.specs.Holds.{discardedOf, unheld}
 use Rattle.host_holds.specs.declared.OpenAnswer.the-variants as opening
 use Rattle.host_holds.specs.declared.CopyAnswer.the-variants as copying
 use Rattle.host_holds.specs.declared.DropAnswer.the-variants as dropping
-use Rattle.host_holds.specs.Host.{opened, copied, dropped, openAnswer, copyAnswer, dropAnswer}
+use Rattle.host_holds.specs.Host.{openedAs, copiedAs, droppedAs, openAnswer, copyAnswer, dropAnswer}
 use Rattle.host_put.specs.declared.PutAnswer.the-variants as putting
 use Rattle.host_put.specs.Put.{put, putAnswer}
 use Rattle.parse_cqe.specs.Parsed.{parsedOf}
@@ -31,29 +30,32 @@ use Rattle.parse_cqe.specs.declared.ParsedCqe.the-variants as parsed
 use Rattle.schemev2.specs.declared.Cqe.{Cqe}
 use Rattle.slot.specs.declared.PageSpan.{PageSpan}
 use Rattle.slot.specs.declared.Phase.{Phase}
+use Rattle.slot.specs.Slots.{noFds}
 use Rattle.slot.specs.declared.Phase.the-variants.{Vacant, Placeholder, Waiting, Responded, Fmap}
 use Rattle.wait_queue.specs.declared.WaitQueue.{WaitQueue}
 use Rattle.wait_queue_receive.specs.Receive.{receiveAnswer, emptyBy, receivedIf}
 use Rattle.events.specs.World.{World, tableOf, queueOf, holdsOf, handlesOf, slotIn, phaseIn, queueFull, unreadIn}
 use Rattle.events.specs.Outcome.{Answer, ok, no, wait, blocked, reply, answered, Outcome, outcome, Row, row, checked, refuse}
 use Rattle.events.specs.Submit.{reserveRows, submitRows, callRows, genericRows, stdfsRows, fmapRows, queueRows, longList, kindByte, isPlaceholder, tableFull}
-use Rattle.events.specs.Wake.{heldIn, responseOf, wakeable, wakeRows, blockedBy, waitedBy, wokenBy}
+use Rattle.events.specs.Wake.{responseOf, wakeable, wakeRows, blockedBy, waitedBy, wokenBy}
 use Rattle.events.specs.Descriptors.{requestOf, requestRows, listRows}
 use Rattle.events.specs.Supply.{wrongPages, pageRows, suppliedAs, suppliedBy}
-use Rattle.events.specs.Complete.{handleRows, obtainRows, writeRows, Entered, accepted, rejected, worldOf, reject, closesOf, Offer, result, one, listed, responseTo, droppedFds, unmapOf, releaseOf, servedBy, respondBy, inHandle, isVacant, isWaiting, entryBy, entryOf, cut, entriesOf, stopped, onEntered, writeOn}
+use Rattle.events.specs.Entry.{Decision, closesOf, Offer, result, one, listed, goneFds, namedOf, ownFds, unmapOf, releaseOf, servedBy, respondBy, inHandle, handleRows, isVacant, isWaiting, obtainRows, decisionOf}
+use Rattle.events.specs.Complete.{writeRows, Entered, accepted, rejected, worldOf, entryOf, cut, entriesOf, stopped, onEntered, writeOn}
 use Rattle.events.specs.Event.{DriverEvent, hostPut, reserve, submit, call, generic, stdfs, fmap, close, detach, wake, read, write, move, obtain, supply, Event, hostOpen, hostCopy, hostDrop, hostEnded, on, step}
 use Rattle.events.specs.History.{Fact, Stage, free, reserved, waits, replied, mapping, Call, book}
 use Rattle.events.specs.Run.{Run}
 use Rattle.events.specs.WellFormed.{WellFormed}
 use Rattle.events.specs.Exactly.{ruled, state, inState, noTagVacant, nextTag, all128Unread, holdsIn, listLacks, woken, firstRows, goodEntries, driverAnswer, answerTo, ExactAt}
-use Rattle.events.proofs.Checked.{Passed, checked-cases}
+use Rattle.events.proofs.Checked.{checked-cases}
+use Rattle.events.proofs.Decided.{refusedIn, carried-cases}
 use Rattle.events.proofs.Conditions.{Named, opcode-same, not-ltb, some-same, odd-same, count-same, kind-same, unread-length, queue-same, empty-same, isResponded, isFmap, slot-named, table-same, next-tag, submit-same, wake-same, lacks-same, free-same, words-same}
 use Rattle.events.proofs.Entries.{InvOf}
 use Rattle.events.proofs.Inv.{in-stage, in-phase, replied-is}
-use Rattle.events.proofs.Stage.{Core, coreBy, dress, Told, callerIs, cancelingIs, endedIs, returnedIs}
+use Rattle.events.proofs.Stage.{Core, coreBy, dress, StageIn, callerIs, cancelingIs, endedIs, returnedIs}
 use Rattle.events.proofs.Steps.{both, or-split}
 use Rattle.events.proofs.Stored.{shape}
-use Rattle.events.proofs.WellFormed.{formed-handles, formed-entry}
+use Rattle.events.proofs.WellFormed.{formed-entry}
 use Rattle.events.proofs.Writes.{ruled-checked, write-ok}
 
 abbrev entryEffects : Entered → List ℕ
@@ -64,49 +66,58 @@ entryEffects (rejected k fx w) = fx
 module _ (w : World) (i : WellFormed w) where
   abbrev Holding : ℕ → Offer → Type 0
   Holding n o =
-      (length (droppedFds o (slotIn w n)) ≤ 16) × (length (droppedFds o (slotIn w n)) + length (heldIn (responseTo (slotIn w n) o)) ≤ 17)
+      (length (numbers (goneFds o (slotIn w n))) ≤ 16) × (length (numbers (goneFds o (slotIn w n))) + length (numbers (ownFds o (slotIn w n))) ≤ 17)
+
+  named-most : (d : ℕ) → length (numbers (namedOf d)) ≤ 1
+  named-most d = go (ltb 63 d)
+    where
+      go : (b : Bool) → length (numbers (cond b noFds (listOf (d ∷ [])))) ≤ 1
+      go true = omega arith
+      go false = omega arith
 
   holding : (n : ℕ) (o : Offer) → Holding n o
   holding n o = go o (numbers-most (slotIn w n .fds) (i .lists n))
     where
       go : (o : Offer) → length (numbers (slotIn w n .fds)) ≤ 16 → Holding n o
-      go (result (Ok x) y b) h = omega arith
-      go (result (Err x) y b) h = omega arith
-      go (one d) h = omega arith
+      go (result r x b) h = omega arith
+      go (one d) h = omega (arith, named-most d)
       go listed h = omega arith
 
   unmap-most : (b : Bool) (s : PageSpan) → length (unmapOf b s) ≤ 3
   unmap-most true s = omega arith
   unmap-most false s = omega arith
 
-  release-most : (n : ℕ) (o : Offer) → length (releaseOf w (slotIn w n) o) ≤ 3 + 3 * length (droppedFds o (slotIn w n))
+  release-most : (n : ℕ) (o : Offer) → length (releaseOf (slotIn w n) (numbers (goneFds o (slotIn w n))) (holdsOf w)) ≤ 3 + 3 * length (numbers (goneFds o (slotIn w n)))
   release-most n o =
       omega (
         arith,
-        length-append (unmapOf (eqb (slotIn w n .span .count) 0) (slotIn w n .span)) (closesOf Replied (holdsOf w) (droppedFds o (slotIn w n))),
+        length-append (unmapOf (eqb (slotIn w n .span .count) 0) (slotIn w n .span)) (closesOf Replied (holdsOf w) (numbers (goneFds o (slotIn w n)))),
         unmap-most (eqb (slotIn w n .span .count) 0) (slotIn w n .span),
-        closes-room (closing Replied) (droppedFds o (slotIn w n)) (holdsOf w .holds),
+        closes-room (closing Replied) (numbers (goneFds o (slotIn w n))) (holdsOf w .holds),
       )
 
-  served-most : (b : Bool) (n : ℕ) (o : Offer) → length (entryEffects (servedBy b w n o)) ≤ 54
-  served-most false n o = omega (arith, release-most n o, holding n o)
-  served-most true n o =
-      let held = heldIn (responseTo (slotIn w n) o) in
-      let left = discardedOf (holdsOf w) (droppedFds o (slotIn w n)) in
+  served-most : (b : Bool) (n t : ℕ) (o : Offer) (k : Handles) → length (servedBy b (slotIn w n) t o (holdsOf w) k .effects) ≤ 54
+  served-most false n t o k = omega (arith, release-most n o, holding n o)
+  served-most true n t o k =
+      let gone = numbers (goneFds o (slotIn w n)) in
+      let held = numbers (ownFds o (slotIn w n)) in
+      let left = discardedOf (holdsOf w) gone in
       omega (
         arith,
-        length-append (releaseOf w (slotIn w n) o) (closesOf Ended left held),
+        length-append (releaseOf (slotIn w n) gone (holdsOf w)) (closesOf Ended left held),
         release-most n o,
         closes-room (closing Ended) held (left .holds),
         holding n o,
       )
 
-  respond-most : (u : World) (fx : List ℕ) (n : ℕ) (o : Offer) → length fx ≤ 54 → (p : Phase) → length (entryEffects (respondBy p u fx w n o)) ≤ 54
-  respond-most u fx n o h Vacant = h
-  respond-most u fx n o h Placeholder = h
-  respond-most u fx n o h Waiting = served-most (slotIn w n .ended) n o
-  respond-most u fx n o h Responded = h
-  respond-most u fx n o h Fmap = h
+  respond-most :
+      (turn : ℕ → Decision) (n t : ℕ) (o : Offer) (k : Handles) → ((m : ℕ) → length (turn m .effects) ≤ 54)
+      → (p : Phase) → length (respondBy p turn (slotIn w n) t o (holdsOf w) k .effects) ≤ 54
+  respond-most turn n t o k h Vacant = h 77
+  respond-most turn n t o k h Placeholder = h 77
+  respond-most turn n t o k h Waiting = served-most (slotIn w n .ended) n t o k
+  respond-most turn n t o k h Responded = h 22
+  respond-most turn n t o k h Fmap = h 22
 
   obtain-most : (h : Holds) (k : Handles) (l : Fds) (n : ℕ) → length (obtainCloses h k l n) ≤ 54
   obtain-most h k l n = go (numbers l)
@@ -119,22 +130,25 @@ module _ (w : World) (i : WellFormed w) where
       go [] = omega arith
       go (d ∷ ds) = by (isFree k n) d
 
-entry-most : (w : World) → WellFormed w → (p : ParsedCqe) → length (entryEffects (entryBy p w)) ≤ 54
-entry-most w i (parsed.TriggerFevent number flags) = omega arith
-entry-most w i (parsed.RegularResponse t r x) = respond-most w i w [] (t .0) (result r x false) (omega arith) (phaseIn w (t .0))
-entry-most w i (parsed.ResponseWithFd t k) =
-    checked-cases (λ (y : Entered). length (entryEffects y) ≤ 54) (reject w) (handleRows w (k .0)) _ (λ k. omega arith)
-    (λ p.
-    respond-most _ (formed-handles w i _) _ _ (t .0) (one (inHandle w (k .0)))
-    (omega (arith, closes-room (closing Refused) (inHandle w (k .0) ∷ []) (holdsOf w .holds))) (phaseIn w (t .0)))
-entry-most w i (parsed.ResponseWithMultipleFds t n) = respond-most w i w [] (t .0) listed (omega arith) (phaseIn w (t .0))
-entry-most w i (parsed.ObtainFd t flags k) =
-    checked-cases (λ (y : Entered). length (entryEffects y) ≤ 54) (reject w) (obtainRows w (t .0)) _ (λ k. omega arith)
-    (λ p. obtain-most w i (holdsOf w) (handlesOf w) (slotIn w (t .0) .fds) (k .0))
-entry-most w i (parsed.RespondAndNotifyOnDetach t r x) = respond-most w i w [] (t .0) (result r x true) (omega arith) (phaseIn w (t .0))
-entry-most w i parsed.UnknownKind = omega arith
-entry-most w i parsed.UnknownEventFlags = omega arith
-entry-most w i parsed.UnknownObtainFlags = omega arith
+entry-most : (w : World) → WellFormed w → (p : ParsedCqe) (n : ℕ) → length (decisionOf p (slotIn w n) (holdsOf w) (handlesOf w) .effects) ≤ 54
+entry-most w i (parsed.TriggerFevent number flags) n = omega arith
+entry-most w i (parsed.RegularResponse t r x) n = respond-most w i (refusedIn w n) n (t .0) (result r x false) (handlesOf w) (λ m. omega arith) (phaseIn w n)
+entry-most w i (parsed.ResponseWithFd t k) n =
+    checked-cases (λ (d : Decision). length (d .effects) ≤ 54) (refusedIn w n) (handleRows (handlesOf w) (k .0)) _ (λ k. omega arith)
+    (λ p. respond-most w i _ n (t .0) (one (inHandle (handlesOf w) (k .0))) _ (λ m. omega arith) (phaseIn w n))
+entry-most w i (parsed.ResponseWithMultipleFds t c) n = respond-most w i (refusedIn w n) n (t .0) listed (handlesOf w) (λ m. omega arith) (phaseIn w n)
+entry-most w i (parsed.ObtainFd t flags k) n =
+    checked-cases (λ (d : Decision). length (d .effects) ≤ 54) (refusedIn w n) (obtainRows (slotIn w n)) _ (λ k. omega arith)
+    (λ p. obtain-most w i (holdsOf w) (handlesOf w) (slotIn w n .fds) (k .0))
+entry-most w i (parsed.RespondAndNotifyOnDetach t r x) n = respond-most w i (refusedIn w n) n (t .0) (result r x true) (handlesOf w) (λ m. omega arith) (phaseIn w n)
+entry-most w i parsed.UnknownKind n = omega arith
+entry-most w i parsed.UnknownEventFlags n = omega arith
+entry-most w i parsed.UnknownObtainFlags n = omega arith
+
+entered-most : (w : World) → WellFormed w → (e : Cqe) → length (entryEffects (entryOf w e)) ≤ 54
+entered-most w i e =
+    let m = entry-most w i (parsedOf e) (e .tag) in
+    carried-cases (λ (x : Entered). length (entryEffects x) ≤ 54) w (e .tag) (decisionOf (parsedOf e) (slotIn w (e .tag)) (holdsOf w) (handlesOf w)) m m
 
 -- the effects of a write: at most 54 words for each entry
 cut-length : (n : ℕ) (bs : List ℕ) → length (cut n bs) ≡ n
@@ -143,7 +157,7 @@ cut-length (suc n) bs = ap suc (cut-length n (drop 16 bs))
 
 written-most : (es : List Cqe) (w : World) → WellFormed w → (n : ℕ) (fx : List ℕ) → length (writeOn w es n fx .effects) ≤ length fx + 54 * length es
 written-most [] w i n fx = omega arith
-written-most (e ∷ es) w i n fx = go (entryOf w e) (entry-most w i (parsedOf e)) (formed-entry w e i) (written-most es)
+written-most (e ∷ es) w i n fx = go (entryOf w e) (entered-most w i e) (formed-entry w e i) (written-most es)
   where
     go :
         (x : Entered) → length (entryEffects x) ≤ 54 → WellFormed (worldOf x)
@@ -153,12 +167,12 @@ written-most (e ∷ es) w i n fx = go (entryOf w e) (entry-most w i (parsedOf e)
     go (rejected k gx u) m j more = omega (arith, length-append fx gx)
 
 -- at most 54 words for each entry of a write
-write-most : (w : World) → WellFormed w → (words : ℕ) (bs : List ℕ) → length (step w (on (write words bs)) .effects) ≤ 54 * (length bs / 16)
+pub write-most : (w : World) → WellFormed w → (words : ℕ) (bs : List ℕ) → length (step w (on (write words bs)) .effects) ≤ 54 * (length bs / 16)
 write-most w i words bs =
     checked-cases (λ (o : Outcome). length (o .effects) ≤ 54 * (length bs / 16)) (refuse w) (writeRows words bs) (writeOn w (entriesOf bs) 0 []) (λ k. omega arith)
     (λ p. omega (arith, written-most (entriesOf bs) w i 0 [], cut-length (length bs / 16) bs))
 
-write-room : (w : World) → WellFormed w → (words : ℕ) (bs : List ℕ) → length (step w (on (write words bs)) .effects) ≤ words
+pub write-room : (w : World) → WellFormed w → (words : ℕ) (bs : List ℕ) → length (step w (on (write words bs)) .effects) ≤ words
 write-room w i words bs =
     checked-cases (λ (o : Outcome). length (o .effects) ≤ words) (refuse w) (writeRows words bs) (writeOn w (entriesOf bs) 0 []) (λ k. omega arith)
     (λ p. omega (arith, ltb-false words (54 * (length bs / 16)) (p .0), written-most (entriesOf bs) w i 0 [], cut-length (length bs / 16) bs))
@@ -179,19 +193,19 @@ row-same k {b} {c} {x} {y} e f = ap (λ (z : Bool). cond z (no k) x) e ∙ go c 
     go false f = f refl
 
 -- the host's events
-open-answer : (b : Bool) (h k : Holds) → answered (openAnswer (cond b (opened opening.BadArgument h) (opened opening.Opened k) .answer)) ≡ ruled (row 205 b ∷ []) (ok 0)
+open-answer : (b : Bool) (h k : Holds) → answered (openAnswer (cond b (openedAs opening.BadArgument h) (openedAs opening.Opened k) .answer)) ≡ ruled (row 205 b ∷ []) (ok 0)
 open-answer true h k = refl
 open-answer false h k = refl
 
 copy-answer :
     (b c : Bool) (h k l : Holds)
-    → answered (copyAnswer (cond b (copied copying.BadArgument h) (cond c (copied copying.TooManyHolds k) (copied copying.Copied l)) .answer))
+    → answered (copyAnswer (cond b (copiedAs copying.BadArgument h) (cond c (copiedAs copying.TooManyHolds k) (copiedAs copying.Copied l)) .answer))
     ≡ ruled (row 205 b ∷ row 207 c ∷ []) (ok 0)
 copy-answer true c h k l = refl
 copy-answer false true h k l = refl
 copy-answer false false h k l = refl
 
-drop-answer : (b : Bool) (h k : Holds) → answered (dropAnswer (cond b (dropped dropping.BadArgument h) (dropped dropping.Dropped k) .answer)) ≡ ruled (row 205 b ∷ []) (ok 0)
+drop-answer : (b : Bool) (h k : Holds) → answered (dropAnswer (cond b (droppedAs dropping.BadArgument h) (droppedAs dropping.Dropped k) .answer)) ≡ ruled (row 205 b ∷ []) (ok 0)
 drop-answer true h k = refl
 drop-answer false h k = refl
 
@@ -257,7 +271,7 @@ module _ (r : Run) (i : WellFormed (r .world)) (inv : InvOf (r .world) (r .facts
     abbrev claimed : Answer
     claimed = driverAnswer r (wake n c killed base count)
 
-    stage : (p : Phase) → phaseIn w n ≡ p → Told p (k .stage)
+    stage : (p : Phase) → phaseIn w n ≡ p → StageIn p (k .stage)
     stage p q = in-stage (shape (tableOf w)) h inv n p q
 
     -- who may be woken, by what the slot and by what the history says

@@ -26,7 +26,7 @@ use Rattle.events.specs.History.{What, Fact, to, end, gave, took, serve,
 use Rattle.events.specs.Demand3.{Every, needs, fair, sum}
 use Rattle.events.specs.Exactly.{relisted, vacantTags}
 use Rattle.events.proofs.Sane.{unwoken}
-use Rattle.events.proofs.Stage.{Core, vacant, placeholder, waiting, responded, mapped, coreBy, core, phaseIs, callerIs, endedIs, returnedIs, readsIs, dress, wanted, phaseAt, core-phase, dress-phase, Told, stage-told}
+use Rattle.events.proofs.Stage.{Core, vacant, placeholder, waiting, responded, mapped, coreBy, core, phaseIs, callerIs, endedIs, returnedIs, readsIs, dress, wanted, phaseAt, core-phase, dress-phase, StageIn, stage-in}
 use Rattle.events.proofs.Stored.{Shape, shape, Stored, holding, held-is, heldOf}
 
 abbrev pub Balance : ℕ → List Fact → Type 0
@@ -66,8 +66,8 @@ module _ (s : Shape) (h : List Fact) (i : Inv s h) (n : ℕ) where
   pub phase-is : phaseOf (s .look n) ≡ phaseAt (call .stage)
   phase-is = sym (core-phase (phaseOf (s .look n)) (s .look n)) ∙ ap phaseIs (i .fits n) ∙ dress-phase (call .stage) call
 
-  pub in-stage : (p : Phase) → phaseOf (s .look n) ≡ p → Told p (call .stage)
-  in-stage p e = stage-told (call .stage) p (sym phase-is ∙ e)
+  pub in-stage : (p : Phase) → phaseOf (s .look n) ≡ p → StageIn p (call .stage)
+  in-stage p e = stage-in (call .stage) p (sym phase-is ∙ e)
 
   pub in-phase : (p : Phase) (g : Stage) → phaseOf (s .look n) ≡ p → call .stage ≡ g → coreBy p (s .look n) ≡ dress g call
   in-phase p g e q = ap (λ (j : Phase). coreBy j (s .look n)) (sym e) ∙ i .fits n ∙ ap (λ (j : Stage). dress j call) q

@@ -1,4 +1,5 @@
 pub mod Checked
+pub mod Decided
 pub mod Stage
 pub mod Sane
 pub mod Once

@@ -14,7 +14,7 @@ use Rattle.schemev2.specs.declared.CqeOpcode.the-variants.{RespondRegular, Resp
 use Rattle.schemev2.specs.Entry.{kindOf, cqeOpcodeOf}
 use Rattle.events.specs.World.{World, slotIn}
 use Rattle.events.specs.Outcome.{Response, success, Answer, ok, no, wait, blocked, reply, onAnswer, onOk}
-use Rattle.events.specs.Complete.{Offer, responseTo}
+use Rattle.events.specs.Entry.{Offer, responseTo}
 use Rattle.events.specs.Event.{DriverEvent, hostPut, reserve, submit, call, generic, stdfs, fmap, close, detach, wake, read, write, move, obtain, supply, Event, hostOpen, hostCopy, hostDrop, hostEnded, on}
 use Rattle.events.specs.History.{What, Fact, to, end, gave, took, serve, block, break, pass, filled, Stage, free, reserved, waits, replied, mapping, Call, change, onto, book, View, tells, sends, wakes, reads, writes, moves, supplies, viewOf, entryAt, afterEntries, offers, served, poured, news}
 use Rattle.events.specs.Demand3.{needs, fair, Every, Some, apart, source, sourced, onReply, sum}

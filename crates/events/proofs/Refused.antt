@@ -10,6 +10,7 @@ use lib.ListN.{getD, take, length, drop}
 use borrow.Author.Tests.{eqb-true, lt-ltb, le-ltb}
 use Rattle.answer.specs.Answer as numbered
 use Rattle.error.specs.Errors.{demuxOf}
+use Rattle.fd_list.specs.Lists.{numbers}
 use Rattle.flag.specs.Flags.{within, eventFlags, fobtainFdFlags}
 use Rattle.handles.specs.declared.Handles.{Handles}
 use Rattle.handles.specs.Handles.{heldAt, emptied, isFree}
@@ -37,7 +38,8 @@ use Rattle.events.specs.World.{World, tableOf, holdsOf, handlesOf, queue
 use Rattle.events.specs.Outcome.{Answer, ok, no, wait, onAnswer, answered, Outcome, outcome, Row, checked, refuse}
 use Rattle.events.specs.Submit.{reserveRows, submitRows, callRows, genericRows, stdfsRows, fmapRows, queueRows}
 use Rattle.events.specs.Wake.{wakeable, wakeRows, blockedBy, waitedBy, wokenBy}
-use Rattle.events.specs.Complete.{obtainRows, shortWords, byDescriptor, obtained, Entered, accepted, rejected, reject, Offer, result, one, listed, servedBy, respondBy, inHandle, dropped, isVacant, isWaiting, entryBy, entryOf, worldOf, cut, entriesOf, stopped, onEntered, writeOn}
+use Rattle.events.specs.Entry.{Decision, dropped, Offer, result, one, listed, namedOf, servedBy, respondBy, inHandle, takenOut, byDescriptor, isVacant, isWaiting, obtainRows, obtained}
+use Rattle.events.specs.Complete.{shortWords, Entered, accepted, rejected, carried, entryBy, entryOf, worldOf, cut, entriesOf, stopped, onEntered, writeOn}
 use Rattle.events.specs.Descriptors.{requestOf, wrongWords, requestRows, listRows, broughtBack, moved}
 use Rattle.events.specs.Supply.{pageRows, suppliedAs, suppliedBy}
 use Rattle.events.specs.Event.{DriverEvent, hostPut, reserve, submit, call, generic, stdfs, fmap, close, detach, wake, read, write, move, obtain, supply, Event, hostOpen, hostCopy, hostDrop, hostEnded, on, driverStep, step}
@@ -45,6 +47,7 @@ use Rattle.events.specs.History.{viewOf, entryAt, afterEntries}
 use Rattle.events.specs.Refusals.{Nothing, leftBy, leftEntry, left, leftAfter, Demand1}
 use Rattle.events.proofs.Checked.{checked-cases}
 use Rattle.events.proofs.Writes.{entry-at, next-at}
+use Rattle.events.proofs.Decided.{refusedIn, carried-cases}
 
 -- what holds of both outcomes of a test
 either : {A : Type 0} (P : A → Type 0) (b : Bool) {x y : A} → P x → P y → P (cond b x y)
@@ -91,42 +94,49 @@ Turned l (accepted fx u) = Unit {0}
 Turned l (rejected k fx u) = (fx ≡ []) × (u ≡ l)
 
 module _ (w : World) (e : Cqe) where
-  turned-served : (l : World) (b : Bool) (u : World) (n : ℕ) (o : Offer) → Turned l (servedBy b u n o)
-  turned-served l true u n o = tt
-  turned-served l false u n o = tt
+  turned-served : (l : World) (b : Bool) (n : ℕ) (o : Offer) (k : Handles) → Turned l (carried w n (servedBy b (slotIn w n) n o (holdsOf w) k))
+  turned-served l true n o k = tt
+  turned-served l false n o k = tt
 
-  turned-respond : (l u : World) (n : ℕ) (o : Offer) (p : Phase) → Turned l (respondBy p l [] u n o)
-  turned-respond l u n o Vacant = (refl, refl)
-  turned-respond l u n o Placeholder = (refl, refl)
-  turned-respond l u n o Waiting = turned-served l (slotIn u n .ended) u n o
-  turned-respond l u n o Responded = (refl, refl)
-  turned-respond l u n o Fmap = (refl, refl)
+  turned-respond :
+      (l : World) (turn : ℕ → Decision) (n : ℕ) (o : Offer) (k : Handles) → Turned l (carried w n (turn 77)) → Turned l (carried w n (turn 22))
+      → (p : Phase) → Turned l (carried w n (respondBy p turn (slotIn w n) n o (holdsOf w) k))
+  turned-respond l turn n o k x y Vacant = x
+  turned-respond l turn n o k x y Placeholder = x
+  turned-respond l turn n o k x y Waiting = turned-served l (slotIn w n .ended) n o k
+  turned-respond l turn n o k x y Responded = y
+  turned-respond l turn n o k x y Fmap = y
 
-  turned-event : (b : Bool) → Turned w (entryBy (eventIf b e) w)
+  turned-event : (b : Bool) → Turned w (entryBy (eventIf b e) w (e .tag))
   turned-event true = tt
   turned-event false = (refl, refl)
 
-  turned-obtain : (b : Bool) → Turned w (entryBy (obtainIf b e) w)
-  turned-obtain true = checked-cases (Turned w) (reject w) (obtainRows w (e .tag)) (obtained w (e .tag) (e .result)) (λ k. (refl, refl)) (λ p. tt)
+  turned-obtain : (b : Bool) → Turned w (entryBy (obtainIf b e) w (e .tag))
+  turned-obtain true =
+      checked-cases (λ (d : Decision). Turned w (carried w (e .tag) d)) (refusedIn w (e .tag)) (obtainRows (slotIn w (e .tag)))
+      (obtained (slotIn w (e .tag)) (e .result) (holdsOf w) (handlesOf w)) (λ k. carried-cases (Turned w) w (e .tag) (refusedIn w (e .tag) k) tt (refl, refl)) (λ p. tt)
   turned-obtain false = (refl, refl)
 
   -- with an empty handle nothing changes; else the handle is emptied and the hold dropped
   turned-descriptor :
       (b : Bool)
-      → Turned (cond b w (withHandles (withHolds w (dropped (holdsOf w) (inHandle w (e .result) ∷ []))) (emptied (handlesOf w) (e .result))))
-      (cond b (reject w 22) (byDescriptor w (e .tag) (e .result)))
+      → Turned (cond b w (withHandles (withHolds w (dropped (holdsOf w) (numbers (namedOf (inHandle (handlesOf w) (e .result)))))) (emptied (handlesOf w) (e .result))))
+      (carried w (e .tag) (cond b (refusedIn w (e .tag) 22) (byDescriptor (slotIn w (e .tag)) (e .tag) (e .result) (holdsOf w) (handlesOf w))))
   turned-descriptor true = (refl, refl)
   turned-descriptor false =
-      turned-respond (withHandles (withHolds w (dropped (holdsOf w) (inHandle w (e .result) ∷ []))) (emptied (handlesOf w) (e .result)))
-      (withHandles w (emptied (handlesOf w) (e .result))) (e .tag) (one (inHandle w (e .result))) (phaseIn w (e .tag))
+      turned-respond (withHandles (withHolds w (dropped (holdsOf w) (numbers (namedOf (inHandle (handlesOf w) (e .result)))))) (emptied (handlesOf w) (e .result)))
+      (takenOut (slotIn w (e .tag)) (e .result) (holdsOf w) (handlesOf w))
+      (e .tag) (one (inHandle (handlesOf w) (e .result))) (emptied (handlesOf w) (e .result)) (refl, refl) (refl, refl) (phaseIn w (e .tag))
 
-  turned-by : (op : CqeOpcode) → Turned (leftBy op w e) (entryBy (parsedBy op e) w)
-  turned-by RespondRegular = turned-respond w w (e .tag) (result (demuxOf (e .result)) (e .«extra_raw» .0) false) (phaseIn w (e .tag))
+  turned-by : (op : CqeOpcode) → Turned (leftBy op w e) (entryBy (parsedBy op e) w (e .tag))
+  turned-by RespondRegular =
+      turned-respond w (refusedIn w (e .tag)) (e .tag) (result (demuxOf (e .result)) (e .«extra_raw» .0) false) (handlesOf w) (refl, refl) (refl, refl) (phaseIn w (e .tag))
   turned-by RespondWithFd = turned-descriptor (eqb (heldAt (handlesOf w) (e .result)) 0)
   turned-by SendFevent = turned-event (within eventFlags (e .tag))
   turned-by ObtainFd = turned-obtain (within fobtainFdFlags (extraOf e))
-  turned-by RespondWithMultipleFds = turned-respond w w (e .tag) listed (phaseIn w (e .tag))
-  turned-by RespondAndNotifyOnDetach = turned-respond w w (e .tag) (result (demuxOf (e .result)) (e .«extra_raw» .0) true) (phaseIn w (e .tag))
+  turned-by RespondWithMultipleFds = turned-respond w (refusedIn w (e .tag)) (e .tag) listed (handlesOf w) (refl, refl) (refl, refl) (phaseIn w (e .tag))
+  turned-by RespondAndNotifyOnDetach =
+      turned-respond w (refusedIn w (e .tag)) (e .tag) (result (demuxOf (e .result)) (e .«extra_raw» .0) true) (handlesOf w) (refl, refl) (refl, refl) (phaseIn w (e .tag))
   turned-by Unknown = (refl, refl)
 
   turned : Turned (leftEntry w e) (entryOf w e)

@@ -106,22 +106,22 @@ dress-phase (replied r) k = refl
 dress-phase mapping k = refl
 
 -- the stage that a phase tells
-abbrev pub Told : Phase → Stage → Type 0
-Told Vacant s = s ≡ free
-Told Placeholder s = s ≡ reserved
-Told Waiting s = s ≡ waits
-Told Responded s = (r : Response) × (s ≡ replied r)
-Told Fmap s = s ≡ mapping
+abbrev pub StageIn : Phase → Stage → Type 0
+StageIn Vacant s = s ≡ free
+StageIn Placeholder s = s ≡ reserved
+StageIn Waiting s = s ≡ waits
+StageIn Responded s = (r : Response) × (s ≡ replied r)
+StageIn Fmap s = s ≡ mapping
 
-told-at : (s : Stage) → Told (phaseAt s) s
-told-at free = refl
-told-at reserved = refl
-told-at waits = refl
-told-at (replied r) = (r, refl)
-told-at mapping = refl
+stage-at : (s : Stage) → StageIn (phaseAt s) s
+stage-at free = refl
+stage-at reserved = refl
+stage-at waits = refl
+stage-at (replied r) = (r, refl)
+stage-at mapping = refl
 
-pub stage-told : (s : Stage) (p : Phase) → phaseAt s ≡ p → Told p s
-stage-told s p e = subst (λ (q : Phase). Told q s) e (told-at s)
+pub stage-in : (s : Stage) (p : Phase) → phaseAt s ≡ p → StageIn p s
+stage-in s p e = subst (λ (q : Phase). StageIn q s) e (stage-at s)
 
 -- stages told apart by a number
 abbrev pub num : Stage → ℕ

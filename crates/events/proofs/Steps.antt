@@ -34,7 +34,8 @@ use Rattle.events.specs.World.{World, tableOf, schemeOf, holdsOf, handle
 use Rattle.events.specs.Outcome.{Response, Answer, ok, no, onOk, Outcome, outcome, reply, valued, answered, refuse, checked}
 use Rattle.events.specs.Submit.{badOpcode, badList, longList, isPlaceholder, submittable, tableFull, reserveRows, reserved, takenHolds, begun, callRows, genericRows, stdfsRows, fmapRows, queueRows, notified, submitEntry, callEntry, genericEntry, stdMeta, fmapEntry, closeEntry, detachEntry}
 use Rattle.events.specs.Wake.{responseOf, cancelEntry, blockedBy, waitedBy, wokenBy, wakeable, wakeRows}
-use Rattle.events.specs.Complete.{isWaiting, writeRows, writeOn, entriesOf}
+use Rattle.events.specs.Entry.{isWaiting}
+use Rattle.events.specs.Complete.{writeRows, writeOn, entriesOf}
 use Rattle.events.specs.Descriptors.{requestOf, requestRows, listRows, broughtBack, moved, givenUp}
 use Rattle.events.specs.Supply.{wrongPages, suppliedAs, suppliedBy}
 use Rattle.events.specs.Event.{DriverEvent, hostPut, reserve, submit, call, generic, stdfs, fmap, close, detach, wake, read, write, move, obtain, supply, Event, hostOpen, hostCopy, hostDrop, hostEnded, on, step}
@@ -45,7 +46,7 @@ use Rattle.events.specs.WellFormed.{WellFormed}
 use Rattle.events.proofs.Checked.{checked-cases}
 use Rattle.events.proofs.Entries.{InvOf, Same, in-range, same-core, waiting-is}
 use Rattle.events.proofs.Inv.{Inv, phase-is, in-stage, in-phase, replied-is, inv-same, inv-gave, inv-asked, inv-took, inv-block, inv-break, inv-pass, inv-filled, inv-end}
-use Rattle.events.proofs.Stage.{Core, Told, clash, callerIs, cancelingIs, endedIs, returnedIs}
+use Rattle.events.proofs.Stage.{Core, StageIn, clash, callerIs, cancelingIs, endedIs, returnedIs}
 use Rattle.events.proofs.Stored.{Shape, shape, holding, Stored, stored-over, put-stored, vacate-stored, give-stored}
 use Rattle.events.proofs.Writes.{hands, write-ok}
 
@@ -259,7 +260,7 @@ module _ (r : Run) (whole : WellFormed (r .world)) (i : InvOf (r .world) (r .fac
     refused-ok m z d =
         record { inv = rw z i; right = record { hand = sym d; queue = still; bytes = refl; effects = refl; scheme = refl } }
 
-    stage : (p : Phase) → phaseIn w n ≡ p → Told p (k .stage)
+    stage : (p : Phase) → phaseIn w n ≡ p → StageIn p (k .stage)
     stage p q = in-stage t h i n p q
 
     -- a served call's reply is due by what its slot says

@@ -40,13 +40,15 @@ use Rattle.events.specs.Outcome.{Outcome, outcome, Row, checked, refuse}
 use Rattle.events.specs.Submit.{reserveRows, submitRows, callRows, genericRows, stdfsRows, fmapRows, queueRows, tableFull, isPlaceholder, begun, submitEntry, callEntry, genericEntry, stdMeta, fmapEntry, closeEntry, detachEntry}
 use Rattle.events.specs.Wake.{cancelEntry, wakeable, wakeRows, blockedBy, waitedBy, wokenBy}
 use Rattle.events.specs.Read.{readOf}
-use Rattle.events.specs.Complete.{worldOf, handleRows, obtainRows, writeRows, Entered, accepted, rejected, reject, Offer, result, one, listed, keptFds, servedBy, respondBy, inHandle, isWaiting, entryBy, entryOf, entriesOf, stopped, onEntered, writeOn}
+use Rattle.events.specs.Entry.{Decision, Offer, result, one, listed, keptFds, servedBy, respondBy, inHandle, handleRows, isWaiting, obtainRows, decisionOf}
+use Rattle.events.specs.Complete.{worldOf, writeRows, Entered, accepted, rejected, after, entryOf, entriesOf, stopped, onEntered, writeOn}
 use Rattle.events.specs.Descriptors.{requestOf, requestRows, listRows}
 use Rattle.events.specs.Supply.{pageRows, suppliedBy}
 use Rattle.events.specs.Event.{DriverEvent, hostPut, reserve, submit, call, generic, stdfs, fmap, close, detach, wake, read, write, move, obtain, supply, Event, hostOpen, hostCopy, hostDrop, hostEnded, on, driverStep, step}
 use Rattle.events.specs.Run.{Run, begin, next, runFrom, run}
 use Rattle.events.specs.WellFormed.{WellFormed}
 use Rattle.events.proofs.Checked.{Passed, checked-cases}
+use Rattle.events.proofs.Decided.{refusedIn, carried-cases}
 
 -- what a well-formed state says of its table, whatever the hold counts
 record Sound (t : Table) : Type 0 where
@@ -231,39 +233,41 @@ module _ (w : World) (i : WellFormed w) where
       go true = i
       go false = formed-queue w i _ (w .words) (omega (arith, i .room)) (i .words)
 
-  formed-served : (b : Bool) (n : ℕ) (o : Offer) → Occupied (slotIn w n) → WellFormed (worldOf (servedBy b w n o))
-  formed-served false n o p = formed-put n _ _ p refl (kept-full o (slotIn w n) (i .lists n))
-  formed-served true n o p = formed-vacate n _ p
+  formed-served : (b : Bool) (n t : ℕ) (o : Offer) (k : Handles) → Occupied (slotIn w n) → WellFormed (after w n (servedBy b (slotIn w n) t o (holdsOf w) k))
+  formed-served false n t o k p = formed-handles _ (formed-put n _ _ p refl (kept-full o (slotIn w n) (i .lists n))) k
+  formed-served true n t o k p = formed-handles _ (formed-vacate n _ p) k
 
-  formed-respond : (w' : World) (fx : List ℕ) (n : ℕ) (o : Offer) → WellFormed w' → (p : Phase) → phaseIn w n ≡ p → WellFormed (worldOf (respondBy p w' fx w n o))
-  formed-respond w' fx n o j Vacant e = j
-  formed-respond w' fx n o j Placeholder e = j
-  formed-respond w' fx n o j Waiting e = formed-served (slotIn w n .ended) n o (ap idle e)
-  formed-respond w' fx n o j Responded e = j
-  formed-respond w' fx n o j Fmap e = j
+  formed-respond :
+      (turn : ℕ → Decision) (n t : ℕ) (o : Offer) (k : Handles) → ((m : ℕ) → WellFormed (after w n (turn m)))
+      → (p : Phase) → phaseIn w n ≡ p → WellFormed (after w n (respondBy p turn (slotIn w n) t o (holdsOf w) k))
+  formed-respond turn n t o k j Vacant e = j 77
+  formed-respond turn n t o k j Placeholder e = j 77
+  formed-respond turn n t o k j Waiting e = formed-served (slotIn w n .ended) n t o k (ap idle e)
+  formed-respond turn n t o k j Responded e = j 22
+  formed-respond turn n t o k j Fmap e = j 22
 
-  kept-entry : (rows : List Row) (x : Entered) → (Passed rows → WellFormed (worldOf x)) → WellFormed (worldOf (checked (reject w) rows x))
-  kept-entry rows x good = checked-cases (λ (y : Entered). WellFormed (worldOf y)) (reject w) rows x (λ k. i) good
+  kept-entry : (rows : List Row) (n : ℕ) (d : Decision) → (Passed rows → WellFormed (after w n d)) → WellFormed (after w n (checked (refusedIn w n) rows d))
+  kept-entry rows n d good = checked-cases (λ (x : Decision). WellFormed (after w n x)) (refusedIn w n) rows d (λ k. i) good
 
-formed-parsed : (w : World) (p : ParsedCqe) → WellFormed w → WellFormed (worldOf (entryBy p w))
-formed-parsed w (parsed.TriggerFevent number flags) i = i
-formed-parsed w (parsed.RegularResponse t r x) i = formed-respond w i w [] (t .0) (result r x false) i _ refl
-formed-parsed w (parsed.ResponseWithFd t k) i =
-    kept-entry w i (handleRows w (k .0)) _
-    (λ p. formed-respond _ (formed-handles w i _) _ _ (t .0) (one (inHandle w (k .0))) (formed-handles _ (formed-holds w i _) _) _ refl)
-formed-parsed w (parsed.ResponseWithMultipleFds t n) i = formed-respond w i w [] (t .0) listed i _ refl
-formed-parsed w (parsed.ObtainFd t flags k) i =
-    kept-entry w i (obtainRows w (t .0)) _
+formed-parsed : (w : World) (p : ParsedCqe) (n : ℕ) → WellFormed w → WellFormed (after w n (decisionOf p (slotIn w n) (holdsOf w) (handlesOf w)))
+formed-parsed w (parsed.TriggerFevent number flags) n i = i
+formed-parsed w (parsed.RegularResponse t r x) n i = formed-respond w i (refusedIn w n) n (t .0) (result r x false) (handlesOf w) (λ m. i) _ refl
+formed-parsed w (parsed.ResponseWithFd t k) n i =
+    kept-entry w i (handleRows (handlesOf w) (k .0)) n _
+    (λ p. formed-respond w i _ n (t .0) (one (inHandle (handlesOf w) (k .0))) _ (λ m. formed-handles _ (formed-holds w i _) _) _ refl)
+formed-parsed w (parsed.ResponseWithMultipleFds t c) n i = formed-respond w i (refusedIn w n) n (t .0) listed (handlesOf w) (λ m. i) _ refl
+formed-parsed w (parsed.ObtainFd t flags k) n i =
+    kept-entry w i (obtainRows (slotIn w n)) n _
     (λ p.
     formed-handles _
-    (formed-list w i (t .0) _ _ (or-left _ _ (p .1 .0)) (obtained-full (holdsOf w) (handlesOf w) (slotIn w (t .0) .fds) (k .0) (i .lists (t .0)))) _)
-formed-parsed w (parsed.RespondAndNotifyOnDetach t r x) i = formed-respond w i w [] (t .0) (result r x true) i _ refl
-formed-parsed w parsed.UnknownKind i = i
-formed-parsed w parsed.UnknownEventFlags i = i
-formed-parsed w parsed.UnknownObtainFlags i = i
+    (formed-list w i n _ _ (or-left _ _ (p .1 .0)) (obtained-full (holdsOf w) (handlesOf w) (slotIn w n .fds) (k .0) (i .lists n))) _)
+formed-parsed w (parsed.RespondAndNotifyOnDetach t r x) n i = formed-respond w i (refusedIn w n) n (t .0) (result r x true) (handlesOf w) (λ m. i) _ refl
+formed-parsed w parsed.UnknownKind n i = i
+formed-parsed w parsed.UnknownEventFlags n i = i
+formed-parsed w parsed.UnknownObtainFlags n i = i
 
 pub formed-entry : (w : World) (e : Cqe) → WellFormed w → WellFormed (worldOf (entryOf w e))
-formed-entry w e i = formed-parsed w (parsedOf e) i
+formed-entry w e i = let j = formed-parsed w (parsedOf e) (e .tag) i in carried-cases (λ (x : Entered). WellFormed (worldOf x)) w (e .tag) (decisionOf (parsedOf e) (slotIn w (e .tag)) (holdsOf w) (handlesOf w)) j j
 
 formed-write : (es : List Cqe) (w : World) → WellFormed w → (n : ℕ) (fx : List ℕ) → WellFormed (writeOn w es n fx .world)
 formed-write [] w i n fx = i

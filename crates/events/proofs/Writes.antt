@@ -11,6 +11,8 @@ use lib.Seq.{getD-drop, drop-drop}
 use Rattle.error.specs.Errors.{demuxOf}
 use Rattle.fd_list.specs.Lists.{numbers}
 use Rattle.flag.specs.Flags.{within, eventFlags, fobtainFdFlags}
+use Rattle.handles.specs.declared.Handles.{Handles}
+use Rattle.handles.specs.Handles.{heldAt, emptied}
 use Rattle.le.specs.Le.{half, word}
 use Rattle.parse_cqe.specs.Parsed.{eventIf, obtainIf, parsedBy}
 use Rattle.schemev2.specs.declared.Cqe.{Cqe}
@@ -19,15 +21,17 @@ use Rattle.schemev2.specs.declared.CqeOpcode.the-variants.{RespondRegular, Resp
 use Rattle.schemev2.specs.Entry.{kindOf, extraOf, cqeOpcodeOf, cqeOf}
 use Rattle.slot.specs.declared.Phase.{Phase}
 use Rattle.slot.specs.declared.Phase.the-variants.{Vacant, Placeholder, Waiting, Responded, Fmap}
-use Rattle.events.specs.World.{World, slotIn, phaseIn, schemeOf, unreadIn}
+use Rattle.events.specs.World.{World, holdsOf, handlesOf, slotIn, phaseIn, schemeOf, unreadIn}
 use Rattle.events.specs.Outcome.{Answer, ok, no, onAnswer, onOk, Outcome, outcome, Row, row, checked}
 use Rattle.events.specs.Submit.{isPlaceholder}
-use Rattle.events.specs.Complete.{handleRows, obtainRows, Entered, accepted, rejected, worldOf, reject, Offer, result, one, listed, servedBy, respondBy, inHandle, isVacant, isWaiting, entryBy, entryOf, cut, stopped, onEntered, writeOn}
+use Rattle.events.specs.Entry.{Decision, Offer, one, listed, servedBy, respondBy, inHandle, takenOut, byDescriptor, isVacant, isWaiting, obtainRows, obtained}
+use Rattle.events.specs.Complete.{Entered, accepted, rejected, worldOf, carried, entryBy, entryOf, cut, stopped, onEntered, writeOn}
 use Rattle.events.specs.History.{Fact, book, entryAt, afterEntries, served, poured}
 use Rattle.events.specs.Demand3.{wakesFor, wakesIn}
 use Rattle.events.specs.Run.{Run}
 use Rattle.events.specs.WellFormed.{WellFormed}
 use Rattle.events.specs.Exactly.{ruled, isDue, inState, respondRows, entryRowsBy, entryRows, goodEntries, firstRows}
+use Rattle.events.proofs.Decided.{refusedIn}
 use Rattle.events.proofs.Conditions.{Named, isResponded, isFmap, slot-named}
 use Rattle.events.proofs.Effects.{Triples, triples-append, wakes-append, wakes-over}
 use Rattle.events.proofs.Entries.{InvOf, Same, Entered-ok, entry-ok}
@@ -86,38 +90,58 @@ abbrev entryAnswer : Entered → Answer
 entryAnswer (accepted fx w) = ok 0
 entryAnswer (rejected k fx w) = no k
 
-served-goes : (b : Bool) (w : World) (n : ℕ) (o : Offer) → entryAnswer (servedBy b w n o) ≡ ok 0
-served-goes true w n o = refl
-served-goes false w n o = refl
+served-goes : (b : Bool) (w : World) (n : ℕ) (o : Offer) (k : Handles) → entryAnswer (carried w n (servedBy b (slotIn w n) n o (holdsOf w) k)) ≡ ok 0
+served-goes true w n o k = refl
+served-goes false w n o k = refl
 
 module _ (w : World) (h : List Fact) (i : InvOf w h) where
-  respond-number : (u u' : World) (fx : List ℕ) (n : ℕ) (o : Offer) → entryAnswer (respondBy (phaseIn w n) u fx u' n o) ≡ ruled (respondRows h n) (ok 0)
-  respond-number u u' fx n o =
+  respond-number :
+      (turn : ℕ → Decision) (n : ℕ) (o : Offer) (k : Handles)
+      → entryAnswer (carried w n (turn 77)) ≡ no 77 → entryAnswer (carried w n (turn 22)) ≡ no 22
+      → entryAnswer (carried w n (respondBy (phaseIn w n) turn (slotIn w n) n o (holdsOf w) k)) ≡ ruled (respondRows h n) (ok 0)
+  respond-number turn n o k x y =
       let t = slot-named w h i n in
       go (phaseIn w n) ∙ ap (λ (rs : List Row). ruled rs (ok 0)) (λ j. row 77 (t .vacant j || t .placeholder j) ∷ row 22 (t .responded j || t .mapping j) ∷ [])
     where
-      go : (p : Phase) → entryAnswer (respondBy p u fx u' n o) ≡ ruled (row 77 (isVacant p || isPlaceholder p) ∷ row 22 (isResponded p || isFmap p) ∷ []) (ok 0)
-      go Vacant = refl
-      go Placeholder = refl
-      go Waiting = served-goes (slotIn u' n .ended) u' n o
-      go Responded = refl
-      go Fmap = refl
+      go :
+          (p : Phase)
+          → entryAnswer (carried w n (respondBy p turn (slotIn w n) n o (holdsOf w) k))
+          ≡ ruled (row 77 (isVacant p || isPlaceholder p) ∷ row 22 (isResponded p || isFmap p) ∷ []) (ok 0)
+      go Vacant = x
+      go Placeholder = x
+      go Waiting = served-goes (slotIn w n .ended) w n o k
+      go Responded = y
+      go Fmap = y
 
   module _ (c : Cqe) where
-    event-number : (b : Bool) → entryAnswer (entryBy (eventIf b c) w) ≡ ruled (row 22 (not b) ∷ []) (ok 0)
+    event-number : (b : Bool) → entryAnswer (entryBy (eventIf b c) w (c .tag)) ≡ ruled (row 22 (not b) ∷ []) (ok 0)
     event-number true = refl
     event-number false = refl
 
-    obtain-number : (b : Bool) → entryAnswer (entryBy (obtainIf b c) w) ≡ ruled (row 22 (not b) ∷ obtainRows w (c .tag)) (ok 0)
-    obtain-number true = ruled-checked entryAnswer (reject w) (λ k. refl) (obtainRows w (c .tag)) _
+    obtain-number : (b : Bool) → entryAnswer (entryBy (obtainIf b c) w (c .tag)) ≡ ruled (row 22 (not b) ∷ obtainRows (slotIn w (c .tag))) (ok 0)
+    obtain-number true = go (isVacant (phaseIn w (c .tag))) (not (isWaiting (phaseIn w (c .tag))) || eqb (length (numbers (slotIn w (c .tag) .fds))) 0)
+      where
+        go :
+            (a b : Bool)
+            → entryAnswer (carried w (c .tag) (cond a (refusedIn w (c .tag) 22) (cond b (refusedIn w (c .tag) 2) (obtained (slotIn w (c .tag)) (c .result) (holdsOf w) (handlesOf w)))))
+            ≡ ruled (row 22 a ∷ row 2 b ∷ []) (ok 0)
+        go true b = refl
+        go false true = refl
+        go false false = refl
     obtain-number false = refl
 
-    entry-number-by : (op : CqeOpcode) → entryAnswer (entryBy (parsedBy op c) w) ≡ ruled (entryRowsBy op h w c) (ok 0)
-    entry-number-by RespondRegular = respond-number w w [] (c .tag) _
-    entry-number-by RespondWithFd =
-        ruled-checked entryAnswer (reject w) (λ k. refl) (handleRows w (c .result)) _
-        ∙ ap (ruled (handleRows w (c .result))) (respond-number _ _ _ (c .tag) (one (inHandle w (c .result))))
-        ∙ ruled-append (handleRows w (c .result)) (respondRows h (c .tag)) (ok 0)
+    -- is the handle empty
+    handle-number :
+        (b : Bool)
+        → entryAnswer (carried w (c .tag) (cond b (refusedIn w (c .tag) 22) (byDescriptor (slotIn w (c .tag)) (c .tag) (c .result) (holdsOf w) (handlesOf w))))
+        ≡ ruled (row 22 b ∷ respondRows h (c .tag)) (ok 0)
+    handle-number true = refl
+    handle-number false =
+        respond-number (takenOut (slotIn w (c .tag)) (c .result) (holdsOf w) (handlesOf w)) (c .tag) (one (inHandle (handlesOf w) (c .result))) (emptied (handlesOf w) (c .result)) refl refl
+
+    entry-number-by : (op : CqeOpcode) → entryAnswer (entryBy (parsedBy op c) w (c .tag)) ≡ ruled (entryRowsBy op h w c) (ok 0)
+    entry-number-by RespondRegular = respond-number (refusedIn w (c .tag)) (c .tag) _ (handlesOf w) refl refl
+    entry-number-by RespondWithFd = handle-number (eqb (heldAt (handlesOf w) (c .result)) 0)
     entry-number-by SendFevent = event-number (within eventFlags (c .tag))
     entry-number-by ObtainFd =
         obtain-number (within fobtainFdFlags (extraOf c))
@@ -127,8 +151,8 @@ module _ (w : World) (h : List Fact) (i : InvOf w h) where
         ∷ row 22 (slot-named w h i (c .tag) .vacant j)
         ∷ row 2 (not (slot-named w h i (c .tag) .waiting j) || eqb (length (numbers (slotIn w (c .tag) .fds))) 0)
         ∷ [])
-    entry-number-by RespondWithMultipleFds = respond-number w w [] (c .tag) listed
-    entry-number-by RespondAndNotifyOnDetach = respond-number w w [] (c .tag) _
+    entry-number-by RespondWithMultipleFds = respond-number (refusedIn w (c .tag)) (c .tag) listed (handlesOf w) refl refl
+    entry-number-by RespondAndNotifyOnDetach = respond-number (refusedIn w (c .tag)) (c .tag) _ (handlesOf w) refl refl
     entry-number-by Unknown = refl
 
     entry-number : entryAnswer (entryOf w c) ≡ ruled (entryRowsBy (cqeOpcodeOf (kindOf c)) h w c) (ok 0)

@@ -12,7 +12,7 @@ use Rattle.table.specs.Table.{putAt}
 use Rattle.events.specs.World.{World, tableOf, holdsOf, slotIn, phaseIn, withTable, tableWith, withHolds}
 use Rattle.events.specs.Outcome.{Outcome, outcome, ok, refuse, Row, row, checked}
 use Rattle.events.specs.Submit.{badList, longList, takenHolds}
-use Rattle.events.specs.Complete.{dropped, isVacant, isWaiting}
+use Rattle.events.specs.Entry.{dropped, isVacant, isWaiting}
 
 abbrev pub verbOf : List ℕ → ℕ
 verbOf ms = getD ms 0 0

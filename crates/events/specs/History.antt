@@ -13,10 +13,11 @@ use Rattle.schemev2.specs.declared.CqeOpcode.the-variants.{RespondRegular, Resp
 use Rattle.schemev2.specs.declared.Sqe.{Sqe}
 use Rattle.schemev2.specs.Entry.{kindOf, cqeOpcodeOf}
 use Rattle.slot.specs.declared.PageSpan.{PageSpan}
-use Rattle.events.specs.World.{World, slotIn}
+use Rattle.events.specs.World.{World, handlesOf, slotIn}
 use Rattle.events.specs.Outcome.{Response, Answer, onAnswer, onOk}
 use Rattle.events.specs.Submit.{submitEntry, callEntry, genericEntry, stdMeta, fmapEntry, closeEntry, detachEntry}
-use Rattle.events.specs.Complete.{Offer, result, one, listed, responseTo, inHandle, worldOf, entryOf}
+use Rattle.events.specs.Entry.{Offer, result, one, listed, responseTo, inHandle}
+use Rattle.events.specs.Complete.{worldOf, entryOf}
 use Rattle.events.specs.Event.{DriverEvent, hostPut, reserve, submit, call, generic, stdfs, fmap, close, detach, wake, read, write, move, obtain, supply, Event, hostOpen, hostCopy, hostDrop, hostEnded, on}
 
 -- how far the call or map request is that a tag was last given out for; it is the tag's until given out again
@@ -134,7 +135,7 @@ afterEntries bs w (suc j) = worldOf (entryOf (afterEntries bs w j) (entryAt bs j
 -- "Reply entries are kinds 0, 1, 4 and 5": what one brings, with its handle as it is before it; any other entry brings none
 abbrev pub offers : CqeOpcode → World → Cqe → List Offer
 offers RespondRegular w e = result (demuxOf (e .result)) (e .«extra_raw» .0) false ∷ []
-offers RespondWithFd w e = one (inHandle w (e .result)) ∷ []
+offers RespondWithFd w e = one (inHandle (handlesOf w) (e .result)) ∷ []
 offers SendFevent w e = []
 offers ObtainFd w e = []
 offers RespondWithMultipleFds w e = listed ∷ []

@@ -4,6 +4,7 @@ pub mod Host
 pub mod Submit
 pub mod Wake
 pub mod Read
+pub mod Entry
 pub mod Complete
 pub mod Descriptors
 pub mod Supply

@@ -3,9 +3,10 @@
 use Prim.Native.Nat.{ℕ, _*_, _/_}
 use mathlib.Core.Path.{_≡_}
 use mathlib.Core.Bool.{cond, _||_}
-use mathlib.Core.List.{List, [], _∷_}
+use mathlib.Core.List.{List, []}
 use lib.Dec.{eqb, ltb}
 use lib.ListN.{length}
+use Rattle.fd_list.specs.Lists.{numbers}
 use Rattle.handles.specs.Handles.{heldAt, emptied}
 use Rattle.schemev2.specs.declared.Cqe.{Cqe}
 use Rattle.schemev2.specs.declared.CqeOpcode.{CqeOpcode}
@@ -16,7 +17,8 @@ use Rattle.table.specs.Table.{putAt, vacateAt}
 use Rattle.events.specs.World.{World, tableOf, holdsOf, handlesOf, slotIn, withTable, withHolds, withHandles}
 use Rattle.events.specs.Outcome.{Outcome, ok, no, wait}
 use Rattle.events.specs.Submit.{takenHolds}
-use Rattle.events.specs.Complete.{dropped, inHandle, rejected, entryOf}
+use Rattle.events.specs.Entry.{dropped, namedOf, inHandle}
+use Rattle.events.specs.Complete.{rejected, entryOf}
 use Rattle.events.specs.Event.{write, Event, on, step}
 use Rattle.events.specs.History.{View, tells, sends, wakes, reads, writes, moves, supplies, viewOf, entryAt, afterEntries}
 
@@ -31,7 +33,7 @@ abbrev pub leftBy : CqeOpcode → World → Cqe → World
 leftBy RespondRegular w e = w
 leftBy RespondWithFd w e =
     cond (eqb (heldAt (handlesOf w) (e .result)) 0) w
-    (withHandles (withHolds w (dropped (holdsOf w) (inHandle w (e .result) ∷ []))) (emptied (handlesOf w) (e .result)))
+    (withHandles (withHolds w (dropped (holdsOf w) (numbers (namedOf (inHandle (handlesOf w) (e .result)))))) (emptied (handlesOf w) (e .result)))
 leftBy SendFevent w e = w
 leftBy ObtainFd w e = w
 leftBy RespondWithMultipleFds w e = w

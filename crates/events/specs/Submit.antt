@@ -1,5 +1,5 @@
 -- Giving slots out and queuing entries (01, "Submitting"; src/scheme/user.rs: `next_id` 185, `call` 195, `call_inner` 225 to
--- 261, `request_fmap` 756, `call_generic` 1384, `close` 1641, `detach` 1663, `translate_std_fs_call` 2048).
+-- 254, `request_fmap` 756, `call_generic` 1384, `close` 1641, `detach` 1663, `translate_std_fs_call` 2048).
 use Prim.Native.Nat.{ℕ, _+_, _%_}
 use mathlib.Core.Bool.{Bool, true, false, not, cond, _||_, _&&_}
 use mathlib.Core.List.{List, [], _∷_}
@@ -24,8 +24,8 @@ use Rattle.events.specs.Outcome.{Outcome, outcome, ok, refuse, Row, row,
 abbrev pub args6 : ℕ → ℕ → ℕ → ℕ → ℕ → ℕ → Args
 args6 a b c d e f = record { 0 = a; 1 = b; 2 = c; 3 = d; 4 = e; 5 = f }
 
-abbrev pub entry : ℕ → ℕ → ℕ → Args → ℕ → Sqe
-entry opcode flags tag args pid = record { opcode = opcode; «sqe_flags» = flags; tag = tag; args = args; caller = pid }
+abbrev pub sqe : ℕ → ℕ → ℕ → Args → ℕ → Sqe
+sqe opcode flags tag args pid = record { opcode = opcode; «sqe_flags» = flags; tag = tag; args = args; caller = pid }
 
 -- conditions of refusals
 abbrev pub badOpcode : ℕ → Bool
@@ -68,7 +68,7 @@ submittable v c = isPlaceholder (phaseOf v) && (eqb (v .caller) c && not (v .end
 
 -- submit: opcode, flags, arguments and pid as given; the Placeholder becomes Waiting with the list
 abbrev pub submitEntry : ℕ → ℕ → ℕ → Args → ℕ → Sqe
-submitEntry n op fl args pid = entry op fl n args pid
+submitEntry n op fl args pid = sqe op fl n args pid
 
 abbrev pub submitRows : World → ℕ → ℕ → ℕ → List ℕ → List Row
 submitRows w n c op ds =
@@ -93,7 +93,7 @@ begun w v h e =
 
 -- `call`: reserve and submit in one; argument 5 is overwritten
 abbrev pub callEntry : ℕ → Args → ℕ → ℕ → ℕ → ℕ → Sqe
-callEntry op a uid gid pid n = entry op 0 n (args6 (a .0) (a .1) (a .2) (a .3) (a .4) (mergeOf uid gid)) pid
+callEntry op a uid gid pid n = sqe op 0 n (args6 (a .0) (a .1) (a .2) (a .3) (a .4) (mergeOf uid gid)) pid
 
 abbrev pub callRows : World → ℕ → List ℕ → List Row
 callRows w op ds = row 205 (badOpcode op || badList w ds) ∷ row 206 (longList ds) ∷ row 202 (tableFull w) ∷ row 203 (queueFull w) ∷ []
@@ -113,7 +113,7 @@ genericArgs false fds base len ms = args6 (getD fds 0 0) base len (getD ms 0 0) 
 
 abbrev pub genericEntry : ℕ → ℕ → List ℕ → ℕ → ℕ → List ℕ → ℕ → Sqe
 genericEntry op pid fds base len ms n =
-    entry op (cond (eqb (length fds) 2) sqeMultipleIds 0) n (genericArgs (eqb (length fds) 2) fds base len ms) pid
+    sqe op (cond (eqb (length fds) 2) sqeMultipleIds 0) n (genericArgs (eqb (length fds) 2) fds base len ms) pid
 
 abbrev pub genericRows : World → List ℕ → List Row
 genericRows w fds = row 22 (wrongFds fds) ∷ row 202 (tableFull w) ∷ row 203 (queueFull w) ∷ []
@@ -122,7 +122,7 @@ abbrev pub genericOf : World → ℕ → ℕ → List ℕ → ℕ → ℕ → Li
 genericOf w c pid fds base len ms =
     checked (refuse w) (genericRows w fds) (begun w (waitingOf c (listOf [])) (holdsOf w) (genericEntry 28 pid fds base len ms))
 
--- `StdFsCallKind`: 1 to 8 and 10 to 16 (syscall/src/flag.rs, lines 535 to 559)
+-- `StdFsCallKind`: 1 to 8 and 10 to 16 (syscall/src/flag.rs, lines 515 to 533)
 abbrev pub wrongKind : ℕ → Bool
 wrongKind k = not (leb 1 k && leb k 8 || leb 10 k && leb k 16)
 
@@ -143,7 +143,7 @@ stdfsOf w c pid fds base len ms =
 
 -- `request_fmap`: an Fmap slot, which is no call; the offset is left out of the entry
 abbrev pub fmapEntry : ℕ → ℕ → ℕ → ℕ → ℕ → ℕ → ℕ → Sqe
-fmapEntry id pages flags uid gid pid n = entry 21 0 n (args6 id flags pages 0 0 (mergeOf uid gid)) pid
+fmapEntry id pages flags uid gid pid n = sqe 21 0 n (args6 id flags pages 0 0 (mergeOf uid gid)) pid
 
 abbrev pub fmapRows : World → List Row
 fmapRows w = row 202 (tableFull w) ∷ row 203 (queueFull w) ∷ []
@@ -154,7 +154,7 @@ fmapOf w c id pages flags uid gid pid =
 
 -- `close`: pid 0, tag 0, and its effect has READ and HUP
 abbrev pub closeEntry : ℕ → Sqe
-closeEntry id = entry 27 0 0 (args6 id 0 0 0 0 0) 0
+closeEntry id = sqe 27 0 0 (args6 id 0 0 0 0 0) 0
 
 abbrev pub queueRows : World → List Row
 queueRows w = row 203 (queueFull w) ∷ []
@@ -168,7 +168,7 @@ closeOf w id = checked (refuse w) (queueRows w) (notified w (eventRead + eventHu
 
 -- `detach`: the pid, tag 0
 abbrev pub detachEntry : ℕ → ℕ → Sqe
-detachEntry id pid = entry 34 0 0 (args6 id 0 0 0 0 0) pid
+detachEntry id pid = sqe 34 0 0 (args6 id 0 0 0 0 0) pid
 
 abbrev pub detachOf : World → ℕ → ℕ → Outcome
 detachOf w id pid = checked (refuse w) (queueRows w) (notified w eventRead (detachEntry id pid))

@@ -1,4 +1,4 @@
--- One turn of `call_inner`'s loop (01, "Waking"; src/scheme/user.rs, lines 263 to 388), and what a slot holds for it.
+-- One turn of `call_inner`'s loop (01, "Waking"; src/scheme/user.rs, lines 256 to 392), and what a slot holds for it.
 use Prim.Native.Nat.{ℕ, zero, suc}
 use mathlib.Core.Bool.{Bool, true, false, not, _&&_}
 use mathlib.Core.List.{List, [], _∷_}
@@ -17,7 +17,7 @@ use Rattle.slot.specs.Slots.{canceledOf, interruptedOf}
 use Rattle.table.specs.Table.{putAt, vacateAt}
 use Rattle.events.specs.World.{World, tableOf, holdsOf, slotIn, phaseIn, withTable, tableWith, queueFull, queued}
 use Rattle.events.specs.Outcome.{Response, success, error, descriptor, many, Outcome, outcome, no, blocked, reply, refuse, Row, row, checked, readable}
-use Rattle.events.specs.Submit.{entry, args6}
+use Rattle.events.specs.Submit.{sqe, args6}
 
 -- a stored reply, and the list beside it, as the reply that it is: by the stored kind, its word, and for many the list
 abbrev pub responseBy : ℕ → Reply → Fds → Response
@@ -42,7 +42,7 @@ heldIn (many ds) = ds
 
 -- Cancel: ONEWAY, the call's tag, all else 0
 abbrev pub cancelEntry : ℕ → Sqe
-cancelEntry n = entry 25 sqeOneway n (args6 0 0 0 0 0 0) 0
+cancelEntry n = sqe 25 sqeOneway n (args6 0 0 0 0 0 0) 0
 
 -- the reply leaves with its holds, which become outside ones, and its slot is vacated
 abbrev pub handedOver : World → ℕ → Outcome

@@ -18,7 +18,7 @@ eventHup = 4
 abbrev pub eventFlags : ℕ
 eventFlags = eventRead + 2 + eventHup + 8 + 16
 
--- `FobtainFdFlags`: syscall/src/flag.rs, lines 83 to 97
+-- `FobtainFdFlags`: syscall/src/flag.rs, lines 83 to 101
 abbrev pub fobtainFdFlags : ℕ
 fobtainFdFlags = 1 + 2 + 4 + 8
 

@@ -33,7 +33,7 @@ pub fn event_flags_known(bits: u64) -> bool
     EVENT_FLAGS & bits == bits
 }
 
-// `FobtainFdFlags`: syscall/src/flag.rs, lines 83 to 97.
+// `FobtainFdFlags`: syscall/src/flag.rs, lines 83 to 101.
 const FOBTAIN_MANUAL_FD: u64 = 1;
 
 const FOBTAIN_EXCLUSIVE: u64 = 2;

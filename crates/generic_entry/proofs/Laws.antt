@@ -8,7 +8,7 @@ use lib.Dec.{ltb}
 use lib.ListN.{getD, length, List·getD-eq-default}
 use borrow.Author.Tests.{eq-eqb, ne-eqb}
 use Rattle.flag.specs.Flags.{sqeMultipleIds}
-use Rattle.events.specs.Submit.{args6, entry, wrongKind, genericEntry}
+use Rattle.events.specs.Submit.{args6, sqe, wrongKind, genericEntry}
 use Rattle.events.proofs.Conditions.{kind-same}
 
 pub no-word : (ws : List ℕ) (i : ℕ) → length ws ≤ i → 0 ≡ getD ws i 0
@@ -28,9 +28,9 @@ module _ (k : ℕ) where
 module _ (op n pid base len : ℕ) (fds ms : List ℕ) (f m o : ℕ) (ef : f ≡ getD fds 0 0) (em : m ≡ getD ms 0 0) (eo : o ≡ getD ms 1 0) where
   pub entry-two :
       (g b : ℕ) → length fds ≡ 2 → g ≡ getD fds 1 0 → b ≡ sqeMultipleIds
-      → entry op b n (args6 f base len m o g) pid ≡ genericEntry op pid fds base len ms n
+      → sqe op b n (args6 f base len m o g) pid ≡ genericEntry op pid fds base len ms n
   entry-two g b q eg eb = rw (eq-eqb (length fds) 2 q, ef, em, eo, eg, eb) refl
 
   pub entry-one :
-      (p : ℕ) → (length fds ≡ 2 → ⊥) → p ≡ getD ms 2 0 → entry op 0 n (args6 f base len m o p) pid ≡ genericEntry op pid fds base len ms n
+      (p : ℕ) → (length fds ≡ 2 → ⊥) → p ≡ getD ms 2 0 → sqe op 0 n (args6 f base len m o p) pid ≡ genericEntry op pid fds base len ms n
   entry-one p q ep = rw (ne-eqb (length fds) 2 q, ef, em, eo, ep) refl

@@ -1,4 +1,4 @@
-// The entry of `call_generic` and of `translate_std_fs_call` (src/scheme/user.rs, lines 1384 to 1426 and 2048), and the kinds of
+// The entry of `call_generic` and of `translate_std_fs_call` (src/scheme/user.rs, lines 1384 to 1429 and 2048), and the kinds of
 // file system call that are none.
 use schemev2::Args;
 use schemev2::Sqe;
@@ -46,7 +46,7 @@ pub fn entry(op: u8, tag: u32, pid: u64, fds: &[u64], base: u64, len: u64, metad
     }
 }
 
-// `StdFsCallKind::try_from_raw` (syscall/src/flag.rs, lines 535 to 559): 1 to 8 and 10 to 16.
+// `StdFsCallKind::try_from_raw` (syscall/src/flag.rs, lines 536 to 559): 1 to 8 and 10 to 16.
 pub fn is_wrong_kind(kind: u64) -> bool
     ensures { λ r. ⌜ r ≡ wrongKind kind ⌝ }
 {

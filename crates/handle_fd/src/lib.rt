@@ -1,10 +1,10 @@
-// The entries that bring a descriptor or obtain one (`handle_parsed`, src/scheme/user.rs, lines 792 to 846), each as a decision
+// The entries that bring a descriptor or obtain one (`handle_parsed`, src/scheme/user.rs, lines 800 to 813 and 817 to 848), each as a decision
 // on the slot that its tag names. Hold counts and handles are lent.
 use closes::Reason;
 use ids::Handle;
 use reply_parts::Offer;
-use respond::Act;
 use respond::Responded;
+use slot::Act;
 use slot::Phase;
 use slot::Slot;
 ghost use mathlib.Core.Path.{_≡_};
@@ -13,7 +13,8 @@ ghost use Prim.Native.Nat.{ℕ, _≤_};
 ghost use lib.Seq.{sets};
 ghost use Rattle.holds.specs.Holds.{holdsWith};
 ghost use Rattle.handles.specs.Handles.{handlesWith};
-ghost use Rattle.handle_fd.specs.HandleFd.{decided, descriptorOf, descriptorFx, obtainOf, obtainFx};
+ghost use Rattle.events.specs.Entry.{descriptorOf, obtainEntryOf};
+ghost use Rattle.respond.specs.Respond.{AsDecided};
 
 // With descriptor: the handle is emptied, whatever the tag says then; refused by its tag, the hold is dropped.
 pub fn descriptor(
@@ -25,8 +26,8 @@ pub fn descriptor(
     fx: &mut [u64],
     at: usize,
 ) -> Responded
-    ensures { λ r. ⌜ ((o : Words ℕ) → decided (r .number) (r .act) (r .slot) (holdsWith (now (all .exit)) o) (handlesWith (now (n .exit))) (r .words) ≡ descriptorOf v tag (fd .0) (holdsWith (now (all .entry)) o) (handlesWith (now (n .entry)))) ⌝ }
-    ensures { λ r. ⌜ ((o : Words ℕ) → now (fx .exit) ≡ sets (now (fx .entry)) at (descriptorFx v tag (fd .0) (holdsWith (now (all .entry)) o) (handlesWith (now (n .entry))))) ⌝ }
+    ensures { λ r. ⌜ ((o : Words ℕ) → AsDecided r (holdsWith (now (all .exit)) o) (handlesWith (now (n .exit))) (descriptorOf v tag (fd .0) (holdsWith (now (all .entry)) o) (handlesWith (now (n .entry))))) ⌝ }
+    ensures { λ r. ⌜ ((o : Words ℕ) → now (fx .exit) ≡ sets (now (fx .entry)) at (descriptorOf v tag (fd .0) (holdsWith (now (all .entry)) o) (handlesWith (now (n .entry))) .effects)) ⌝ }
     ensures { λ r. ⌜ r .words ≤ 99 ⌝ }
 {
     let held = handles::held_at(n, fd);
@@ -59,8 +60,8 @@ pub fn obtain(
     fx: &mut [u64],
     at: usize,
 ) -> Responded
-    ensures { λ r. ⌜ ((o : Words ℕ) → decided (r .number) (r .act) (r .slot) (holdsWith (now (all .exit)) o) (handlesWith (now (n .exit))) (r .words) ≡ obtainOf v (fd .0) (holdsWith (now (all .entry)) o) (handlesWith (now (n .entry)))) ⌝ }
-    ensures { λ r. ⌜ ((o : Words ℕ) → now (fx .exit) ≡ sets (now (fx .entry)) at (obtainFx v (fd .0) (holdsWith (now (all .entry)) o) (handlesWith (now (n .entry))))) ⌝ }
+    ensures { λ r. ⌜ ((o : Words ℕ) → AsDecided r (holdsWith (now (all .exit)) o) (handlesWith (now (n .exit))) (obtainEntryOf v (fd .0) (holdsWith (now (all .entry)) o) (handlesWith (now (n .entry))))) ⌝ }
+    ensures { λ r. ⌜ ((o : Words ℕ) → now (fx .exit) ≡ sets (now (fx .entry)) at (obtainEntryOf v (fd .0) (holdsWith (now (all .entry)) o) (handlesWith (now (n .entry))) .effects)) ⌝ }
     ensures { λ r. ⌜ r .words ≤ 99 ⌝ }
 {
     let p = slot::phase_of(v);

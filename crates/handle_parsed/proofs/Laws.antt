@@ -1,22 +1,16 @@
 -- The decision by what the entry asks for. Assumes nothing.
-use Prim.Native.Nat.{ℕ, _≤_}
-use mathlib.Core.Path.{_≡_, sym, ap, _∙_}
+use Prim.Native.Nat.{ℕ}
+use mathlib.Core.Path.{_≡_, ap}
 use mathlib.Core.List.{List}
-use native.Mathlib.Omega.{arith}
-use lib.Seq.{sets}
-use Rattle.handle_fd.specs.HandleFd.{Handled, refusedOf}
 use Rattle.handles.specs.declared.Handles.{Handles}
 use Rattle.holds.specs.declared.Holds.{Holds}
 use Rattle.parse_cqe.specs.declared.ParsedCqe.{ParsedCqe}
+use Rattle.respond.specs.declared.Responded.{Responded}
+use Rattle.respond.proofs.Laws.{Meets, meets}
 use Rattle.slot.specs.declared.Slot.{Slot}
-use Rattle.handle_parsed.specs.Handled.{handledOf, handledFx}
+use Rattle.events.specs.Entry.{decisionOf}
 
--- by what the entry asks for
-module _ (p q : ParsedCqe) (v : Slot) (h : Holds) (n : Handles) (fx gx : List ℕ) (at : ℕ) (d : Handled) (e : p ≡ q) where
-  pub asked :
-      d ≡ handledOf q v h n → gx ≡ sets fx at (handledFx q v h n) → d .words ≤ 99
-      → (d ≡ handledOf p v h n) × ((gx ≡ sets fx at (handledFx p v h n)) × (d .words ≤ 99))
-  asked a b few = (a ∙ ap (λ (x : ParsedCqe). handledOf x v h n) (sym e), (b ∙ ap (λ (x : ParsedCqe). sets fx at (handledFx x v h n)) (sym e), few))
-
-pub no-words : (k : ℕ) (v : Slot) (h : Holds) (n : Handles) (d : Handled) → d ≡ refusedOf k v h n → d .words ≤ 99
-no-words k v h n d e = omega (arith, ap (λ (x : Handled). x .words) e)
+pub asked :
+    (p q : ParsedCqe) (v : Slot) (h : Holds) (n : Handles) (fx : List ℕ) (at : ℕ) (r : Responded) (g : Holds) (m : Handles) (gx : List ℕ) → p ≡ q
+    → Meets fx at (decisionOf q v h n) r g m gx → Meets fx at (decisionOf p v h n) r g m gx
+asked p q v h n fx at r g m gx e x = meets fx at (decisionOf p v h n) (decisionOf q v h n) r g m gx (ap (λ (y : ParsedCqe). decisionOf y v h n) e) x

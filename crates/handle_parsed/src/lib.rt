@@ -1,9 +1,9 @@
-// `handle_parsed` (src/scheme/user.rs, lines 792 to 846) as a decision on the slot that the entry's tag names: what becomes
+// `handle_parsed` (src/scheme/user.rs, lines 792 to 848 and 920 to 925) as a decision on the slot that the entry's tag names: what becomes
 // of it, of the holds and of the handles, and which effects follow.
 use parse_cqe::ParsedCqe;
 use reply_parts::Offer;
-use respond::Act;
 use respond::Responded;
+use slot::Act;
 use slot::Slot;
 ghost use mathlib.Core.Path.{_≡_};
 ghost use mathlib.Core.List.{List as Words};
@@ -11,8 +11,8 @@ ghost use Prim.Native.Nat.{ℕ, _≤_};
 ghost use lib.Seq.{sets};
 ghost use Rattle.holds.specs.Holds.{holdsWith};
 ghost use Rattle.handles.specs.Handles.{handlesWith};
-ghost use Rattle.handle_fd.specs.HandleFd.{decided};
-ghost use Rattle.handle_parsed.specs.Handled.{handledOf, handledFx};
+ghost use Rattle.events.specs.Entry.{decisionOf};
+ghost use Rattle.respond.specs.Respond.{AsDecided};
 
 pub fn handle_parsed(
     p: ParsedCqe,
@@ -22,8 +22,8 @@ pub fn handle_parsed(
     fx: &mut [u64],
     at: usize,
 ) -> Responded
-    ensures { λ r. ⌜ ((o : Words ℕ) → decided (r .number) (r .act) (r .slot) (holdsWith (now (all .exit)) o) (handlesWith (now (n .exit))) (r .words) ≡ handledOf p v (holdsWith (now (all .entry)) o) (handlesWith (now (n .entry)))) ⌝ }
-    ensures { λ r. ⌜ ((o : Words ℕ) → now (fx .exit) ≡ sets (now (fx .entry)) at (handledFx p v (holdsWith (now (all .entry)) o) (handlesWith (now (n .entry))))) ⌝ }
+    ensures { λ r. ⌜ ((o : Words ℕ) → AsDecided r (holdsWith (now (all .exit)) o) (handlesWith (now (n .exit))) (decisionOf p v (holdsWith (now (all .entry)) o) (handlesWith (now (n .entry))))) ⌝ }
+    ensures { λ r. ⌜ ((o : Words ℕ) → now (fx .exit) ≡ sets (now (fx .entry)) at (decisionOf p v (holdsWith (now (all .entry)) o) (handlesWith (now (n .entry))) .effects)) ⌝ }
     ensures { λ r. ⌜ r .words ≤ 99 ⌝ }
 {
     match p {

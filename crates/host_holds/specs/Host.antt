@@ -26,32 +26,32 @@ oneMore h d = holdsWith (more (h .holds) d) (more (h .outside) d)
 abbrev pub oneFewer : Holds → ℕ → Holds
 oneFewer h d = holdsWith (less (h .holds) d) (less (h .outside) d)
 
-abbrev pub opened : OpenAnswer → Holds → HoldOpened
-opened a h = record { answer = a; holds = h }
+abbrev pub openedAs : OpenAnswer → Holds → HoldOpened
+openedAs a h = record { answer = a; holds = h }
 
 -- refused for a description over 63 or already open
 abbrev pub openOf : Holds → ℕ → HoldOpened
 openOf h d =
-    cond (ltb 63 d || not (eqb (getD (h .holds) d 0) 0)) (opened opening.BadArgument h)
-    (opened opening.Opened (oneMore h d))
+    cond (ltb 63 d || not (eqb (getD (h .holds) d 0) 0)) (openedAs opening.BadArgument h)
+    (openedAs opening.Opened (oneMore h d))
 
-abbrev pub copied : CopyAnswer → Holds → HoldCopied
-copied a h = record { answer = a; holds = h }
+abbrev pub copiedAs : CopyAnswer → Holds → HoldCopied
+copiedAs a h = record { answer = a; holds = h }
 
 -- refused for a description over 63, not open or without an outside hold, then for one with 65,535 holds
 abbrev pub copyOf : Holds → ℕ → HoldCopied
 copyOf h d =
-    cond (unheld (h .holds) (h .outside) d) (copied copying.BadArgument h)
-    (cond (eqb (getD (h .holds) d 0) 65535) (copied copying.TooManyHolds h)
-    (copied copying.Copied (oneMore h d)))
+    cond (unheld (h .holds) (h .outside) d) (copiedAs copying.BadArgument h)
+    (cond (eqb (getD (h .holds) d 0) 65535) (copiedAs copying.TooManyHolds h)
+    (copiedAs copying.Copied (oneMore h d)))
 
-abbrev pub dropped : DropAnswer → Holds → HoldDropped
-dropped a h = record { answer = a; holds = h }
+abbrev pub droppedAs : DropAnswer → Holds → HoldDropped
+droppedAs a h = record { answer = a; holds = h }
 
 abbrev pub dropOf : Holds → ℕ → HoldDropped
 dropOf h d =
-    cond (unheld (h .holds) (h .outside) d) (dropped dropping.BadArgument h)
-    (dropped dropping.Dropped (oneFewer h d))
+    cond (unheld (h .holds) (h .outside) d) (droppedAs dropping.BadArgument h)
+    (droppedAs dropping.Dropped (oneFewer h d))
 
 -- 01's numbers and values
 abbrev pub openAnswer : OpenAnswer → Answer

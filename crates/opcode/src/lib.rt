@@ -1,4 +1,4 @@
-// The opcodes of submission entries: `Opcode::try_from_raw` (syscall/src/schemev2.rs, lines 126 to 212).
+// The opcodes of submission entries: `Opcode::try_from_raw` (syscall/src/schemev2.rs, lines 168 to 212).
 ghost use mathlib.Core.Path.{_≡_};
 ghost use Rattle.answer.specs.Answer.{numberOf};
 ghost use Rattle.opcode.specs.Opcodes.{opcodeOf, opcodeAnswer};

@@ -15,11 +15,11 @@ use Rattle.fd_list.specs.Lists.{listOf}
 use Rattle.slot.specs.declared.Reply.{Reply}
 use Rattle.slot.specs.declared.Slot.{Slot}
 use Rattle.slot.specs.Slots.{noFds}
-use Rattle.events.specs.Complete.{storedErrno, storedResult, storedAs}
+use Rattle.events.specs.Entry.{storedErrno, storedResult, storedAs, namedOf}
 use Rattle.reply_parts.specs.declared.Offer.{Offer}
 use Rattle.reply_parts.specs.declared.Offer.the-variants.{Regular, Fd, Listed}
 use Rattle.reply_parts.specs.declared.Parts.{Parts}
-use Rattle.reply_parts.specs.Parts.{offered, namedOf, partsOf}
+use Rattle.reply_parts.specs.Parts.{offered, partsOf}
 
 pub errno-is : (c : Bool) (e : ℕ) (x y : Bool) → c ≡ x → (x ≡ true → eqb e 125 ≡ y) → (x ≡ false → eqb e 4 ≡ y) → cond x (cond y 4 e) (cond y 5 e) ≡ storedErrno c e
 errno-is c e true y q f g = rw (q, f refl) refl

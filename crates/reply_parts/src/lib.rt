@@ -1,13 +1,13 @@
 // What a reply entry brings, taken apart at its slot: the reply as it is stored (`respond`, src/scheme/user.rs, lines 926 to
-// 1005), the list that is kept and the one that goes.
+// 1008), the list that is kept and the one that goes.
 use error::Result;
 use fd_list::List;
 use ids::Description;
 use slot::Reply;
 use slot::Slot;
 ghost use mathlib.Core.Path.{_≡_};
-ghost use Rattle.events.specs.Complete.{storedErrno, storedResult, storedAs};
-ghost use Rattle.reply_parts.specs.Parts.{offered, namedOf, partsOf};
+ghost use Rattle.events.specs.Entry.{storedErrno, storedResult, storedAs, namedOf};
+ghost use Rattle.reply_parts.specs.Parts.{offered, partsOf};
 
 // What a reply entry brings: a result with extra0 and the notice, a description out of a handle, or the slot's own list.
 pub enum Offer {

@@ -8,7 +8,7 @@ use Rattle.state.specs.declared.State.{State}
 use Rattle.user_args.specs.Args.{mergeOf}
 use Rattle.events.specs.World.{world, holdsOf, queueFull}
 use Rattle.events.specs.Outcome.{Outcome, outcome, no}
-use Rattle.events.specs.Submit.{args6, entry, tableFull, begun, fmapEntry, fmapOf}
+use Rattle.events.specs.Submit.{args6, sqe, tableFull, begun, fmapEntry, fmapOf}
 
 module _ (s : State) (ws : List ℕ) (c id pages flags uid gid pid : ℕ) where
   abbrev Is : Outcome → Type 0
@@ -25,5 +25,5 @@ module _ (s : State) (ws : List ℕ) (c id pages flags uid gid pid : ℕ) where
       → o ≡ begun (world s ws) (mapRequestOf c) (holdsOf (world s ws)) (fmapEntry id pages flags uid gid pid) → Is o
   requested q r o e = e ∙ rw (q, r) refl
 
-  pub entry-is : (who n : ℕ) → who ≡ mergeOf uid gid → entry 21 0 n (args6 id flags pages 0 0 who) pid ≡ fmapEntry id pages flags uid gid pid n
+  pub entry-is : (who n : ℕ) → who ≡ mergeOf uid gid → sqe 21 0 n (args6 id flags pages 0 0 who) pid ≡ fmapEntry id pages flags uid gid pid n
   entry-is who n e = rw e refl

@@ -1,4 +1,4 @@
-// `request_fmap` (src/scheme/user.rs, lines 756 to 790): a map request. It is no call, and its offset stays out of the entry.
+// `request_fmap` (src/scheme/user.rs, lines 756 to 791): a map request. It is no call, and its offset stays out of the entry.
 use effect::Effect;
 use ids::Tag;
 use part::Part;

@@ -1,7 +1,7 @@
 -- Effects stored one run after the other, and the decision by the slot's phase. Assumes nothing.
 use Prim.Native.Nat.{ℕ, min, _+_, _*_, _<_, _≤_}
-use mathlib.Core.Path.{_≡_, refl, sym, ap, ap₂, _∙_}
-use mathlib.Core.Bool.{Bool}
+use mathlib.Core.Path.{_≡_, refl, sym, ap, _∙_, subst}
+use mathlib.Core.Bool.{Bool, true, false}
 use mathlib.Core.List.{List, [], _∷_, _++_}
 use native.Mathlib.Omega.{arith}
 use native.Mathlib.Decide.{decLt}
@@ -17,18 +17,20 @@ use Rattle.counts.specs.Counts.{lasts}
 use Rattle.fd_list.specs.Lists.{numbers}
 use Rattle.holds.specs.declared.Holds.{Holds}
 use Rattle.word_put.proofs.Stores.{sets-past, behind}
+use Rattle.handles.specs.declared.Handles.{Handles}
+use Rattle.handles.specs.Handles.{handlesWith}
+use Rattle.slot.specs.declared.Act.the-variants.{Store, Vacate}
 use Rattle.slot.specs.declared.PageSpan.{PageSpan}
 use Rattle.slot.specs.declared.Phase.{Phase}
 use Rattle.slot.specs.declared.Phase.the-variants.{Waiting}
 use Rattle.slot.specs.declared.Slot.{Slot}
 use Rattle.slot.specs.Slots.{phaseOf, vacantSlot, respondedOf}
-use Rattle.events.specs.Complete as complete
-use Rattle.events.specs.Complete.{unmapOf, closesOf, dropped}
-use Rattle.respond.specs.declared.Act.the-variants.{Store, Vacate}
+use Rattle.events.specs.Entry.{Decision, refusedOf, dropped, closesOf, unmapOf, releaseOf, storedOf, lostOf, servedBy, respondBy, respondOf}
 use Rattle.reply_parts.specs.declared.Offer.{Offer}
 use Rattle.reply_parts.specs.declared.Parts.{Parts}
-use Rattle.respond.specs.Respond.{Decided, decided, releasedFx, storedFx, storedOf, lostFx, lostOf, servedOf, servedFx, respondOf, respondFx}
 use Rattle.reply_parts.specs.Parts.{offered, partsOf}
+use Rattle.respond.specs.declared.Responded.{Responded}
+use Rattle.respond.specs.Respond.{AsDecided}
 
 -- a place past the end is as good as the end
 pub place-same : (l xs : List ℕ) (i : ℕ) → sets l (min i (length l)) xs ≡ sets l i xs
@@ -54,7 +56,13 @@ module _ (h : Holds) (ds : List ℕ) (why : Reason) (f : Bool) (ef : f ≡ closi
   pub closes-are : (fx gx : List ℕ) (at : ℕ) → gx ≡ sets fx at (closes (only f (lasts (h .holds) ds))) → gx ≡ sets fx at (closesOf why h ds)
   closes-are fx gx at e = e ∙ ap (λ (b : Bool). sets fx at (closes (only b (lasts (h .holds) ds)))) ef
 
--- what is said of any outside holds, apart
+-- what is said of any outside holds and handles, apart
+pub apart :
+    {A B : List ℕ → Handles → Type 0} {C : Type 0} → ((o : List ℕ) (n : Handles) → A o n × (B o n × C))
+    → ((o : List ℕ) (n : Handles) → A o n) × (((o : List ℕ) (n : Handles) → B o n) × C)
+apart f = (λ o n. f o n .0, (λ o n. f o n .1 .0, f [] (handlesWith []) .1 .1))
+
+-- of any outside holds
 pub three : {A B : List ℕ → Type 0} {C : Type 0} → ((o : List ℕ) → A o × (B o × C)) → ((o : List ℕ) → A o) × (((o : List ℕ) → B o) × C)
 three f = (λ o. f o .0, (λ o. f o .1 .0, f [] .1 .1))
 
@@ -62,47 +70,72 @@ pub words-are : (xs ys : List ℕ) (n m : ℕ) → n ≡ length xs → m ≡ len
 words-are xs ys n m p q = omega (arith, p, q, length-append xs ys)
 
 pub stored-is :
-    (v u : Slot) (n : ℕ) (p : Parts) (h g : Holds) (k : ℕ) → u ≡ respondedOf v (p .reply) (p .kept) → g ≡ dropped h (numbers (p .gone))
-    → k ≡ length (releasedFx v (numbers (p .gone)) h) → decided 0 Store u g (3 + k) ≡ storedOf v n p h
-stored-is v u n p h g k eu eg ek = λ i. decided 0 Store (eu i) (eg i) (w i)
-  where
-    w : 3 + k ≡ length (storedFx v n p h)
-    w = omega (arith, ek)
+    (v u : Slot) (t : ℕ) (p : Parts) (h g : Holds) (n : Handles) (k : ℕ) → u ≡ respondedOf v (p .reply) (p .kept) → g ≡ dropped h (numbers (p .gone))
+    → k ≡ length (releaseOf v (numbers (p .gone)) h)
+    → AsDecided (record { number = 0; act = Store; slot = u; words = 3 + k }) g n (storedOf v t (p .reply) (p .kept) (numbers (p .gone)) h n)
+stored-is v u t p h g n k eu eg ek =
+    record { number = refl; act = refl; slot = eu; holds = eg; handles = refl; words = omega (arith, ek) }
 
 pub lost-is :
-    (v u : Slot) (p : Parts) (h g f : Holds) (j k : ℕ) → u ≡ vacantSlot → g ≡ dropped h (numbers (p .gone)) → f ≡ dropped g (numbers (p .own))
-    → j ≡ length (releasedFx v (numbers (p .gone)) h) → k ≡ length (closesOf Ended g (numbers (p .own)))
-    → decided 0 Vacate u f (j + k) ≡ lostOf v p h
-lost-is v u p h g f j k eu eg ef ej ek =
-    λ i. decided 0 Vacate (eu i) (y i) (w i)
-  where
-    y : f ≡ dropped (dropped h (numbers (p .gone))) (numbers (p .own))
-    y = ef ∙ ap (λ (x : Holds). dropped x (numbers (p .own))) eg
-
-    w : j + k ≡ length (lostFx v p h)
-    w = words-are (releasedFx v (numbers (p .gone)) h) (closesOf Ended (dropped h (numbers (p .gone))) (numbers (p .own))) j k ej (ek ∙ ap (λ (x : Holds). length (closesOf Ended x (numbers (p .own)))) eg)
+    (v u : Slot) (p : Parts) (h g f : Holds) (n : Handles) (j k : ℕ) → u ≡ vacantSlot → g ≡ dropped h (numbers (p .gone)) → f ≡ dropped g (numbers (p .own))
+    → j ≡ length (releaseOf v (numbers (p .gone)) h) → k ≡ length (closesOf Ended g (numbers (p .own)))
+    → AsDecided (record { number = 0; act = Vacate; slot = u; words = j + k }) f n (lostOf v (numbers (p .gone)) (numbers (p .own)) h n)
+lost-is v u p h g f n j k eu eg ef ej ek =
+    record {
+      number = refl;
+      act = refl;
+      slot = eu;
+      holds = ef ∙ ap (λ (x : Holds). dropped x (numbers (p .own))) eg;
+      handles = refl;
+      words =
+          words-are (releaseOf v (numbers (p .gone)) h) (closesOf Ended (dropped h (numbers (p .gone))) (numbers (p .own))) j k ej
+          (ek ∙ ap (λ (x : Holds). length (closesOf Ended x (numbers (p .own)))) eg);
+    }
 
 pub lost-fx :
-    (v : Slot) (p : Parts) (h g : Holds) (fx f e : List ℕ) (at j : ℕ) → g ≡ dropped h (numbers (p .gone)) → f ≡ sets fx at (releasedFx v (numbers (p .gone)) h)
-    → j ≡ length (releasedFx v (numbers (p .gone)) h) → e ≡ sets f (at + j) (closesOf Ended g (numbers (p .own))) → e ≡ sets fx at (lostFx v p h)
-lost-fx v p h g fx f e at j eg ef ej ee =
-    behind fx f e (releasedFx v (numbers (p .gone)) h) (closesOf Ended (dropped h (numbers (p .gone))) (numbers (p .own))) at j ef ej
+    (v : Slot) (p : Parts) (h g : Holds) (n : Handles) (fx f e : List ℕ) (at j : ℕ) → g ≡ dropped h (numbers (p .gone)) → f ≡ sets fx at (releaseOf v (numbers (p .gone)) h)
+    → j ≡ length (releaseOf v (numbers (p .gone)) h) → e ≡ sets f (at + j) (closesOf Ended g (numbers (p .own)))
+    → e ≡ sets fx at (lostOf v (numbers (p .gone)) (numbers (p .own)) h n .effects)
+lost-fx v p h g n fx f e at j eg ef ej ee =
+    behind fx f e (releaseOf v (numbers (p .gone)) h) (closesOf Ended (dropped h (numbers (p .gone))) (numbers (p .own))) at j ef ej
     (ee ∙ ap (λ (x : Holds). sets f (at + j) (closesOf Ended x (numbers (p .own)))) eg)
 
--- respond by the slot's phase
-module _ (v : Slot) (n : ℕ) (o : Offer) (h : Holds) (fx : List ℕ) (at : ℕ) where
-  abbrev Done : Decided → List ℕ → Type 0
-  Done d gx = (d ≡ respondOf (phaseOf v) v n (offered o) h) × ((gx ≡ sets fx at (respondFx (phaseOf v) v n (offered o) h)) × (d .words ≤ 99))
+-- what is promised of a function whose decision is d
+abbrev pub Meets : List ℕ → ℕ → Decision → Responded → Holds → Handles → List ℕ → Type 0
+Meets fx at d r g n gx = AsDecided r g n d × ((gx ≡ sets fx at (d .effects)) × (r .words ≤ 99))
 
-  pub turned : (p : Phase) (d : Decided) → phaseOf v ≡ p → d ≡ respondOf p v n (offered o) h → respondFx p v n (offered o) h ≡ [] → respondOf p v n (offered o) h .words ≡ 0 → Done d fx
-  turned p d q e z y = rw q (e, (ap (sets fx at) (sym z), omega (arith, ap (λ (x : Decided). x .words) e, y)))
+pub meets :
+    (fx : List ℕ) (at : ℕ) (d e : Decision) (r : Responded) (g : Holds) (n : Handles) (gx : List ℕ) → d ≡ e → Meets fx at e r g n gx → Meets fx at d r g n gx
+meets fx at d e r g n gx q m = subst (λ (x : Decision). Meets fx at x r g n gx) (sym q) m
+
+-- a refusal makes no effect
+pub refused-meets :
+    (v : Slot) (h : Holds) (n : Handles) (k : ℕ) (fx : List ℕ) (at : ℕ) (r : Responded) → AsDecided r h n (refusedOf v h n k) → Meets fx at (refusedOf v h n k) r h n fx
+refused-meets v h n k fx at r a = (a, (refl, omega (arith, a .words)))
+
+-- respond by the slot's phase
+module _ (v : Slot) (t : ℕ) (o : Offer) (h : Holds) (n : Handles) (fx : List ℕ) (at : ℕ) where
+  abbrev Done : Responded → Holds → List ℕ → Type 0
+  Done r g gx = Meets fx at (respondOf v t (offered o) h n) r g n gx
+
+  abbrev by : Phase → Decision
+  by p = respondBy p (refusedOf v h n) v t (offered o) h n
+
+  pub turned : (p : Phase) (k : ℕ) (r : Responded) → phaseOf v ≡ p → by p ≡ refusedOf v h n k → AsDecided r h n (refusedOf v h n k) → Done r h fx
+  turned p k r q e a = meets fx at _ (refusedOf v h n k) r h n fx (ap by q ∙ e) (refused-meets v h n k fx at r a)
+
+  -- served with these parts
+  abbrev with : Bool → Parts → Decision
+  with true p = lostOf v (numbers (p .gone)) (numbers (p .own)) h n
+  with false p = storedOf v t (p .reply) (p .kept) (numbers (p .gone)) h n
+
+  with-is : (b : Bool) → servedBy b v t (offered o) h n ≡ with b (partsOf v (offered o))
+  with-is true = refl
+  with-is false = refl
 
   pub waiting :
-      (b : Bool) (p : Parts) (k : ℕ) (d : Decided) (gx : List ℕ) → phaseOf v ≡ Waiting → v .ended ≡ b → p ≡ partsOf v (offered o) → k ≡ min at (length fx)
-      → d ≡ servedOf b v n p h → gx ≡ sets fx k (servedFx b v n p h) → d .words ≤ 99 → Done d gx
-  waiting b p k d gx q e ep ek ed eg few =
-      let words : gx ≡ sets fx at (servedFx (v .ended) v n (partsOf v (offered o)) h) =
-      eg ∙ ap₂ (λ (x : Parts) (y : Bool). sets fx k (servedFx y v n x h)) ep (sym e)
-      ∙ ap (λ (j : ℕ). sets fx j (servedFx (v .ended) v n (partsOf v (offered o)) h)) ek
-      ∙ place-same fx (servedFx (v .ended) v n (partsOf v (offered o)) h) at in
-      rw q (ed ∙ ap₂ (λ (x : Parts) (y : Bool). servedOf y v n x h) ep (sym e), (words, few))
+      (b : Bool) (p : Parts) (k : ℕ) (r : Responded) (g : Holds) (gx : List ℕ) → phaseOf v ≡ Waiting → v .ended ≡ b → p ≡ partsOf v (offered o) → k ≡ min at (length fx)
+      → AsDecided r g n (with b p) → gx ≡ sets fx k (with b p .effects) → r .words ≤ 99 → Done r g gx
+  waiting b p k r g gx q e ep ek a eg few =
+      meets fx at _ (with b p) r g n gx (ap by q ∙ ap (λ (x : Bool). servedBy x v t (offered o) h n) e ∙ with-is b ∙ ap (with b) (sym ep))
+      (a, (eg ∙ ap (λ (j : ℕ). sets fx j (with b p .effects)) ek ∙ place-same fx (with b p .effects) at, few))

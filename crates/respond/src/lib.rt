@@ -1,9 +1,10 @@
-// `respond` (src/scheme/user.rs, lines 926 to 1005) as a decision on one slot: what becomes of it, of the holds, and which
+// `respond` (src/scheme/user.rs, lines 926 to 1008) as a decision on one slot: what becomes of it, of the holds, and which
 // effects follow. Hold counts are lent; the effect words go to lent ones from a given place on.
 use closes::Reason;
 use fd_list::List;
 use reply_parts::Offer;
 use reply_parts::Parts;
+use slot::Act;
 use slot::PageSpan;
 use slot::Phase;
 use slot::Slot;
@@ -14,19 +15,12 @@ ghost use lib.Dec.{eqb};
 ghost use lib.ListN.{length};
 ghost use lib.Seq.{sets};
 ghost use Rattle.fd_list.specs.Lists.{numbers};
+ghost use Rattle.handles.specs.declared.Handles.{Handles};
 ghost use Rattle.holds.specs.declared.Holds.{Holds as Counts};
 ghost use Rattle.holds.specs.Holds.{holdsWith};
-ghost use Rattle.slot.specs.Slots.{phaseOf};
-ghost use Rattle.events.specs.Complete.{unmapOf, dropped};
+ghost use Rattle.events.specs.Entry.{dropped, unmapOf, releaseOf, storedOf, lostOf, refusedOf, respondOf};
 ghost use Rattle.reply_parts.specs.Parts.{offered};
-ghost use Rattle.respond.specs.Respond.{decided, releasedFx, storedOf, storedFx, lostOf, lostFx, refusedOf, respondOf, respondFx};
-
-// What becomes of the slot.
-pub enum Act {
-    Leave,
-    Store,
-    Vacate,
-}
+ghost use Rattle.respond.specs.Respond.{AsDecided};
 
 // `number` is 0 for an accepted entry, else the refusal's; `words` of effects were stored.
 pub struct Responded {
@@ -54,9 +48,9 @@ fn unmap(span: PageSpan, fx: &mut [u64], at: usize) -> usize
 fn release(v: Slot, gone: List, all: &mut [u16; 64], fx: &mut [u64], at: usize) -> usize
     requires { ⌜ at ≤ 0x2000_0000_0000_0000 ⌝ }
     ensures { λ r. ⌜ ((o : Words ℕ) → holdsWith (now (all .exit)) o ≡ dropped (holdsWith (now (all .entry)) o) (numbers gone)) ⌝ }
-    ensures { λ r. ⌜ ((o : Words ℕ) → r ≡ length (releasedFx v (numbers gone) (holdsWith (now (all .entry)) o))) ⌝ }
+    ensures { λ r. ⌜ ((o : Words ℕ) → r ≡ length (releaseOf v (numbers gone) (holdsWith (now (all .entry)) o))) ⌝ }
     ensures { λ r. ⌜ r ≤ 51 ⌝ }
-    ensures { λ r. ⌜ ((o : Words ℕ) → now (fx .exit) ≡ sets (now (fx .entry)) at (releasedFx v (numbers gone) (holdsWith (now (all .entry)) o))) ⌝ }
+    ensures { λ r. ⌜ ((o : Words ℕ) → now (fx .exit) ≡ sets (now (fx .entry)) at (releaseOf v (numbers gone) (holdsWith (now (all .entry)) o))) ⌝ }
 {
     let span = v.span;
     let n = unmap(span, fx, at);
@@ -75,8 +69,8 @@ fn stored_in(
     at: usize,
 ) -> Responded
     requires { ⌜ at ≤ 0x1000_0000_0000_0000 ⌝ }
-    ensures { λ r. ⌜ ((o : Words ℕ) → decided (r .number) (r .act) (r .slot) (holdsWith (now (all .exit)) o) (r .words) ≡ storedOf v tag p (holdsWith (now (all .entry)) o)) ⌝ }
-    ensures { λ r. ⌜ ((o : Words ℕ) → now (fx .exit) ≡ sets (now (fx .entry)) at (storedFx v tag p (holdsWith (now (all .entry)) o))) ⌝ }
+    ensures { λ r. ⌜ ((o : Words ℕ) (n : Handles) → AsDecided r (holdsWith (now (all .exit)) o) n (storedOf v tag (p .reply) (p .kept) (numbers (p .gone)) (holdsWith (now (all .entry)) o) n)) ⌝ }
+    ensures { λ r. ⌜ ((o : Words ℕ) (n : Handles) → now (fx .exit) ≡ sets (now (fx .entry)) at (storedOf v tag (p .reply) (p .kept) (numbers (p .gone)) (holdsWith (now (all .entry)) o) n .effects)) ⌝ }
     ensures { λ r. ⌜ r .words ≤ 99 ⌝ }
 {
     let reply = p.reply;
@@ -96,8 +90,8 @@ fn stored_in(
 // To one whose caller has ended: the slot is vacated, the reply's own holds are dropped after the list's.
 fn lost_in(v: Slot, p: Parts, all: &mut [u16; 64], fx: &mut [u64], at: usize) -> Responded
     requires { ⌜ at ≤ 0x1000_0000_0000_0000 ⌝ }
-    ensures { λ r. ⌜ ((o : Words ℕ) → decided (r .number) (r .act) (r .slot) (holdsWith (now (all .exit)) o) (r .words) ≡ lostOf v p (holdsWith (now (all .entry)) o)) ⌝ }
-    ensures { λ r. ⌜ ((o : Words ℕ) → now (fx .exit) ≡ sets (now (fx .entry)) at (lostFx v p (holdsWith (now (all .entry)) o))) ⌝ }
+    ensures { λ r. ⌜ ((o : Words ℕ) (n : Handles) → AsDecided r (holdsWith (now (all .exit)) o) n (lostOf v (numbers (p .gone)) (numbers (p .own)) (holdsWith (now (all .entry)) o) n)) ⌝ }
+    ensures { λ r. ⌜ ((o : Words ℕ) (n : Handles) → now (fx .exit) ≡ sets (now (fx .entry)) at (lostOf v (numbers (p .gone)) (numbers (p .own)) (holdsWith (now (all .entry)) o) n .effects)) ⌝ }
     ensures { λ r. ⌜ r .words ≤ 99 ⌝ }
 {
     let gone = p.gone;
@@ -116,7 +110,7 @@ fn lost_in(v: Slot, p: Parts, all: &mut [u16; 64], fx: &mut [u64], at: usize) ->
 
 // The slot, the holds and the effects stay as they are.
 pub fn refused(v: Slot, number: u64) -> Responded
-    ensures { λ r. ⌜ ((h : Counts) → decided (r .number) (r .act) (r .slot) h (r .words) ≡ refusedOf number v h) ⌝ }
+    ensures { λ r. ⌜ ((h : Counts) (n : Handles) → AsDecided r h n (refusedOf v h n number)) ⌝ }
 {
     Responded {
         number: number,
@@ -144,8 +138,8 @@ pub fn respond(
     fx: &mut [u64],
     at: usize,
 ) -> Responded
-    ensures { λ r. ⌜ ((o : Words ℕ) → decided (r .number) (r .act) (r .slot) (holdsWith (now (all .exit)) o) (r .words) ≡ respondOf (phaseOf v) v tag (offered offer) (holdsWith (now (all .entry)) o)) ⌝ }
-    ensures { λ r. ⌜ ((o : Words ℕ) → now (fx .exit) ≡ sets (now (fx .entry)) at (respondFx (phaseOf v) v tag (offered offer) (holdsWith (now (all .entry)) o))) ⌝ }
+    ensures { λ r. ⌜ ((o : Words ℕ) (n : Handles) → AsDecided r (holdsWith (now (all .exit)) o) n (respondOf v tag (offered offer) (holdsWith (now (all .entry)) o) n)) ⌝ }
+    ensures { λ r. ⌜ ((o : Words ℕ) (n : Handles) → now (fx .exit) ≡ sets (now (fx .entry)) at (respondOf v tag (offered offer) (holdsWith (now (all .entry)) o) n .effects)) ⌝ }
     ensures { λ r. ⌜ r .words ≤ 99 ⌝ }
 {
     let p = slot::phase_of(v);

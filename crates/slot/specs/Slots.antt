@@ -1,4 +1,4 @@
--- A slot and the few ways in which one is made (01, "Slots and holds"; src/scheme/user.rs, lines 51 to 69).
+-- A slot and the few ways in which one is made (01, "Slots and holds"; src/scheme/user.rs, lines 51 to 68).
 use mathlib.Core.Bool.{Bool, true, false}
 use mathlib.Core.List.{List, [], _∷_}
 use Prim.Native.Nat.{ℕ}

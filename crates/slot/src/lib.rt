@@ -1,4 +1,4 @@
-// A slot and the few ways in which one is made: `State` and `Response` of src/scheme/user.rs, lines 51 to 69.
+// A slot and the few ways in which one is made: `State` and `Response` of src/scheme/user.rs, lines 51 to 68.
 use fd_list::List;
 ghost use mathlib.Core.Path.{_≡_};
 ghost use Rattle.slot.specs.Slots.{phaseOf, madeOf, vacantSlot, placeholderOf, waitingOf, canceledOf, interruptedOf, respondedOf, mapRequestOf, endedOf, withFdsOf};
@@ -40,6 +40,13 @@ pub enum Phase {
     Waiting,
     Responded,
     Fmap,
+}
+
+// What a completion entry decides to become of its slot.
+pub enum Act {
+    Leave,
+    Store,
+    Vacate,
 }
 
 // A number that names no phase reads as Vacant.

@@ -24,7 +24,7 @@ use Rattle.wait_queue.specs.declared.WaitQueue.{WaitQueue}
 use Rattle.wait_queue.specs.Queue.{sentOf, sentWords}
 use Rattle.events.specs.World.{World, world, slotIn, queueFull, tableWith}
 use Rattle.events.specs.Outcome.{Outcome, outcome, ok, no, readable}
-use Rattle.events.specs.Submit.{entry, badOpcode, badList, longList, isPlaceholder, submittable, takenHolds, submitted, submitEntry, submitOf}
+use Rattle.events.specs.Submit.{sqe, badOpcode, badList, longList, isPlaceholder, submittable, takenHolds, submitted, submitEntry, submitOf}
 
 -- the decision on a slot
 pub decided :
@@ -74,13 +74,13 @@ module _ (s : State) (ws : List ℕ) (n : Tag) (c op fl : ℕ) (args : Args) (pi
         badOpcode op ≡ false → badList (world s ws) ds ≡ false → longList ds ≡ false → k .0 < 64
         → submittable (getD (s .table .slots) (k .0) noSlot) c ≡ true → queueFull (world s ws) ≡ false
         → (v : Slot) (h : Holds) (m : ℕ) (q : WaitQueue) (xs fx : List ℕ) → v ≡ waitingOf c (listOf ds) → h ≡ takenHolds (world s ws) ds → op ≡ m
-        → q ≡ sentOf (s .driver .queue) .queue → xs ≡ sentWords (s .driver .queue) ws (entry m fl (k .0) args pid) → fx ≡ readable (world s ws)
+        → q ≡ sentOf (s .driver .queue) .queue → xs ≡ sentWords (s .driver .queue) ws (sqe m fl (k .0) args pid) → fx ≡ readable (world s ws)
         → outcome (ok (n .0)) fx (world (left (k .0) v h q) xs) ≡ submitOf (world s ws) (n .0) c op fl args pid ds
     submitted-is q r t l f g v h m u xs fx ev eh em eu ex ef =
         let z = ap (λ (x : Slot). submittable x c) (sym (slot-in (s .table) n k is l)) ∙ f in
         let y : k .0 ≡ n .0 = omega (arith, ap (λ (x : SlotNo). x .0) is, l) in
         let p : stored (s .table) (k .0) v ≡ putAt (s .table) (n .0) (waitingOf c (listOf ds)) = put-in (s .table) n k is v l ∙ ap (putAt (s .table) (n .0)) ev in
         let x : xs ≡ sentWords (s .driver .queue) ws (submitEntry (n .0) op fl args pid) =
-        ex ∙ ap₂ (λ (a b : ℕ). sentWords (s .driver .queue) ws (entry a fl b args pid)) (sym em) y in
+        ex ∙ ap₂ (λ (a b : ℕ). sentWords (s .driver .queue) ws (sqe a fl b args pid)) (sym em) y in
         let last : submitted (world s ws) (n .0) c ds (submitEntry (n .0) op fl args pid) ≡ submitOf (world s ws) (n .0) c op fl args pid ds = rw (q, r, t, z, g) refl in
         (λ i. outcome (ok (n .0)) (ef i) (world (record { driver = record { scheme = s .driver .scheme; handles = s .driver .handles; queue = eu i }; table = tableWith (p i) (eh i) }) (x i))) ∙ last

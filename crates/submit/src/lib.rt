@@ -1,4 +1,4 @@
-// A reserved call is submitted: the start of `call_inner` (src/scheme/user.rs, lines 233 to 261). Opcode, flags, arguments
+// A reserved call is submitted: the start of `call_inner` (src/scheme/user.rs, lines 233 to 254). Opcode, flags, arguments
 // and pid are taken as given.
 use effect::Effect;
 use holds::Holds;

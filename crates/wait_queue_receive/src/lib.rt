@@ -1,4 +1,4 @@
-// Reading the queue of submission entries: `receive_into_user` (src/sync/wait_queue.rs, lines 28 to 72).
+// Reading the queue of submission entries: `receive_into_user` (src/sync/wait_queue.rs, lines 28 to 73).
 use wait_queue::WaitQueue;
 ghost use mathlib.Core.Path.{_≡_};
 ghost use Prim.Native.Nat.{min, _+_, _*_, _≤_};

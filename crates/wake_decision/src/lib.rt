@@ -1,4 +1,4 @@
-// What a wake answers and does, decided on the tag's slot (`call_inner`, src/scheme/user.rs, lines 263 to 388).
+// What a wake answers and does, decided on the tag's slot (`call_inner`, src/scheme/user.rs, lines 256 to 392).
 use fd_list::List;
 use ids::Description;
 use ids::SlotNo;

@@ -2,37 +2,28 @@
 use Prim.Native.Nat.{ℕ, suc, _+_, _-_, _*_, _/_, _%_, _<_, _≤_}
 use mathlib.Core.Path.{_≡_, refl, sym, ap, ap₂, _∙_, subst}
 use mathlib.Core.Logic.{_⊎_, inl, inr}
-use mathlib.Core.Bool.{Bool, true, false, cond}
+use mathlib.Core.Bool.{Bool, true, false, not, cond, _||_}
 use mathlib.Core.List.{List, [], _∷_, _++_}
 use native.Mathlib.Omega.{arith}
 use native.Mathlib.Numerals.{add-one}
 use lib.Dec.{eqb, ltb}
 use lib.ListN.{getD, set, length, drop, length-append}
-use lib.Seq.{sets, set-getD, drop-drop}
+use lib.Seq.{sets, length-sets, set-getD, drop-drop}
 use borrow.Author.Tests.{eq-eqb, ne-eqb, ltb-true, lt-ltb, le-ltb}
-use Rattle.closes.specs.declared.Reason.the-variants.{Unusable}
-use Rattle.closes.specs.Closes.{closing, only, closes}
-use Rattle.closes.proofs.Laws.{closes-length}
-use Rattle.counts.specs.Counts.{lasts}
-use Rattle.counts.proofs.Laws.{lessAll-length}
-use Rattle.fd_list.specs.declared.List.{List as Fds}
 use Rattle.fd_list.specs.Lists.{numbers}
-use Rattle.handle_parsed.specs.Handled.{handledOf, handledFx, actOn, after, carried}
-use Rattle.handle_fd.specs.HandleFd.{Handled, handled, byTag, byTagFx, byHandle, byHandleFx, obtainBy, obtainedOf, obtainedFrom, closesFrom, obtainFxBy}
-use Rattle.handle_parsed.proofs.Carried.{carried-is}
 use Rattle.handles.specs.declared.Handles.{Handles}
-use Rattle.handles.specs.Handles as handle
+use Rattle.handles.specs.Handles.{heldAt, emptied}
 use Rattle.holds.specs.declared.Holds.{Holds}
 use Rattle.parse_cqe.specs.declared.ParsedCqe.{ParsedCqe}
 use Rattle.parse_cqe.specs.declared.ParsedCqe.the-variants as parsed
 use Rattle.parse_cqe.specs.Parsed.{parsedOf}
-use Rattle.respond.specs.declared.Act.{Act}
-use Rattle.respond.specs.declared.Act.the-variants.{Leave, Store, Vacate}
-use Rattle.respond.specs.Respond.{Decided, servedOf, servedFx, respondOf, respondFx}
-use Rattle.reply_parts.specs.Parts.{namedOf, partsOf}
+use Rattle.respond.specs.declared.Responded.{Responded as Answered}
+use Rattle.respond.specs.Respond.{AsDecided}
 use Rattle.word_put.proofs.Stores.{sets-then}
 use Rattle.schemev2.specs.declared.Cqe.{Cqe}
 use Rattle.schemev2.specs.Entry.{cqeOf}
+use Rattle.slot.specs.declared.Act.{Act}
+use Rattle.slot.specs.declared.Act.the-variants.{Leave, Store, Vacate}
 use Rattle.slot.specs.declared.Phase.{Phase}
 use Rattle.slot.specs.declared.Phase.the-variants.{Vacant, Placeholder, Waiting, Responded, Fmap}
 use Rattle.slot.specs.declared.Slot.{Slot}
@@ -43,76 +34,58 @@ use Rattle.table.specs.declared.Table.{Table}
 use Rattle.table.specs.Table.{noSlot, slotAt, stored, vacated}
 use Rattle.events.specs.World.{World, world, tableWith}
 use Rattle.events.specs.Outcome.{Answer, Outcome, outcome, ok, refuse}
-use Rattle.events.specs.Complete.{Entered, accepted, rejected, Offer, one, entryOf, cut, entriesOf, stopped, onEntered, writeOn, writeOf}
+use Rattle.events.specs.Entry.{Decision, decided, refusedOf, Offer, one, servedBy, respondBy, inHandle, byDescriptor, isVacant, isWaiting, obtained, decisionOf}
+use Rattle.events.specs.Complete.{Entered, accepted, rejected, actOn, after, carried, entryOf, cut, entriesOf, stopped, onEntered, writeOn, writeOf}
 use Rattle.carry_out.specs.After.{lookOf, slotAfter, nextAfter, headAfter}
 use Rattle.write.specs.Write.{refusal}
 
--- a decision's words are those of its effects, and its number is 0 or a refusal's
-abbrev Fit : Handled → List ℕ → Type 0
-Fit d fx = (d .words ≡ length fx) × ((d .number ≡ 0) ⊎ refusal (d .number))
+-- a decision's number is 0 or a refusal's
+abbrev Fits : Decision → Type 0
+Fits d = (d .number ≡ 0) ⊎ refusal (d .number)
 
-served-fit : (b : Bool) (v : Slot) (t : ℕ) (o : Offer) (h : Holds) (n : Handles) → Fit (handled (servedOf b v t (partsOf v o) h) n) (servedFx b v t (partsOf v o) h)
-served-fit true v t o h n = (refl, inl refl)
-served-fit false v t o h n = (refl, inl refl)
+served-fits : (b : Bool) (v : Slot) (t : ℕ) (o : Offer) (h : Holds) (n : Handles) → Fits (servedBy b v t o h n)
+served-fits true v t o h n = inl refl
+served-fits false v t o h n = inl refl
 
-respond-fit : (p : Phase) (v : Slot) (t : ℕ) (o : Offer) (h : Holds) (n : Handles) → Fit (handled (respondOf p v t o h) n) (respondFx p v t o h)
-respond-fit Vacant v t o h n = (refl, inr (inl refl))
-respond-fit Placeholder v t o h n = (refl, inr (inl refl))
-respond-fit Waiting v t o h n = served-fit (v .ended) v t o h n
-respond-fit Responded v t o h n = (refl, inr (inr (inl refl)))
-respond-fit Fmap v t o h n = (refl, inr (inr (inl refl)))
+respond-fits :
+    (p : Phase) (turn : ℕ → Decision) (v : Slot) (t : ℕ) (o : Offer) (h : Holds) (n : Handles) → Fits (turn 77) → Fits (turn 22) → Fits (respondBy p turn v t o h n)
+respond-fits Vacant turn v t o h n x y = x
+respond-fits Placeholder turn v t o h n x y = x
+respond-fits Waiting turn v t o h n x y = served-fits (v .ended) v t o h n
+respond-fits Responded turn v t o h n x y = y
+respond-fits Fmap turn v t o h n x y = y
 
-by-tag-fit : (b : Bool) (d : Decided) (fx : List ℕ) (v : Slot) (x : ℕ) (h : Holds) (n : Handles) → Fit (handled d n) fx → Fit (byTag b d v x h n) (byTagFx b fx x h)
-by-tag-fit true d fx v x h n f = f
-by-tag-fit false d fx v x h n f = (refl, f .1)
+-- the first row that is due, or what has passed
+handle-fits : (b : Bool) (v : Slot) (t k : ℕ) (h : Holds) (n : Handles) → Fits (cond b (refusedOf v h n 22) (byDescriptor v t k h n))
+handle-fits true v t k h n = inr (inr (inl refl))
+handle-fits false v t k h n = respond-fits (phaseOf v) _ v t (one (inHandle n k)) h (emptied n k) (inr (inl refl)) (inr (inr (inl refl)))
 
-by-handle-fit : (b : Bool) (v : Slot) (t k : ℕ) (h : Holds) (n : Handles) → Fit (byHandle b v t k h n) (byHandleFx b v t k h n)
-by-handle-fit true v t k h n = (refl, inr (inr (inl refl)))
-by-handle-fit false v t k h n =
-    let d = respondOf (phaseOf v) v t (one (handle.heldAt n k - 1)) h in
-    by-tag-fit (eqb (d .number) 0) d (respondFx (phaseOf v) v t (one (handle.heldAt n k - 1)) h) v (handle.heldAt n k - 1) h (handle.emptied n k)
-    (respond-fit (phaseOf v) v t (one (handle.heldAt n k - 1)) h (handle.emptied n k))
+obtain-fits : (a b : Bool) (v : Slot) (k : ℕ) (h : Holds) (n : Handles) → Fits (cond a (refusedOf v h n 22) (cond b (refusedOf v h n 2) (obtained v k h n)))
+obtain-fits true b v k h n = inr (inr (inl refl))
+obtain-fits false true v k h n = inr (inr (inr refl))
+obtain-fits false false v k h n = inl refl
 
-obtain-words : (h : Holds) (n : Handles) (l : Fds) (k : ℕ) → 3 * handle.obtainOf h n l k .count ≡ length (handle.obtainCloses h n l k)
-obtain-words h n l k = go (numbers l)
-  where
-    free : (b : Bool) (d : ℕ) → 3 * handle.obtainBy b h n l k d .count ≡ length (closes (cond b [] (only (closing Unusable) (lasts (h .holds) (d ∷ [])))))
-    free true d = refl
-    free false d = sym (closes-length (only (closing Unusable) (lasts (h .holds) (d ∷ []))))
-
-    go : (ds : List ℕ) → 3 * handle.obtainIn ds h n l k .count ≡ length (closes (handle.obtainLasts ds h n k))
-    go [] = refl
-    go (d ∷ ds) = free (handle.isFree n k) d
-
-obtained-fit : (b : Bool) (v : Slot) (k : ℕ) (h : Holds) (n : Handles) → Fit (obtainedOf b v (obtainedFrom v k h n) h n) (cond b [] (closesFrom v k h n))
-obtained-fit true v k h n = (refl, inr (inr (inr refl)))
-obtained-fit false v k h n = (obtain-words h n (v .fds) k, inl refl)
-
-obtain-fit : (p : Phase) (v : Slot) (k : ℕ) (h : Holds) (n : Handles) → Fit (obtainBy p v k h n) (obtainFxBy p v k h n)
-obtain-fit Vacant v k h n = (refl, inr (inr (inl refl)))
-obtain-fit Placeholder v k h n = (refl, inr (inr (inr refl)))
-obtain-fit Waiting v k h n = obtained-fit (eqb (length (numbers (v .fds))) 0) v k h n
-obtain-fit Responded v k h n = (refl, inr (inr (inr refl)))
-obtain-fit Fmap v k h n = (refl, inr (inr (inr refl)))
-
-fit : (p : ParsedCqe) (v : Slot) (h : Holds) (n : Handles) → Fit (handledOf p v h n) (handledFx p v h n)
-fit (parsed.TriggerFevent number flags) v h n = (refl, inl refl)
-fit (parsed.RegularResponse t r x) v h n = respond-fit (phaseOf v) v (t .0) _ h n
-fit (parsed.ResponseWithFd t k) v h n = by-handle-fit (eqb (handle.heldAt n (k .0)) 0) v (t .0) (k .0) h n
-fit (parsed.ResponseWithMultipleFds t c) v h n = respond-fit (phaseOf v) v (t .0) _ h n
-fit (parsed.ObtainFd t flags k) v h n = obtain-fit (phaseOf v) v (k .0) h n
-fit (parsed.RespondAndNotifyOnDetach t r x) v h n = respond-fit (phaseOf v) v (t .0) _ h n
-fit parsed.UnknownKind v h n = (refl, inr (inr (inl refl)))
-fit parsed.UnknownEventFlags v h n = (refl, inr (inr (inl refl)))
-fit parsed.UnknownObtainFlags v h n = (refl, inr (inr (inl refl)))
+fits : (p : ParsedCqe) (v : Slot) (h : Holds) (n : Handles) → Fits (decisionOf p v h n)
+fits (parsed.TriggerFevent number flags) v h n = inl refl
+fits (parsed.RegularResponse t r x) v h n = respond-fits (phaseOf v) (refusedOf v h n) v (t .0) _ h n (inr (inl refl)) (inr (inr (inl refl)))
+fits (parsed.ResponseWithFd t k) v h n = handle-fits (eqb (heldAt n (k .0)) 0) v (t .0) (k .0) h n
+fits (parsed.ResponseWithMultipleFds t c) v h n = respond-fits (phaseOf v) (refusedOf v h n) v (t .0) _ h n (inr (inl refl)) (inr (inr (inl refl)))
+fits (parsed.ObtainFd t flags k) v h n =
+    obtain-fits (isVacant (phaseOf v)) (not (isWaiting (phaseOf v)) || eqb (length (numbers (v .fds))) 0) v (k .0) h n
+fits (parsed.RespondAndNotifyOnDetach t r x) v h n = respond-fits (phaseOf v) (refusedOf v h n) v (t .0) _ h n (inr (inl refl)) (inr (inr (inl refl)))
+fits parsed.UnknownKind v h n = inr (inr (inl refl))
+fits parsed.UnknownEventFlags v h n = inr (inr (inl refl))
+fits parsed.UnknownObtainFlags v h n = inr (inr (inl refl))
 
 -- a number that is not 0 refuses
-pub refused-by : (p : ParsedCqe) (v : Slot) (h : Holds) (n : Handles) (r : Handled) → r ≡ handledOf p v h n → (r .number ≡ 0 → ⊥) → refusal (r .number)
-refused-by p v h n r e z = go (subst (λ (x : Handled). Fit x (handledFx p v h n)) (sym e) (fit p v h n) .1)
+pub refused-by :
+    (p : ParsedCqe) (v : Slot) (h : Holds) (n : Handles) (q : Answered) (g : Holds) (m : Handles) → AsDecided q g m (decisionOf p v h n)
+    → (q .number ≡ 0 → ⊥) → refusal (q .number)
+refused-by p v h n q g m a z = go (subst (λ (k : ℕ). (k ≡ 0) ⊎ refusal k) (sym (a .number)) (fits p v h n))
   where
-    go : (r .number ≡ 0) ⊎ refusal (r .number) → refusal (r .number)
-    go (inl q) = absurd (z q)
-    go (inr q) = q
+    go : (q .number ≡ 0) ⊎ refusal (q .number) → refusal (q .number)
+    go (inl e) = absurd (z e)
+    go (inr e) = e
 
 -- the slot that is looked at
 look-is : (t : Table) (n : ℕ) → lookOf (ltb n 64) (getD (t .slots) (n % 64) noSlot) ≡ slotAt t n
@@ -168,14 +141,14 @@ abbrev pub driverWith : Driver → Handles → Driver
 driverWith d k = record { scheme = d .scheme; handles = k; queue = d .queue }
 
 -- what is left to do, from state u with i entries done and effects gx, is the whole
-abbrev Whole : State → List ℕ → List ℕ → State → ℕ → ℕ → List ℕ → Type 0
-Whole s ws bs u n i gx = writeOn (world u ws) (cut (n - i) (drop (16 * i) bs)) i gx ≡ writeOn (world s ws) (entriesOf bs) 0 []
+abbrev Remains : State → List ℕ → List ℕ → State → ℕ → ℕ → List ℕ → Type 0
+Remains s ws bs u n i gx = writeOn (world u ws) (cut (n - i) (drop (16 * i) bs)) i gx ≡ writeOn (world s ws) (entriesOf bs) 0 []
 
 pub record Left (s : State) (ws fx₀ bs : List ℕ) (n : ℕ) (fx : List ℕ) (t : Table) (d : Driver) (i j : ℕ) : Type 0 where
   pub made : List ℕ
   pub words : length made ≡ j
   pub lent : fx ≡ sets fx₀ 0 made
-  pub whole : Whole s ws bs (record { driver = d; table = t }) n i made
+  pub whole : Remains s ws bs (record { driver = d; table = t }) n i made
 
 pub begins : (s : State) (ws fx bs : List ℕ) (n : ℕ) → n ≡ length bs / 16 → Left s ws fx bs n fx (s .table) (s .driver) 0 0
 begins s ws fx bs n e =
@@ -186,47 +159,48 @@ begins s ws fx bs n e =
       whole = ap (λ (m : ℕ). writeOn (world s ws) (cut m bs) 0 []) (let z : n - 0 ≡ length bs / 16 = omega (arith, e) in z);
     }
 
-module _ (s : State) (ws fx₀ bs : List ℕ) (n : ℕ) (fx : List ℕ) (t : Table) (d : Driver) (i j : ℕ) (l : Left s ws fx₀ bs n fx t d i j) (more : i < n) (size : length (t .holds .holds) ≡ 64)
-    (e : Cqe) (ee : e ≡ cqeOf (drop (16 * i) bs)) (r : Handled) (p : ParsedCqe) (ep : p ≡ parsedOf e) (v : Slot) (ev : v ≡ lookOf (ltb (e .tag) 64) (getD (t .slots) (e .tag % 64) noSlot))
-    (er : r ≡ handledOf p v (t .holds) (d .handles)) (gx : List ℕ) (eg : gx ≡ sets fx j (handledFx p v (t .holds) (d .handles))) where
+-- the code's answer q to the entry e, with the counts g, the handles m and the words gx that it leaves
+module _ (s : State) (ws fx₀ bs : List ℕ) (n : ℕ) (fx : List ℕ) (t : Table) (d : Driver) (i j : ℕ) (l : Left s ws fx₀ bs n fx t d i j) (more : i < n)
+    (e : Cqe) (ee : e ≡ cqeOf (drop (16 * i) bs)) (p : ParsedCqe) (ep : p ≡ parsedOf e) (v : Slot) (ev : v ≡ lookOf (ltb (e .tag) 64) (getD (t .slots) (e .tag % 64) noSlot))
+    (q : Answered) (g : Holds) (m : Handles) (is : AsDecided q g m (decisionOf p v (t .holds) (d .handles))) (gx : List ℕ)
+    (eg : gx ≡ sets fx j (decisionOf p v (t .holds) (d .handles) .effects)) where
   abbrev w : World
   w = world (record { driver = d; table = t }) ws
 
   abbrev F : List ℕ
-  F = handledFx p v (t .holds) (d .handles)
+  F = decisionOf p v (t .holds) (d .handles) .effects
+
+  abbrev r : Decision
+  r = decided (q .number) (q .act) (q .slot) g m F
+
+  r-is : r ≡ decisionOf p v (t .holds) (d .handles)
+  r-is = λ k. decided (is .number k) (is .act k) (is .slot k) (is .holds k) (is .handles k) F
 
   at-tag : v ≡ slotAt t (e .tag)
   at-tag = ev ∙ look-is t (e .tag)
 
-  entry-is : entryOf w e ≡ carried w (e .tag) r F
+  entry-is : entryOf w e ≡ carried w (e .tag) r
   entry-is =
-      carried-is w size e
-      ∙ ap₂ (λ (a : ParsedCqe) (b : Slot). carried w (e .tag) (handledOf a b (t .holds) (d .handles)) (handledFx a b (t .holds) (d .handles))) (sym ep) (sym at-tag)
-      ∙ ap (λ (x : Handled). carried w (e .tag) x F) (sym er)
+      ap₂ (λ (x : ParsedCqe) (y : Slot). carried w (e .tag) (decisionOf x y (t .holds) (d .handles))) (sym ep) (sym at-tag)
+      ∙ ap (carried w (e .tag)) (sym r-is)
 
   -- the state that the stores leave
   abbrev u : State
   u =
       record {
-        driver = record { scheme = d .scheme; handles = r .handles; queue = d .queue };
-        table = laid t (e .tag) (r .slot) (r .holds) (ltb (e .tag) 64) (r .act) (e .tag % 64);
+        driver = record { scheme = d .scheme; handles = m; queue = d .queue };
+        table = laid t (e .tag) (q .slot) g (ltb (e .tag) 64) (q .act) (e .tag % 64);
       }
 
   state-is : after w (e .tag) r ≡ world u ws
-  state-is = λ k. world (record { driver = record { scheme = d .scheme; handles = r .handles; queue = d .queue }; table = sym (laid-is t (e .tag) (r .slot) (r .holds) (r .act)) k }) ws
-
-  fits : Fit r F
-  fits = subst (λ (x : Handled). Fit x F) (sym er) (fit p v (t .holds) (d .handles))
-
-  pub words-are : r .words ≡ length F
-  words-are = fits .0
+  state-is = λ k. world (record { driver = record { scheme = d .scheme; handles = m; queue = d .queue }; table = sym (laid-is t (e .tag) (q .slot) g (q .act)) k }) ws
 
   lent-is : gx ≡ sets fx₀ 0 (l .made ++ F)
   lent-is =
       eg ∙ ap₂ (λ (a : List ℕ) (b : ℕ). sets a b F) (l .lent) (let z : j ≡ 0 + length (l .made) = omega (arith, l .words) in z) ∙ sets-then (l .made) F fx₀ 0
 
-  count-is : length (l .made ++ F) ≡ j + r .words
-  count-is = omega (arith, l .words, words-are, length-append (l .made) F)
+  count-is : length (l .made ++ F) ≡ j + q .words
+  count-is = omega (arith, l .words, is .words, length-append (l .made) F)
 
   -- the entry and the rest
   abbrev rest : List Cqe
@@ -237,7 +211,7 @@ module _ (s : State) (ws fx₀ bs : List ℕ) (n : ℕ) (fx : List ℕ) (t : Tab
       ap (λ (m : ℕ). cut m (drop (16 * i) bs)) (let z : n - i ≡ suc (n - (i + 1)) = omega (arith, more) in z)
       ∙ ap₂ (λ (a : Cqe) (b : List Cqe). a ∷ b) (sym ee) (next-entries (n - (i + 1)) i bs)
 
-  pub goes-on : r .number ≡ 0 → Left s ws fx₀ bs n gx (u .table) (u .driver) (i + 1) (j + r .words)
+  pub goes-on : q .number ≡ 0 → Left s ws fx₀ bs n gx (u .table) (u .driver) (i + 1) (j + q .words)
   goes-on z =
       record {
         made = l .made ++ F;
@@ -246,41 +220,41 @@ module _ (s : State) (ws fx₀ bs : List ℕ) (n : ℕ) (fx : List ℕ) (t : Tab
         whole =
             sym
             (ap (λ (x : Entered). onEntered x (λ fx' y. writeOn y rest (suc i) (l .made ++ fx')) (λ m fx' y. outcome (stopped i m) (l .made ++ fx') y))
-            (entry-is ∙ ap (λ (b : Bool). cond b (accepted F (after w (e .tag) r)) (rejected (r .number) F (after w (e .tag) r))) (eq-eqb (r .number) 0 z))
+            (entry-is ∙ ap (λ (b : Bool). cond b (accepted F (after w (e .tag) r)) (rejected (q .number) F (after w (e .tag) r))) (eq-eqb (q .number) 0 z))
             ∙ ap₂ (λ (a : World) (b : ℕ). writeOn a rest b (l .made ++ F)) state-is (sym (add-one i)))
             ∙ sym (ap (λ (x : List Cqe). writeOn w x i (l .made)) split) ∙ l .whole;
       }
 
-  pub stops : (r .number ≡ 0 → ⊥) → outcome (stopped i (r .number)) (l .made ++ F) (world u ws) ≡ writeOn (world s ws) (entriesOf bs) 0 []
+  pub stops : (q .number ≡ 0 → ⊥) → outcome (stopped i (q .number)) (l .made ++ F) (world u ws) ≡ writeOn (world s ws) (entriesOf bs) 0 []
   stops z =
       sym
       (ap (λ (x : Entered). onEntered x (λ fx' y. writeOn y rest (suc i) (l .made ++ fx')) (λ m fx' y. outcome (stopped i m) (l .made ++ fx') y))
-      (entry-is ∙ ap (λ (b : Bool). cond b (accepted F (after w (e .tag) r)) (rejected (r .number) F (after w (e .tag) r))) (ne-eqb (r .number) 0 z))
-      ∙ ap (outcome (stopped i (r .number)) (l .made ++ F)) state-is)
+      (entry-is ∙ ap (λ (b : Bool). cond b (accepted F (after w (e .tag) r)) (rejected (q .number) F (after w (e .tag) r))) (ne-eqb (q .number) 0 z))
+      ∙ ap (outcome (stopped i (q .number)) (l .made ++ F)) state-is)
       ∙ sym (ap (λ (x : List Cqe). writeOn w x i (l .made)) split) ∙ l .whole
 
   pub stops-lent : gx ≡ sets fx₀ 0 (l .made ++ F)
   stops-lent = lent-is
 
-  pub stops-words : j + r .words ≡ length (l .made ++ F)
+  pub stops-words : j + q .words ≡ length (l .made ++ F)
   stops-words = sym count-is
 
   -- the same, with what the stores were given
   abbrev put : Slot → ℕ → ℕ → Table
-  put x a f = record { slots = set (t .slots) (e .tag % 64) x; next = set (t .next) (e .tag % 64) a; head = f; holds = r .holds }
+  put x a f = record { slots = set (t .slots) (e .tag % 64) x; next = set (t .next) (e .tag % 64) a; head = f; holds = g }
 
-  module _ (x : Slot) (a f : ℕ) (ex : x ≡ slotAfter (ltb (e .tag) 64) (r .act) (r .slot) (getD (t .slots) (e .tag % 64) noSlot))
-      (ea : a ≡ nextAfter (ltb (e .tag) 64) (r .act) (getD (t .next) (e .tag % 64) 0) (t .head)) (ef : f ≡ headAfter (ltb (e .tag) 64) (r .act) (e .tag) (t .head)) where
+  module _ (x : Slot) (a f : ℕ) (ex : x ≡ slotAfter (ltb (e .tag) 64) (q .act) (q .slot) (getD (t .slots) (e .tag % 64) noSlot))
+      (ea : a ≡ nextAfter (ltb (e .tag) 64) (q .act) (getD (t .next) (e .tag % 64) 0) (t .head)) (ef : f ≡ headAfter (ltb (e .tag) 64) (q .act) (e .tag) (t .head)) where
     same : u .table ≡ put x a f
     same = λ k. put (sym ex k) (sym ea k) (sym ef k)
 
-    pub goes-on-as : r .number ≡ 0 → Left s ws fx₀ bs n gx (put x a f) (u .driver) (i + 1) (j + r .words)
-    goes-on-as z = subst (λ (y : Table). Left s ws fx₀ bs n gx y (u .driver) (i + 1) (j + r .words)) same (goes-on z)
+    pub goes-on-as : q .number ≡ 0 → Left s ws fx₀ bs n gx (put x a f) (u .driver) (i + 1) (j + q .words)
+    goes-on-as z = subst (λ (y : Table). Left s ws fx₀ bs n gx y (u .driver) (i + 1) (j + q .words)) same (goes-on z)
 
     pub stops-as :
-        (r .number ≡ 0 → ⊥)
-        → outcome (stopped i (r .number)) (l .made ++ F) (world (record { driver = u .driver; table = put x a f }) ws) ≡ writeOn (world s ws) (entriesOf bs) 0 []
-    stops-as z = ap (λ (y : Table). outcome (stopped i (r .number)) (l .made ++ F) (world (record { driver = u .driver; table = y }) ws)) (sym same) ∙ stops z
+        (q .number ≡ 0 → ⊥)
+        → outcome (stopped i (q .number)) (l .made ++ F) (world (record { driver = u .driver; table = put x a f }) ws) ≡ writeOn (world s ws) (entriesOf bs) 0 []
+    stops-as z = ap (λ (y : Table). outcome (stopped i (q .number)) (l .made ++ F) (world (record { driver = u .driver; table = y }) ws)) (sym same) ∙ stops z
 
 -- the end
 pub ends :
@@ -310,59 +284,12 @@ pub parts :
 parts y a gx u o fx₀ fx j z e p q =
     (z ∙ ap (λ (x : Outcome). x .answer) e, (ap (λ (x : Outcome). x .world) e, (p ∙ ap (λ (x : Outcome). sets fx₀ 0 (x .effects)) e, q ∙ ap (λ (x : Outcome). length (x .effects)) e)))
 
+-- effects are stored in words that were lent
+pub lent-length :
+    (p : ParsedCqe) (v : Slot) (h : Holds) (n : Handles) (gx fx : List ℕ) (j : ℕ) → gx ≡ sets fx j (decisionOf p v h n .effects) → length gx ≡ length fx
+lent-length p v h n gx fx j e = ap length e ∙ length-sets fx j (decisionOf p v h n .effects)
+
 pub four :
     {A B C D : List ℕ → Type 0} → ((ws : List ℕ) → A ws × (B ws × (C ws × D ws)))
     → ((ws : List ℕ) → A ws) × (((ws : List ℕ) → B ws) × (((ws : List ℕ) → C ws) × ((ws : List ℕ) → D ws)))
 four f = (λ ws. f ws .0, (λ ws. f ws .1 .0, (λ ws. f ws .1 .1 .0, λ ws. f ws .1 .1 .1)))
-
--- a decision leaves as many counts
-served-size : (b : Bool) (v : Slot) (t : ℕ) (o : Offer) (h : Holds) → length (servedOf b v t (partsOf v o) h .holds .holds) ≡ length (h .holds)
-served-size true v t o h = lessAll-length (numbers (partsOf v o .own)) _ ∙ lessAll-length (numbers (partsOf v o .gone)) (h .holds)
-served-size false v t o h = lessAll-length (numbers (partsOf v o .gone)) (h .holds)
-
-respond-size : (p : Phase) (v : Slot) (t : ℕ) (o : Offer) (h : Holds) → length (respondOf p v t o h .holds .holds) ≡ length (h .holds)
-respond-size Vacant v t o h = refl
-respond-size Placeholder v t o h = refl
-respond-size Waiting v t o h = served-size (v .ended) v t o h
-respond-size Responded v t o h = refl
-respond-size Fmap v t o h = refl
-
-by-tag-size : (b : Bool) (d : Decided) (v : Slot) (x : ℕ) (h : Holds) (n : Handles) → length (d .holds .holds) ≡ length (h .holds) → length (byTag b d v x h n .holds .holds) ≡ length (h .holds)
-by-tag-size true d v x h n e = e
-by-tag-size false d v x h n e = lessAll-length (numbers (namedOf x)) (h .holds)
-
-by-handle-size : (b : Bool) (v : Slot) (t k : ℕ) (h : Holds) (n : Handles) → length (byHandle b v t k h n .holds .holds) ≡ length (h .holds)
-by-handle-size true v t k h n = refl
-by-handle-size false v t k h n =
-    let d = respondOf (phaseOf v) v t (one (handle.heldAt n k - 1)) h in
-    by-tag-size (eqb (d .number) 0) d v (handle.heldAt n k - 1) h (handle.emptied n k) (respond-size (phaseOf v) v t (one (handle.heldAt n k - 1)) h)
-
-obtained-size : (b : Bool) (v : Slot) (k : ℕ) (h : Holds) (n : Handles) → length (obtainedOf b v (obtainedFrom v k h n) h n .holds .holds) ≡ length (h .holds)
-obtained-size true v k h n = refl
-obtained-size false v k h n = go (numbers (v .fds))
-  where
-    free : (b : Bool) (d : ℕ) → length (handle.obtainBy b h n (v .fds) k d .holds .holds) ≡ length (h .holds)
-    free true d = refl
-    free false d = lessAll-length (d ∷ []) (h .holds)
-
-    go : (ds : List ℕ) → length (handle.obtainIn ds h n (v .fds) k .holds .holds) ≡ length (h .holds)
-    go [] = refl
-    go (d ∷ ds) = free (handle.isFree n k) d
-
-obtain-size : (p : Phase) (v : Slot) (k : ℕ) (h : Holds) (n : Handles) → length (obtainBy p v k h n .holds .holds) ≡ length (h .holds)
-obtain-size Vacant v k h n = refl
-obtain-size Placeholder v k h n = refl
-obtain-size Waiting v k h n = obtained-size (eqb (length (numbers (v .fds))) 0) v k h n
-obtain-size Responded v k h n = refl
-obtain-size Fmap v k h n = refl
-
-pub holds-size : (p : ParsedCqe) (v : Slot) (h : Holds) (n : Handles) → length (handledOf p v h n .holds .holds) ≡ length (h .holds)
-holds-size (parsed.TriggerFevent number flags) v h n = refl
-holds-size (parsed.RegularResponse t r x) v h n = respond-size (phaseOf v) v (t .0) _ h
-holds-size (parsed.ResponseWithFd t k) v h n = by-handle-size (eqb (handle.heldAt n (k .0)) 0) v (t .0) (k .0) h n
-holds-size (parsed.ResponseWithMultipleFds t c) v h n = respond-size (phaseOf v) v (t .0) _ h
-holds-size (parsed.ObtainFd t flags k) v h n = obtain-size (phaseOf v) v (k .0) h n
-holds-size (parsed.RespondAndNotifyOnDetach t r x) v h n = respond-size (phaseOf v) v (t .0) _ h
-holds-size parsed.UnknownKind v h n = refl
-holds-size parsed.UnknownEventFlags v h n = refl
-holds-size parsed.UnknownObtainFlags v h n = refl

@@ -6,12 +6,12 @@ use native.Mathlib.Omega.{arith}
 use lib.Dec.{ltb}
 use lib.ListN.{getD, length}
 use lib.Seq.{sets}
-use Rattle.handle_fd.specs.HandleFd.{Handled}
-use Rattle.handle_parsed.specs.Handled.{handledOf, handledFx}
 use Rattle.handles.specs.declared.Handles.{Handles}
 use Rattle.holds.specs.declared.Holds.{Holds}
 use Rattle.parse_cqe.specs.declared.ParsedCqe.{ParsedCqe}
 use Rattle.parse_cqe.specs.Parsed.{parsedOf}
+use Rattle.respond.specs.declared.Responded.{Responded}
+use Rattle.respond.specs.Respond.{AsDecided}
 use Rattle.schemev2.specs.declared.Cqe.{Cqe}
 use Rattle.schemev2.specs.Entry.{cqeOf}
 use Rattle.slot.specs.declared.Slot.{Slot}
@@ -23,8 +23,9 @@ use Rattle.part.proofs.Laws.{kept}
 use Rattle.carry_out.specs.After.{lookOf, slotAfter, nextAfter, headAfter}
 use Rattle.events.specs.World.{World, world}
 use Rattle.events.specs.Outcome.{Answer, Outcome, outcome, ok, no}
+use Rattle.events.specs.Entry.{decisionOf}
 use Rattle.events.specs.Complete.{stopped, writeOf}
-use Rattle.write.specs.Write.{stateWith}
+use Rattle.write.specs.Write.{stateWithHandles}
 use Rattle.write.proofs.Loop.{Left, begins, goes-on-as, stops-as, stops-lent, stops-words, ends, with-room, too-short, parts}
 
 -- what an event is said to leave: answer, state, lent words and how many
@@ -33,22 +34,22 @@ Leaves o y u fx gx j = (y ≡ o .answer) × ((u ≡ o .world) × ((gx ≡ sets f
 
 module _ (s : State) (k : Handles) (p : Part) (h : Holds) (ws fx bs : List ℕ) (e : Cqe) (one : length bs / 16 ≡ 1) (ee : e ≡ cqeOf bs) (st : Stands s (e .tag % 64) p) where
   abbrev S : State
-  S = found (stateWith s k) p h
+  S = found (stateWithHandles s k) p h
 
   abbrev O : Outcome
   O = writeOf (world S ws) (length fx) bs
 
   -- too few words are lent
-  pub short : length fx < 54 → Leaves O (no 204) (world (leaves (stateWith s k) (e .tag % 64) p h) ws) fx fx 0
+  pub short : length fx < 54 → Leaves O (no 204) (world (leaves (stateWithHandles s k) (e .tag % 64) p h) ws) fx fx 0
   short few =
-      parts _ (no 204) [] (world (leaves (stateWith s k) (e .tag % 64) p h) ws) O fx fx 0 refl
-      (ap (λ (x : State). outcome (no 204) [] (world x ws)) (kept (stateWith s k) (e .tag % 64) p st h) ∙ too-short S ws (length fx) bs (omega (arith, few, one))) refl refl
+      parts _ (no 204) [] (world (leaves (stateWithHandles s k) (e .tag % 64) p h) ws) O fx fx 0 refl
+      (ap (λ (x : State). outcome (no 204) [] (world x ws)) (kept (stateWithHandles s k) (e .tag % 64) p st h) ∙ too-short S ws (length fx) bs (omega (arith, few, one))) refl refl
 
   start : Left S ws fx bs 1 fx (S .table) (S .driver) 0 0
   start = begins S ws fx bs 1 (sym one)
 
-  module _ (enough : 54 ≤ length fx) (size : length (h .holds) ≡ 64) (c : ParsedCqe) (ec : c ≡ parsedOf e) (v : Slot) (ev : v ≡ lookOf (ltb (e .tag) 64) (p .slot)) (r : Handled)
-      (er : r ≡ handledOf c v h k) (gx : List ℕ) (eg : gx ≡ sets fx 0 (handledFx c v h k)) (x : Slot) (a f : ℕ) (ex : x ≡ slotAfter (ltb (e .tag) 64) (r .act) (r .slot) (p .slot))
+  module _ (enough : 54 ≤ length fx) (c : ParsedCqe) (ec : c ≡ parsedOf e) (v : Slot) (ev : v ≡ lookOf (ltb (e .tag) 64) (p .slot))
+      (r : Responded) (g : Holds) (m : Handles) (is : AsDecided r g m (decisionOf c v h k)) (gx : List ℕ) (eg : gx ≡ sets fx 0 (decisionOf c v h k .effects)) (x : Slot) (a f : ℕ) (ex : x ≡ slotAfter (ltb (e .tag) 64) (r .act) (r .slot) (p .slot))
       (ea : a ≡ nextAfter (ltb (e .tag) 64) (r .act) (p .next) (p .head)) (ef : f ≡ headAfter (ltb (e .tag) 64) (r .act) (e .tag) (p .head)) where
     more : 0 < 1
     more = omega arith
@@ -64,21 +65,21 @@ module _ (s : State) (k : Handles) (p : Part) (h : Holds) (ws fx bs : List ℕ) 
 
     -- the part that is given back
     module _ (u : Part) (eu : u ≡ record { slot = x; next = a; head = f; queue = p .queue; scheme = p .scheme }) where
-      left-is : leaves (stateWith s (r .handles)) (e .tag % 64) u (r .holds) ≡ leaves (stateWith s (r .handles)) (e .tag % 64) (record { slot = x; next = a; head = f; queue = p .queue; scheme = p .scheme }) (r .holds)
-      left-is = ap (λ (y : Part). leaves (stateWith s (r .handles)) (e .tag % 64) y (r .holds)) eu
+      left-is : leaves (stateWithHandles s m) (e .tag % 64) u g ≡ leaves (stateWithHandles s m) (e .tag % 64) (record { slot = x; next = a; head = f; queue = p .queue; scheme = p .scheme }) g
+      left-is = ap (λ (y : Part). leaves (stateWithHandles s m) (e .tag % 64) y g) eu
 
-      pub accepted : r .number ≡ 0 → Leaves O (ok 16) (world (leaves (stateWith s (r .handles)) (e .tag % 64) u (r .holds)) ws) fx gx (r .words)
+      pub accepted : r .number ≡ 0 → Leaves O (ok 16) (world (leaves (stateWithHandles s m) (e .tag % 64) u g) ws) fx gx (r .words)
       accepted z =
-          let g = goes-on-as S ws fx bs 1 fx (S .table) (S .driver) 0 0 start more size e ee r c ec v looked er gx eg x a f slot-is next-is ef z in
-          parts _ (ok 16) (g .made) (world (leaves (stateWith s (r .handles)) (e .tag % 64) u (r .holds)) ws) O fx gx (r .words) refl
-          (ap (λ (y : State). outcome (ok 16) (g .made) (world y ws)) left-is ∙ with-room S ws (length fx) bs (omega (arith, enough, one)) _ (ends S ws fx bs 1 gx _ _ 1 _ g refl)) (g .lent)
-          ((let q : r .words ≡ 0 + r .words = omega arith in q) ∙ sym (g .words))
+          let l = goes-on-as S ws fx bs 1 fx (S .table) (S .driver) 0 0 start more e ee c ec v looked r g m is gx eg x a f slot-is next-is ef z in
+          parts _ (ok 16) (l .made) (world (leaves (stateWithHandles s m) (e .tag % 64) u g) ws) O fx gx (r .words) refl
+          (ap (λ (y : State). outcome (ok 16) (l .made) (world y ws)) left-is ∙ with-room S ws (length fx) bs (omega (arith, enough, one)) _ (ends S ws fx bs 1 gx _ _ 1 _ l refl)) (l .lent)
+          ((let q : r .words ≡ 0 + r .words = omega arith in q) ∙ sym (l .words))
 
-      pub rejected : (r .number ≡ 0 → ⊥) → (y : Answer) → y ≡ stopped 0 (r .number) → Leaves O y (world (leaves (stateWith s (r .handles)) (e .tag % 64) u (r .holds)) ws) fx gx (r .words)
+      pub rejected : (r .number ≡ 0 → ⊥) → (y : Answer) → y ≡ stopped 0 (r .number) → Leaves O y (world (leaves (stateWithHandles s m) (e .tag % 64) u g) ws) fx gx (r .words)
       rejected z y ey =
-          parts y (stopped 0 (r .number)) (start .made ++ handledFx c v h k) (world (leaves (stateWith s (r .handles)) (e .tag % 64) u (r .holds)) ws) O fx gx (r .words) ey
-          (ap (λ (q : State). outcome (stopped 0 (r .number)) (start .made ++ handledFx c v h k) (world q ws)) left-is
-          ∙ with-room S ws (length fx) bs (omega (arith, enough, one)) _ (stops-as S ws fx bs 1 fx (S .table) (S .driver) 0 0 start more size e ee r c ec v looked er gx eg x a f slot-is next-is ef z))
-          (stops-lent S ws fx bs 1 fx (S .table) (S .driver) 0 0 start more size e ee r c ec v looked er gx eg)
+          parts y (stopped 0 (r .number)) (start .made ++ decisionOf c v h k .effects) (world (leaves (stateWithHandles s m) (e .tag % 64) u g) ws) O fx gx (r .words) ey
+          (ap (λ (q : State). outcome (stopped 0 (r .number)) (start .made ++ decisionOf c v h k .effects) (world q ws)) left-is
+          ∙ with-room S ws (length fx) bs (omega (arith, enough, one)) _ (stops-as S ws fx bs 1 fx (S .table) (S .driver) 0 0 start more e ee c ec v looked r g m is gx eg x a f slot-is next-is ef z))
+          (stops-lent S ws fx bs 1 fx (S .table) (S .driver) 0 0 start more e ee c ec v looked r g m is gx eg)
           ((let q : r .words ≡ 0 + r .words = omega arith in q)
-          ∙ stops-words S ws fx bs 1 fx (S .table) (S .driver) 0 0 start more size e ee r c ec v looked er gx eg)
+          ∙ stops-words S ws fx bs 1 fx (S .table) (S .driver) 0 0 start more e ee c ec v looked r g m is gx eg)

@@ -20,5 +20,5 @@ abbrev pub refusal : ℕ → Type 0
 refusal k = (k ≡ 77) ⊎ ((k ≡ 22) ⊎ (k ≡ 2))
 
 -- a state with other handles
-abbrev pub stateWith : State → Handles → State
-stateWith s k = record { driver = record { scheme = s .driver .scheme; handles = k; queue = s .driver .queue }; table = s .table }
+abbrev pub stateWithHandles : State → Handles → State
+stateWithHandles s k = record { driver = record { scheme = s .driver .scheme; handles = k; queue = s .driver .queue }; table = s .table }

@@ -2,24 +2,23 @@
 // is carried out on the table in place, with no branch: what stays is stored as it was.
 use handles::Handles;
 use holds::Holds;
-use ids::Tag;
 use part::Part;
 use schemev2::Cqe;
 use state::Driver;
 use state::State;
 ghost use mathlib.Core.Path.{_≡_};
 ghost use mathlib.Core.List.{List};
-ghost use Prim.Native.Nat.{ℕ, _/_, _%_, _≤_, _<_};
+ghost use Prim.Native.Nat.{ℕ, _/_, _%_, _<_};
 ghost use lib.ListN.{length};
 ghost use lib.Seq.{sets};
-ghost use Rattle.state.specs.declared.State.{State as Whole};
+ghost use Rattle.state.specs.declared.State.{State as AnyState};
 ghost use Rattle.holds.specs.Holds.{holdsWith};
 ghost use Rattle.handles.specs.Handles.{handlesWith};
 ghost use Rattle.schemev2.specs.Entry.{cqeOf};
 ghost use Rattle.part.specs.Part.{Stands, found, leaves};
 ghost use Rattle.events.specs.World.{world};
 ghost use Rattle.events.specs.Complete.{stopped, writeOf};
-ghost use Rattle.write.specs.Write.{writeAnswer, refusal, stateWith};
+ghost use Rattle.write.specs.Write.{writeAnswer, refusal, stateWithHandles};
 
 pub enum WriteAnswer {
     Written(u64),
@@ -144,11 +143,6 @@ pub fn write(s: State, fx: &mut [u64], bytes: &[u8]) -> WriteStep
     }
 }
 
-// Nothing but what is known of so many words: there are 64.
-fn known(a: [u16; 64])
-    ensures { λ r. ⌜ length a ≡ 64 ⌝ }
-{}
-
 // A write that holds the entry e alone, on the part at its tag. Hold counts and handles are lent.
 pub fn entry(
     p: Part,
@@ -157,7 +151,7 @@ pub fn entry(
     fx: &mut [u64],
     e: Cqe,
 ) -> EntryStep
-    ensures { λ r. ⌜ ((s : Whole) (o ws bs : List ℕ) → length bs / 16 ≡ 1 → e ≡ cqeOf bs → Stands s (e .tag % 64) p → (writeAnswer (r .answer) ≡ writeOf (world (found (stateWith s (handlesWith (now (handles .entry)))) p (holdsWith (now (all .entry)) o)) ws) (length (now (fx .entry))) bs .answer) × ((world (leaves (stateWith s (handlesWith (now (handles .exit)))) (e .tag % 64) (r .part) (holdsWith (now (all .exit)) o)) ws ≡ writeOf (world (found (stateWith s (handlesWith (now (handles .entry)))) p (holdsWith (now (all .entry)) o)) ws) (length (now (fx .entry))) bs .world) × ((now (fx .exit) ≡ sets (now (fx .entry)) 0 (writeOf (world (found (stateWith s (handlesWith (now (handles .entry)))) p (holdsWith (now (all .entry)) o)) ws) (length (now (fx .entry))) bs .effects)) × (r .words ≡ length (writeOf (world (found (stateWith s (handlesWith (now (handles .entry)))) p (holdsWith (now (all .entry)) o)) ws) (length (now (fx .entry))) bs .effects))))) ⌝ }
+    ensures { λ r. ⌜ ((s : AnyState) (o ws bs : List ℕ) → length bs / 16 ≡ 1 → e ≡ cqeOf bs → Stands s (e .tag % 64) p → (writeAnswer (r .answer) ≡ writeOf (world (found (stateWithHandles s (handlesWith (now (handles .entry)))) p (holdsWith (now (all .entry)) o)) ws) (length (now (fx .entry))) bs .answer) × ((world (leaves (stateWithHandles s (handlesWith (now (handles .exit)))) (e .tag % 64) (r .part) (holdsWith (now (all .exit)) o)) ws ≡ writeOf (world (found (stateWithHandles s (handlesWith (now (handles .entry)))) p (holdsWith (now (all .entry)) o)) ws) (length (now (fx .entry))) bs .world) × ((now (fx .exit) ≡ sets (now (fx .entry)) 0 (writeOf (world (found (stateWithHandles s (handlesWith (now (handles .entry)))) p (holdsWith (now (all .entry)) o)) ws) (length (now (fx .entry))) bs .effects)) × (r .words ≡ length (writeOf (world (found (stateWithHandles s (handlesWith (now (handles .entry)))) p (holdsWith (now (all .entry)) o)) ws) (length (now (fx .entry))) bs .effects))))) ⌝ }
 {
     if fx.len() < 54 {
         return EntryStep {
@@ -166,8 +160,6 @@ pub fn entry(
             part: p,
         };
     }
-    let a = *all;
-    known(a);
     let c = parse_cqe::parse_cqe(e);
     let tag = e.tag as u64;
     let old = p.slot;

@@ -1,11 +1,8 @@
 -- `handle_fd::descriptor` meets its contract. Assumes nothing.
 use Rattle.handle_fd.proofs.Laws.{handle-empty, handle-served, handle-refused}
-use Rattle.handle_fd.specs.HandleFd.{handled}
 use Rattle.respond.proofs.Laws.{three}
-use Rattle.respond.specs.Respond.{Decided}
 use Rattle.handles.specs.Handles.{handlesWith}
 use Rattle.holds.specs.Holds.{holdsWith}
-use mathlib.Core.Path.{refl, ap}
 use borrow.Author.Needs.{needs}
 use Rattle.handle_fd.proofs.descriptor.Statement.{statement}
 use Rattle.handle_fd.proofs.descriptor.Tie as tie
@@ -17,7 +14,7 @@ refused-requires : tie.Need-refused-requires
 refused-requires c κs = search needs
 
 returns : tie.Need-returns
-returns c = let a = c .before .before .before .before .before .args in three (λ o. handle-empty (a .v) (a .tag) (a .fd .0) (holdsWith (a .all .now) o) (handlesWith (a .n .now)) (a .fx .now) (a .at) _ _ (c .before .before .held-at .ensures) (c .before .if1 .taken) (ap (λ (x : Decided). handled x (handlesWith (a .n .now))) (c .refused .ensures (holdsWith (a .all .now) o))))
+returns c = let a = c .before .before .before .before .before .args in three (λ o. handle-empty (a .v) (a .tag) (a .fd .0) (holdsWith (a .all .now) o) (handlesWith (a .n .now)) (a .fx .now) (a .at) _ _ (c .before .before .held-at .ensures) (c .before .if1 .taken) (c .refused .ensures (holdsWith (a .all .now) o) (handlesWith (a .n .now))))
 
 sub-word : tie.Need-sub-word
 sub-word c = search needs
@@ -35,7 +32,7 @@ same-length : tie.Need-same-length
 same-length c = search needs
 
 returns-2 : tie.Need-returns-2
-returns-2 c = let a = c .before .before .before .before .before .before .before .before .before .before .before .before .before .args in three (λ o. handle-served (a .v) (a .tag) (a .fd .0) (holdsWith (a .all .now) o) (handlesWith (a .n .now)) (a .fx .now) (a .at) _ (c .before .before .before .before .before .before .before .before .before .before .held-at .ensures) (c .before .before .before .before .before .before .before .before .before .if1 .left) _ (c .before .before .before .before .respond .ensures .0 o) _ (c .before .before .before .before .before .before .before .empty-handle .ensures) _ _ (c .if2 .taken) refl (c .before .before .before .before .respond .ensures .1 .0 o) (c .before .before .before .before .respond .ensures .1 .1))
+returns-2 c = let a = c .before .before .before .before .before .before .before .before .before .before .before .before .before .args in three (λ o. handle-served (a .v) (a .tag) (a .fd .0) (holdsWith (a .all .now) o) (handlesWith (a .n .now)) (a .fx .now) (a .at) _ (c .before .before .before .before .before .before .before .before .before .before .held-at .ensures) (c .before .before .before .before .before .before .before .before .before .if1 .left) _ (c .before .before .before .before .before .before .before .empty-handle .ensures) _ _ _ (c .before .before .before .before .respond .ensures .0 o _) (c .before .before .before .before .respond .ensures .1 .0 o _) (c .if2 .taken) (c .before .before .before .before .respond .ensures .1 .1))
 
 one-or-none-requires : tie.Need-one-or-none-requires
 one-or-none-requires c κs = search needs
@@ -53,7 +50,7 @@ same-length-2 : tie.Need-same-length-2
 same-length-2 c = search needs
 
 returns-3 : tie.Need-returns-3
-returns-3 c = let a = c .before .before .before .before .before .before .before .before .before .before .before .before .before .before .before .before .before .before .before .before .args in three (λ o. handle-refused (a .v) (a .tag) (a .fd .0) (holdsWith (a .all .now) o) (handlesWith (a .n .now)) (a .fx .now) (a .at) _ (c .before .before .before .before .before .before .before .before .before .before .before .before .before .before .before .before .before .held-at .ensures) (c .before .before .before .before .before .before .before .before .before .before .before .before .before .before .before .before .if1 .left) _ (c .before .before .before .before .before .before .before .before .before .before .before .respond .ensures .0 o) _ (c .before .before .before .before .before .before .before .before .before .before .before .before .before .before .empty-handle .ensures) _ (c .before .before .before .before .before .is-closing .result) (c .before .before .drop-all .result) _ _ _ (c .before .before .before .before .before .before .before .if2 .left) (c .before .before .before .before .before .before .before .before .before .before .before .respond .ensures .1 .0 o) (c .before .before .before .before .before .before .one-or-none .ensures) (c .before .before .before .before .before .is-closing .ensures) (c .before .before .drop-all .ensures .0) (c .before .before .drop-all .ensures .1 .0) (c .before .before .drop-all .ensures .1 .1 .0) (c .before .before .drop-all .ensures .1 .1 .1))
+returns-3 c = let a = c .before .before .before .before .before .before .before .before .before .before .before .before .before .before .before .before .before .before .before .before .args in three (λ o. handle-refused (a .v) (a .tag) (a .fd .0) (holdsWith (a .all .now) o) (handlesWith (a .n .now)) (a .fx .now) (a .at) _ (c .before .before .before .before .before .before .before .before .before .before .before .before .before .before .before .before .before .held-at .ensures) (c .before .before .before .before .before .before .before .before .before .before .before .before .before .before .before .before .if1 .left) _ (c .before .before .before .before .before .before .before .before .before .before .before .before .before .before .empty-handle .ensures) _ _ _ (c .before .before .before .before .before .before .before .before .before .before .before .respond .ensures .0 o _) (c .before .before .before .before .before .before .before .before .before .before .before .respond .ensures .1 .0 o _) (c .before .before .before .before .before .before .before .if2 .left) _ (c .before .before .before .before .before .is-closing .result) (c .before .before .drop-all .result) _ _ (c .before .before .before .before .before .before .one-or-none .ensures) (c .before .before .before .before .before .is-closing .ensures) (c .before .before .drop-all .ensures .0) (c .before .before .drop-all .ensures .1 .0) (c .before .before .drop-all .ensures .1 .1 .0) (c .before .before .drop-all .ensures .1 .1 .1))
 
 pub descriptor-spec : {M : Type 1} → statement M
 descriptor-spec =

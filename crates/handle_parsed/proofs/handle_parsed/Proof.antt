@@ -1,13 +1,9 @@
-use Rattle.handle_parsed.proofs.Laws.{asked, no-words}
-use Rattle.handle_fd.specs.HandleFd.{handled}
-use Rattle.respond.proofs.Laws.{three}
-use Rattle.respond.specs.Respond.{Decided}
-use Rattle.slot.specs.declared.Phase.the-variants.{Vacant, Placeholder, Responded, Fmap}
+use Rattle.handle_parsed.proofs.Laws.{asked}
+use Rattle.respond.proofs.Laws.{three, refused-meets}
 use Rattle.handles.specs.Handles.{handlesWith}
 use Rattle.holds.specs.Holds.{holdsWith}
 use native.Mathlib.Omega.{arith}
-use mathlib.Core.List.{[]}
-use mathlib.Core.Path.{refl, sym, ap, _∙_}
+use mathlib.Core.Path.{refl}
 use borrow.Author.Needs.{needs}
 use Rattle.handle_parsed.proofs.handle_parsed.Statement.{statement}
 use Rattle.handle_parsed.proofs.handle_parsed.Tie as tie
@@ -33,7 +29,7 @@ same-length c = search needs
 
 -- src/lib.rt:32:13
 returns : tie.Need-returns
-returns c = let a = c .before .before .before .before .before .before .before .before .args in three (λ o. asked (a .p) _ (a .v) (holdsWith (a .all .now) o) (handlesWith (a .n .now)) (a .fx .now) _ (a .at) _ (c .before .before .before .before .before .p .given .1) refl (c .before .before .put3 .ensures) (omega arith))
+returns c = let a = c .before .before .before .before .before .before .before .before .args in three (λ o. asked (a .p) _ (a .v) (holdsWith (a .all .now) o) (handlesWith (a .n .now)) (a .fx .now) (a .at) _ _ _ _ (c .before .before .before .before .before .p .given .1) (record { number = refl; act = refl; slot = refl; holds = refl; handles = refl; words = refl }, (c .before .before .put3 .ensures, omega arith)))
 
 -- src/lib.rt:39:38
 enum-known-p-2 : tie.Need-enum-known-p-2
@@ -49,7 +45,7 @@ same-length-2 c = search needs
 
 -- src/lib.rt:41:13
 returns-2 : tie.Need-returns-2
-returns-2 c = let a = c .before .before .before .before .before .before .before .before .before .args in three (λ o. asked (a .p) _ (a .v) (holdsWith (a .all .now) o) (handlesWith (a .n .now)) (a .fx .now) _ (a .at) _ (c .before .before .before .before .before .before .p2 .given .1) (ap (λ (x : Decided). handled x (handlesWith (a .n .now))) (c .before .before .respond .ensures .0 o)) (c .before .before .respond .ensures .1 .0 o) (c .before .before .respond .ensures .1 .1))
+returns-2 c = let a = c .before .before .before .before .before .before .before .before .before .args in three (λ o. asked (a .p) _ (a .v) (holdsWith (a .all .now) o) (handlesWith (a .n .now)) (a .fx .now) (a .at) _ _ _ _ (c .before .before .before .before .before .before .p2 .given .1) (c .before .before .respond .ensures .0 o (handlesWith (a .n .now)), (c .before .before .respond .ensures .1 .0 o (handlesWith (a .n .now)), c .before .before .respond .ensures .1 .1)))
 
 -- src/lib.rt:43:37
 enum-known-p-3 : tie.Need-enum-known-p-3
@@ -65,7 +61,7 @@ same-length-3 c = search needs
 
 -- src/lib.rt:44:13
 returns-3 : tie.Need-returns-3
-returns-3 c = let a = c .before .before .before .before .before .before .before .before .before .before .args in three (λ o. asked (a .p) _ (a .v) (holdsWith (a .all .now) o) (handlesWith (a .n .now)) (a .fx .now) _ (a .at) _ (c .before .before .before .before .before .before .before .p3 .given .1) (c .before .before .descriptor .ensures .0 o) (c .before .before .descriptor .ensures .1 .0 o) (c .before .before .descriptor .ensures .1 .1))
+returns-3 c = let a = c .before .before .before .before .before .before .before .before .before .before .args in three (λ o. asked (a .p) _ (a .v) (holdsWith (a .all .now) o) (handlesWith (a .n .now)) (a .fx .now) (a .at) _ _ _ _ (c .before .before .before .before .before .before .before .p3 .given .1) (c .before .before .descriptor .ensures .0 o, (c .before .before .descriptor .ensures .1 .0 o, c .before .before .descriptor .ensures .1 .1)))
 
 -- src/lib.rt:46:46
 enum-known-p-4 : tie.Need-enum-known-p-4
@@ -81,7 +77,7 @@ same-length-4 c = search needs
 
 -- src/lib.rt:47:13
 returns-4 : tie.Need-returns-4
-returns-4 c = let a = c .before .before .before .before .before .before .before .before .before .args in three (λ o. asked (a .p) _ (a .v) (holdsWith (a .all .now) o) (handlesWith (a .n .now)) (a .fx .now) _ (a .at) _ (c .before .before .before .before .before .before .p4 .given .1) (ap (λ (x : Decided). handled x (handlesWith (a .n .now))) (c .before .before .respond2 .ensures .0 o)) (c .before .before .respond2 .ensures .1 .0 o) (c .before .before .respond2 .ensures .1 .1))
+returns-4 c = let a = c .before .before .before .before .before .before .before .before .before .args in three (λ o. asked (a .p) _ (a .v) (holdsWith (a .all .now) o) (handlesWith (a .n .now)) (a .fx .now) (a .at) _ _ _ _ (c .before .before .before .before .before .before .p4 .given .1) (c .before .before .respond2 .ensures .0 o (handlesWith (a .n .now)), (c .before .before .respond2 .ensures .1 .0 o (handlesWith (a .n .now)), c .before .before .respond2 .ensures .1 .1)))
 
 -- src/lib.rt:50:13
 enum-known-p-5 : tie.Need-enum-known-p-5
@@ -97,7 +93,7 @@ same-length-5 c = search needs
 
 -- src/lib.rt:54:13
 returns-5 : tie.Need-returns-5
-returns-5 c = let a = c .before .before .before .before .before .before .before .before .before .before .args in three (λ o. asked (a .p) _ (a .v) (holdsWith (a .all .now) o) (handlesWith (a .n .now)) (a .fx .now) _ (a .at) _ (c .before .before .before .before .before .before .before .p5 .given .1) (c .before .before .obtain .ensures .0 o) (c .before .before .obtain .ensures .1 .0 o) (c .before .before .obtain .ensures .1 .1))
+returns-5 c = let a = c .before .before .before .before .before .before .before .before .before .before .args in three (λ o. asked (a .p) _ (a .v) (holdsWith (a .all .now) o) (handlesWith (a .n .now)) (a .fx .now) (a .at) _ _ _ _ (c .before .before .before .before .before .before .before .p5 .given .1) (c .before .before .obtain .ensures .0 o, (c .before .before .obtain .ensures .1 .0 o, c .before .before .obtain .ensures .1 .1)))
 
 -- src/lib.rt:56:47
 enum-known-p-6 : tie.Need-enum-known-p-6
@@ -113,7 +109,7 @@ same-length-6 c = search needs
 
 -- src/lib.rt:58:13
 returns-6 : tie.Need-returns-6
-returns-6 c = let a = c .before .before .before .before .before .before .before .before .before .args in three (λ o. asked (a .p) _ (a .v) (holdsWith (a .all .now) o) (handlesWith (a .n .now)) (a .fx .now) _ (a .at) _ (c .before .before .before .before .before .before .p6 .given .1) (ap (λ (x : Decided). handled x (handlesWith (a .n .now))) (c .before .before .respond3 .ensures .0 o)) (c .before .before .respond3 .ensures .1 .0 o) (c .before .before .respond3 .ensures .1 .1))
+returns-6 c = let a = c .before .before .before .before .before .before .before .before .before .args in three (λ o. asked (a .p) _ (a .v) (holdsWith (a .all .now) o) (handlesWith (a .n .now)) (a .fx .now) (a .at) _ _ _ _ (c .before .before .before .before .before .before .p6 .given .1) (c .before .before .respond3 .ensures .0 o (handlesWith (a .n .now)), (c .before .before .respond3 .ensures .1 .0 o (handlesWith (a .n .now)), c .before .before .respond3 .ensures .1 .1)))
 
 -- src/lib.rt:60:35
 enum-told : tie.Need-enum-told
@@ -141,15 +137,15 @@ refused-requires-3 c κs = search needs
 
 -- src/lib.rt:17:1
 returns-7 : tie.Need-returns-7
-returns-7 c = let a = c .before .before .before .before .args in three (λ o. asked (a .p) _ (a .v) (holdsWith (a .all .now) o) (handlesWith (a .n .now)) (a .fx .now) _ (a .at) _ (c .before .enum-told .given .1) (ap (λ (x : Decided). handled x (handlesWith (a .n .now))) (c .refused .ensures (holdsWith (a .all .now) o))) refl (no-words 22 (a .v) (holdsWith (a .all .now) o) (handlesWith (a .n .now)) _ (ap (λ (x : Decided). handled x (handlesWith (a .n .now))) (c .refused .ensures (holdsWith (a .all .now) o)))))
+returns-7 c = let a = c .before .before .before .before .args in three (λ o. asked (a .p) _ (a .v) (holdsWith (a .all .now) o) (handlesWith (a .n .now)) (a .fx .now) (a .at) _ _ _ _ (c .before .enum-told .given .1) (refused-meets (a .v) (holdsWith (a .all .now) o) (handlesWith (a .n .now)) 22 (a .fx .now) (a .at) _ (c .refused .ensures (holdsWith (a .all .now) o) (handlesWith (a .n .now)))))
 
 -- src/lib.rt:17:1
 returns-8 : tie.Need-returns-8
-returns-8 c = let a = c .before .before .before .before .args in three (λ o. asked (a .p) _ (a .v) (holdsWith (a .all .now) o) (handlesWith (a .n .now)) (a .fx .now) _ (a .at) _ (c .before .enum-told2 .given .1) (ap (λ (x : Decided). handled x (handlesWith (a .n .now))) (c .refused2 .ensures (holdsWith (a .all .now) o))) refl (no-words 22 (a .v) (holdsWith (a .all .now) o) (handlesWith (a .n .now)) _ (ap (λ (x : Decided). handled x (handlesWith (a .n .now))) (c .refused2 .ensures (holdsWith (a .all .now) o)))))
+returns-8 c = let a = c .before .before .before .before .args in three (λ o. asked (a .p) _ (a .v) (holdsWith (a .all .now) o) (handlesWith (a .n .now)) (a .fx .now) (a .at) _ _ _ _ (c .before .enum-told2 .given .1) (refused-meets (a .v) (holdsWith (a .all .now) o) (handlesWith (a .n .now)) 22 (a .fx .now) (a .at) _ (c .refused2 .ensures (holdsWith (a .all .now) o) (handlesWith (a .n .now)))))
 
 -- src/lib.rt:17:1
 returns-9 : tie.Need-returns-9
-returns-9 c = let a = c .before .before .before .before .args in three (λ o. asked (a .p) _ (a .v) (holdsWith (a .all .now) o) (handlesWith (a .n .now)) (a .fx .now) _ (a .at) _ (c .before .enum-told3 .given .1) (ap (λ (x : Decided). handled x (handlesWith (a .n .now))) (c .refused3 .ensures (holdsWith (a .all .now) o))) refl (no-words 22 (a .v) (holdsWith (a .all .now) o) (handlesWith (a .n .now)) _ (ap (λ (x : Decided). handled x (handlesWith (a .n .now))) (c .refused3 .ensures (holdsWith (a .all .now) o)))))
+returns-9 c = let a = c .before .before .before .before .args in three (λ o. asked (a .p) _ (a .v) (holdsWith (a .all .now) o) (handlesWith (a .n .now)) (a .fx .now) (a .at) _ _ _ _ (c .before .enum-told3 .given .1) (refused-meets (a .v) (holdsWith (a .all .now) o) (handlesWith (a .n .now)) 22 (a .fx .now) (a .at) _ (c .refused3 .ensures (holdsWith (a .all .now) o) (handlesWith (a .n .now)))))
 
 pub handle-parsed-spec : {M : Type 1} → statement M
 handle-parsed-spec =

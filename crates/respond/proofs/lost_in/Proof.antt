@@ -36,7 +36,7 @@ same-length : tie.Need-same-length
 same-length c = search needs
 
 returns : tie.Need-returns
-returns c = let a = c .before .before .before .before .before .before .before .before .before .before .before .before .before .before .before .args in let r = c .before .before .before .before .before .before .before .before .before .release .ensures in let d = c .before .before .before .drop-all .ensures in (λ o. lost-is (a .v) _ (a .p) (holdsWith (a .all .now) o) _ _ _ _ (c .vacant .ensures) (r .0 o) (ap (λ (x : List ℕ). holdsWith x o) (d .1 .0)) (r .1 .0 o) (count-is (holdsWith _ o) (numbers (a .p .own)) Ended (c .before .before .before .before .before .before .is-closing .result) (c .before .before .before .before .before .before .is-closing .ensures) _ (d .0)), (λ o. lost-fx (a .v) (a .p) (holdsWith (a .all .now) o) _ (a .fx .now) _ _ (a .at) _ (r .0 o) (r .1 .1 .1 o) (r .1 .0 o) (closes-are (holdsWith _ o) (numbers (a .p .own)) Ended (c .before .before .before .before .before .before .is-closing .result) (c .before .before .before .before .before .before .is-closing .ensures) _ _ _ (d .1 .1 .0)), omega (arith, r .1 .1 .0, d .1 .1 .1)))
+returns c = let a = c .before .before .before .before .before .before .before .before .before .before .before .before .before .before .before .args in let r = c .before .before .before .before .before .before .before .before .before .release .ensures in let d = c .before .before .before .drop-all .ensures in (λ o n. lost-is (a .v) _ (a .p) (holdsWith (a .all .now) o) _ _ n _ _ (c .vacant .ensures) (r .0 o) (ap (λ (x : List ℕ). holdsWith x o) (d .1 .0)) (r .1 .0 o) (count-is (holdsWith _ o) (numbers (a .p .own)) Ended (c .before .before .before .before .before .before .is-closing .result) (c .before .before .before .before .before .before .is-closing .ensures) _ (d .0)), (λ o n. lost-fx (a .v) (a .p) (holdsWith (a .all .now) o) _ n (a .fx .now) _ _ (a .at) _ (r .0 o) (r .1 .1 .1 o) (r .1 .0 o) (closes-are (holdsWith _ o) (numbers (a .p .own)) Ended (c .before .before .before .before .before .before .is-closing .result) (c .before .before .before .before .before .before .is-closing .ensures) _ _ _ (d .1 .1 .0)), omega (arith, r .1 .1 .0, d .1 .1 .1)))
 
 pub lost-in-spec : {M : Type 1} → statement M
 lost-in-spec =

@@ -1,7 +1,7 @@
 -- `respond::release` meets its contract. Assumes nothing.
 use Rattle.word_put.proofs.Stores.{behind}
 use Rattle.respond.proofs.Laws.{count-is, closes-are, words-are}
-use Rattle.events.specs.Complete.{unmapOf, closesOf}
+use Rattle.events.specs.Entry.{unmapOf, closesOf}
 use Rattle.holds.specs.Holds.{holdsWith}
 use Rattle.fd_list.specs.Lists.{numbers}
 use Rattle.closes.specs.declared.Reason.the-variants.{Replied}

@@ -1,7 +1,7 @@
 -- `respond::stored_in` meets its contract. Assumes nothing.
 use Rattle.word_put.proofs.Stores.{behind}
 use Rattle.respond.proofs.Laws.{stored-is}
-use Rattle.respond.specs.Respond.{releasedFx}
+use Rattle.events.specs.Entry.{releaseOf}
 use Rattle.events.specs.Outcome.{wakeEffect}
 use Rattle.holds.specs.Holds.{holdsWith}
 use Rattle.fd_list.specs.Lists.{numbers}
@@ -33,7 +33,7 @@ same-length : tie.Need-same-length
 same-length c = search needs
 
 returns : tie.Need-returns
-returns c = let a = c .before .before .before .before .before .before .before .before .before .before .before .before .before .before .before .args in let r = c .before .before .before .release .ensures in (λ o. stored-is (a .v) _ (a .tag) (a .p) (holdsWith (a .all .now) o) _ _ (c .responded .ensures) (r .0 o) (r .1 .0 o), (λ o. behind (a .fx .now) _ _ (wakeEffect (a .v .caller) (a .tag)) (releasedFx (a .v) (numbers (a .p .gone)) (holdsWith (a .all .now) o)) (a .at) 3 (c .before .before .before .before .before .before .before .before .put3 .ensures) refl (r .1 .1 .1 o), omega (arith, r .1 .1 .0)))
+returns c = let a = c .before .before .before .before .before .before .before .before .before .before .before .before .before .before .before .args in let r = c .before .before .before .release .ensures in (λ o n. stored-is (a .v) _ (a .tag) (a .p) (holdsWith (a .all .now) o) _ n _ (c .responded .ensures) (r .0 o) (r .1 .0 o), (λ o n. behind (a .fx .now) _ _ (wakeEffect (a .v .caller) (a .tag)) (releaseOf (a .v) (numbers (a .p .gone)) (holdsWith (a .all .now) o)) (a .at) 3 (c .before .before .before .before .before .before .before .before .put3 .ensures) refl (r .1 .1 .1 o), omega (arith, r .1 .1 .0)))
 
 pub stored-in-spec : {M : Type 1} → statement M
 stored-in-spec =

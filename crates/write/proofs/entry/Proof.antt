@@ -13,9 +13,6 @@ use Rattle.write.proofs.entry.Tie as tie
 returns : tie.Need-returns
 returns c = let a = c .before .before .args in λ s o ws bs one ee st. short s (handlesWith (a .handles .now)) (a .p) (holdsWith (a .all .now) o) ws (a .fx .now) bs (a .e) one ee st (c .if1 .taken)
 
-known-requires : tie.Need-known-requires
-known-requires c κs = search needs
-
 parse-cqe-requires : tie.Need-parse-cqe-requires
 parse-cqe-requires c κs = search needs
 
@@ -38,26 +35,25 @@ head-after-requires : tie.Need-head-after-requires
 head-after-requires c κs = search needs
 
 stop-requires : tie.Need-stop-requires
-stop-requires c κs = let a = c .before .before .before .before .before .before .before .before .before .before .before .before .before .before .before .before .before .before .before .before .args in (refused-by (c .before .before .before .before .before .before .before .before .before .before .before .before .before .before .before .parse-cqe .result) (c .before .before .before .before .before .before .before .before .before .before .before .before .look .result) (holdsWith (a .all .now) []) (handlesWith (a .handles .now)) _ (c .before .before .before .before .before .before .before .before .handle-parsed .ensures .0 []) (c .if2 .taken), omega arith)
+stop-requires c κs = let a = c .before .before .before .before .before .before .before .before .before .before .before .before .before .before .before .before .before .before .args in (refused-by (c .before .before .before .before .before .before .before .before .before .before .before .before .before .before .before .parse-cqe .result) (c .before .before .before .before .before .before .before .before .before .before .before .before .look .result) (holdsWith (a .all .now) []) (handlesWith (a .handles .now)) _ _ _ (c .before .before .before .before .before .before .before .before .handle-parsed .ensures .0 []) (c .if2 .taken), omega arith)
 
 same-length : tie.Need-same-length
 same-length c = search needs
 
 returns-2 : tie.Need-returns-2
-returns-2 c = let a = c .before .before .before .before .before .before .before .before .before .before .before .before .before .before .before .before .before .before .before .before .before .args in λ s o ws bs one ee st. rejected s (handlesWith (a .handles .now)) (a .p) (holdsWith (a .all .now) o) ws (a .fx .now) bs (a .e) one ee st (c .before .before .before .before .before .before .before .before .before .before .before .before .before .before .before .before .before .before .before .if1 .left) (c .before .before .before .before .before .before .before .before .before .before .before .before .before .before .before .before .before .known .ensures) (c .before .before .before .before .before .before .before .before .before .before .before .before .before .before .before .before .parse-cqe .result) (c .before .before .before .before .before .before .before .before .before .before .before .before .before .before .before .before .parse-cqe .ensures) (c .before .before .before .before .before .before .before .before .before .before .before .before .before .look .result) (c .before .before .before .before .before .before .before .before .before .before .before .before .before .look .ensures) _ (c .before .before .before .before .before .before .before .before .before .handle-parsed .ensures .0 o) _ (c .before .before .before .before .before .before .before .before .before .handle-parsed .ensures .1 .0 o) _ _ _ (c .before .before .before .before .before .slot-after .ensures) (c .before .before .before .before .next-after .ensures) (c .before .before .before .head-after .ensures) _ refl (c .before .if2 .taken) _ (c .stop .ensures)
+returns-2 c = let a = c .before .before .before .before .before .before .before .before .before .before .before .before .before .before .before .before .before .before .before .args in λ s o ws bs one ee st. rejected s (handlesWith (a .handles .now)) (a .p) (holdsWith (a .all .now) o) ws (a .fx .now) bs (a .e) one ee st (c .before .before .before .before .before .before .before .before .before .before .before .before .before .before .before .before .before .if1 .left) (c .before .before .before .before .before .before .before .before .before .before .before .before .before .before .before .before .parse-cqe .result) (c .before .before .before .before .before .before .before .before .before .before .before .before .before .before .before .before .parse-cqe .ensures) (c .before .before .before .before .before .before .before .before .before .before .before .before .before .look .result) (c .before .before .before .before .before .before .before .before .before .before .before .before .before .look .ensures) _ _ _ (c .before .before .before .before .before .before .before .before .before .handle-parsed .ensures .0 o) _ (c .before .before .before .before .before .before .before .before .before .handle-parsed .ensures .1 .0 o) _ _ _ (c .before .before .before .before .before .slot-after .ensures) (c .before .before .before .before .next-after .ensures) (c .before .before .before .head-after .ensures) _ refl (c .before .if2 .taken) _ (c .stop .ensures)
 
 same-length-2 : tie.Need-same-length-2
 same-length-2 c = search needs
 
 returns-3 : tie.Need-returns-3
-returns-3 c = let a = c .before .before .before .before .before .before .before .before .before .before .before .before .before .before .before .before .before .before .before .before .args in λ s o ws bs one ee st. accepted s (handlesWith (a .handles .now)) (a .p) (holdsWith (a .all .now) o) ws (a .fx .now) bs (a .e) one ee st (c .before .before .before .before .before .before .before .before .before .before .before .before .before .before .before .before .before .before .if1 .left) (c .before .before .before .before .before .before .before .before .before .before .before .before .before .before .before .before .known .ensures) (c .before .before .before .before .before .before .before .before .before .before .before .before .before .before .before .parse-cqe .result) (c .before .before .before .before .before .before .before .before .before .before .before .before .before .before .before .parse-cqe .ensures) (c .before .before .before .before .before .before .before .before .before .before .before .before .look .result) (c .before .before .before .before .before .before .before .before .before .before .before .before .look .ensures) _ (c .before .before .before .before .before .before .before .before .handle-parsed .ensures .0 o) _ (c .before .before .before .before .before .before .before .before .handle-parsed .ensures .1 .0 o) _ _ _ (c .before .before .before .before .slot-after .ensures) (c .before .before .before .next-after .ensures) (c .before .before .head-after .ensures) _ refl (c .if2 .left)
+returns-3 c = let a = c .before .before .before .before .before .before .before .before .before .before .before .before .before .before .before .before .before .before .args in λ s o ws bs one ee st. accepted s (handlesWith (a .handles .now)) (a .p) (holdsWith (a .all .now) o) ws (a .fx .now) bs (a .e) one ee st (c .before .before .before .before .before .before .before .before .before .before .before .before .before .before .before .before .if1 .left) (c .before .before .before .before .before .before .before .before .before .before .before .before .before .before .before .parse-cqe .result) (c .before .before .before .before .before .before .before .before .before .before .before .before .before .before .before .parse-cqe .ensures) (c .before .before .before .before .before .before .before .before .before .before .before .before .look .result) (c .before .before .before .before .before .before .before .before .before .before .before .before .look .ensures) _ _ _ (c .before .before .before .before .before .before .before .before .handle-parsed .ensures .0 o) _ (c .before .before .before .before .before .before .before .before .handle-parsed .ensures .1 .0 o) _ _ _ (c .before .before .before .before .slot-after .ensures) (c .before .before .before .next-after .ensures) (c .before .before .head-after .ensures) _ refl (c .if2 .left)
 
 pub entry-spec : {M : Type 1} → statement M
 entry-spec =
     tie.close
     (tie.spec
     returns
-    known-requires
     parse-cqe-requires
     cast-tag
     look-requires

@@ -1,14 +1,12 @@
 -- `write::write` meets its contract. Assumes nothing.
 use Rattle.word_put.proofs.Stores.{part-is}
-use Rattle.write.proofs.Loop.{Left, driverWith, begins, goes-on-as, stops-as, refused-by, stops-lent, stops-words, ends, with-room, too-short, parts, four, holds-size}
+use Rattle.write.proofs.Loop.{Left, driverWith, begins, goes-on-as, stops-as, refused-by, stops-lent, stops-words, ends, with-room, too-short, parts, four, lent-length}
 use Rattle.events.specs.Outcome.{Outcome}
 use Rattle.events.specs.World.{tableWith}
 use Rattle.schemev2.specs.Entry.{cqeOf}
-use Rattle.handle_parsed.specs.Handled.{handledFx}
-use Rattle.handle_fd.specs.HandleFd.{Handled}
 use Rattle.holds.specs.Holds.{holdsWith}
 use Rattle.handles.specs.Handles.{handlesWith}
-use lib.Seq.{sets, length-sets}
+use lib.Seq.{sets}
 use lib.ListN.{length}
 use native.Mathlib.Omega.{arith}
 use mathlib.Core.Path.{_≡_, refl, sym, ap, _∙_}
@@ -19,7 +17,7 @@ use Rattle.write.proofs.write.Statement.{statement}
 use Rattle.write.proofs.write.Tie as tie
 
 abbrev Inv-loop : tie.InvT-loop
-Inv-loop fx₀ bytes n t₀ d queue outside all₀ handles₀ i₀ j₀ fx t all handles i j = (i ≤ n) × (j ≤ 99 * i) × (length fx ≡ length fx₀) × (length all ≡ 64) × ((ws : List ℕ) → Left (record { driver = d; table = t₀ }) ws fx₀ bytes n fx (tableWith t (holdsWith all outside)) (driverWith d (handlesWith handles)) i j) × (n ≤ 0x80_0000_0000_0000)
+Inv-loop fx₀ bytes n t₀ d queue outside all₀ handles₀ i₀ j₀ fx t all handles i j = (i ≤ n) × (j ≤ 99 * i) × (length fx ≡ length fx₀) × ((ws : List ℕ) → Left (record { driver = d; table = t₀ }) ws fx₀ bytes n fx (tableWith t (holdsWith all outside)) (driverWith d (handlesWith handles)) i j) × (n ≤ 0x80_0000_0000_0000)
 
 abbrev μ-loop : tie.MeasureT-loop
 μ-loop fx₀ bytes n t₀ d queue outside all₀ handles₀ i₀ j₀ fx t all handles i j = n - i
@@ -28,7 +26,7 @@ returns : tie.Need-returns Inv-loop μ-loop
 returns c = let a = c .before .before .before .args in (λ ws. ap (λ (x : Outcome). x .answer) (too-short (a .s) ws _ (a .bytes .now) (c .if1 .taken)), (λ ws. ap (λ (x : Outcome). x .world) (too-short (a .s) ws _ (a .bytes .now) (c .if1 .taken)), (λ ws. ap (λ (x : Outcome). sets (a .fx .now) 0 (x .effects)) (too-short (a .s) ws _ (a .bytes .now) (c .if1 .taken)), λ ws. ap (λ (x : Outcome). length (x .effects)) (too-short (a .s) ws _ (a .bytes .now) (c .if1 .taken)))))
 
 loop-holds : tie.Need-loop-holds Inv-loop μ-loop
-loop-holds c = let a = c .before .before .before .before .before .before .before .before .before .before .before .args in (omega arith, omega arith, refl, search needs, λ ws. begins (a .s) ws (a .fx .now) (a .bytes .now) _ refl, omega (arith, c .before .before .before .before .before .before .before .before .if1 .left))
+loop-holds c = let a = c .before .before .before .before .before .before .before .before .before .before .before .args in (omega arith, omega arith, refl, λ ws. begins (a .s) ws (a .fx .now) (a .bytes .now) _ refl, omega (arith, c .before .before .before .before .before .before .before .before .if1 .left))
 
 mul-cqe : tie.Need-mul-cqe Inv-loop μ-loop
 mul-cqe c = search needs
@@ -85,25 +83,25 @@ element-write-t : tie.Need-element-write-t Inv-loop μ-loop
 element-write-t c = search needs
 
 add-j : tie.Need-add-j Inv-loop μ-loop
-add-j c = omega (arith, c .before .before .before .before .before .before .before .before .before .before .before .before .before .before .before .before .before .before .before .loop .inv .1, c .before .before .before .before .before .before .before .before .before .before .before .before .before .before .before .before .before .before .before .loop .inv .5, c .before .before .before .before .before .before .before .before .handle-parsed .ensures .1 .1, c .before .before .before .before .before .before .before .before .before .before .before .before .before .before .before .before .before .before .loop-test .taken)
+add-j c = omega (arith, c .before .before .before .before .before .before .before .before .before .before .before .before .before .before .before .before .before .before .before .loop .inv .1, c .before .before .before .before .before .before .before .before .before .before .before .before .before .before .before .before .before .before .before .loop .inv .4, c .before .before .before .before .before .before .before .before .handle-parsed .ensures .1 .1, c .before .before .before .before .before .before .before .before .before .before .before .before .before .before .before .before .before .before .loop-test .taken)
 
 stop-requires : tie.Need-stop-requires Inv-loop μ-loop
-stop-requires c κs = let a = c .before .before .before .before .before .before .before .before .before .before .before .before .before .before .before .before .before .before .before .before .before .before .before .before .before .before .before .before .before .before .before .before .args in let l = c .before .before .before .before .before .before .before .before .before .before .before .before .before .before .before .before .before .before .before .before .loop in (refused-by (c .before .before .before .before .before .before .before .before .before .before .before .before .before .before .before .before .parse-cqe .result) (c .before .before .before .before .before .before .before .before .before .before .before .before .before .look .result) (holdsWith (l .all) (a .s .table .holds .outside)) (handlesWith (l .handles)) _ (c .before .before .before .before .before .before .before .before .before .handle-parsed .ensures .0 (a .s .table .holds .outside)) (c .if2 .taken), omega (arith, c .before .before .before .before .before .before .before .before .before .before .before .before .before .before .before .before .before .before .before .loop-test .taken, c .before .before .before .before .before .before .before .before .before .before .before .before .before .before .before .before .before .before .before .before .loop .inv .5))
+stop-requires c κs = let a = c .before .before .before .before .before .before .before .before .before .before .before .before .before .before .before .before .before .before .before .before .before .before .before .before .before .before .before .before .before .before .before .before .args in let l = c .before .before .before .before .before .before .before .before .before .before .before .before .before .before .before .before .before .before .before .before .loop in (refused-by (c .before .before .before .before .before .before .before .before .before .before .before .before .before .before .before .before .parse-cqe .result) (c .before .before .before .before .before .before .before .before .before .before .before .before .before .look .result) (holdsWith (l .all) (a .s .table .holds .outside)) (handlesWith (l .handles)) _ _ _ (c .before .before .before .before .before .before .before .before .before .handle-parsed .ensures .0 (a .s .table .holds .outside)) (c .if2 .taken), omega (arith, c .before .before .before .before .before .before .before .before .before .before .before .before .before .before .before .before .before .before .before .loop-test .taken, c .before .before .before .before .before .before .before .before .before .before .before .before .before .before .before .before .before .before .before .before .loop .inv .4))
 
 same-length : tie.Need-same-length Inv-loop μ-loop
-same-length c = let a = c .before .before .before .before .before .before .before .before .before .before .before .before .before .before .before .before .before .before .before .before .before .before .before .before .before .before .before .before .before .before .before .before .before .args in let l = c .before .before .before .before .before .before .before .before .before .before .before .before .before .before .before .before .before .before .before .before .before .loop in ap length (c .before .before .before .before .before .before .before .before .before .before .handle-parsed .ensures .1 .0 (a .s .table .holds .outside)) ∙ length-sets (l .fx) (l .j) (handledFx (c .before .before .before .before .before .before .before .before .before .before .before .before .before .before .before .before .before .parse-cqe .result) (c .before .before .before .before .before .before .before .before .before .before .before .before .before .before .look .result) (holdsWith (l .all) (a .s .table .holds .outside)) (handlesWith (l .handles))) ∙ l .inv .2
+same-length c = let a = c .before .before .before .before .before .before .before .before .before .before .before .before .before .before .before .before .before .before .before .before .before .before .before .before .before .before .before .before .before .before .before .before .before .args in let l = c .before .before .before .before .before .before .before .before .before .before .before .before .before .before .before .before .before .before .before .before .before .loop in lent-length (c .before .before .before .before .before .before .before .before .before .before .before .before .before .before .before .before .before .parse-cqe .result) (c .before .before .before .before .before .before .before .before .before .before .before .before .before .before .look .result) (holdsWith (l .all) (a .s .table .holds .outside)) (handlesWith (l .handles)) _ (l .fx) (l .j) (c .before .before .before .before .before .before .before .before .before .before .handle-parsed .ensures .1 .0 (a .s .table .holds .outside)) ∙ l .inv .2
 
 returns-2 : tie.Need-returns-2 Inv-loop μ-loop
-returns-2 c = let a = c .before .before .before .before .before .before .before .before .before .before .before .before .before .before .before .before .before .before .before .before .before .before .before .before .before .before .before .before .before .before .before .before .before .args in let l = c .before .before .before .before .before .before .before .before .before .before .before .before .before .before .before .before .before .before .before .before .before .loop in four (λ ws. parts _ _ _ _ _ (a .fx .now) _ _ (c .stop .ensures) (with-room (a .s) ws _ (a .bytes .now) (c .before .before .before .before .before .before .before .before .before .before .before .before .before .before .before .before .before .before .before .before .before .before .before .before .before .before .before .before .before .before .if1 .left) _ (stops-as (a .s) ws (a .fx .now) (a .bytes .now) _ (l .fx) (tableWith (l .t) (holdsWith (l .all) (a .s .table .holds .outside))) (driverWith (a .s .driver) (handlesWith (l .handles))) (l .i) (l .j) (l .inv .4 ws) (c .before .before .before .before .before .before .before .before .before .before .before .before .before .before .before .before .before .before .before .before .loop-test .taken) (l .inv .3) (c .before .before .before .before .before .before .before .before .before .before .before .before .before .before .before .before .before .before .cqe .result) (c .before .before .before .before .before .before .before .before .before .before .before .before .before .before .before .before .before .before .cqe .ensures ∙ ap cqeOf (part-is (a .bytes .now) (16 * l .i))) _ (c .before .before .before .before .before .before .before .before .before .before .before .before .before .before .before .before .before .parse-cqe .result) (c .before .before .before .before .before .before .before .before .before .before .before .before .before .before .before .before .before .parse-cqe .ensures) (c .before .before .before .before .before .before .before .before .before .before .before .before .before .before .look .result) (c .before .before .before .before .before .before .before .before .before .before .before .before .before .before .look .ensures) (c .before .before .before .before .before .before .before .before .before .before .handle-parsed .ensures .0 (a .s .table .holds .outside)) _ (c .before .before .before .before .before .before .before .before .before .before .handle-parsed .ensures .1 .0 (a .s .table .holds .outside)) _ _ _ (c .before .before .before .before .before .before .slot-after .ensures) (c .before .before .before .before .next-after .ensures) (c .before .before .before .head-after .ensures) (c .before .if2 .taken))) (stops-lent (a .s) ws (a .fx .now) (a .bytes .now) _ (l .fx) (tableWith (l .t) (holdsWith (l .all) (a .s .table .holds .outside))) (driverWith (a .s .driver) (handlesWith (l .handles))) (l .i) (l .j) (l .inv .4 ws) (c .before .before .before .before .before .before .before .before .before .before .before .before .before .before .before .before .before .before .before .before .loop-test .taken) (l .inv .3) (c .before .before .before .before .before .before .before .before .before .before .before .before .before .before .before .before .before .before .cqe .result) (c .before .before .before .before .before .before .before .before .before .before .before .before .before .before .before .before .before .before .cqe .ensures ∙ ap cqeOf (part-is (a .bytes .now) (16 * l .i))) _ (c .before .before .before .before .before .before .before .before .before .before .before .before .before .before .before .before .before .parse-cqe .result) (c .before .before .before .before .before .before .before .before .before .before .before .before .before .before .before .before .before .parse-cqe .ensures) (c .before .before .before .before .before .before .before .before .before .before .before .before .before .before .look .result) (c .before .before .before .before .before .before .before .before .before .before .before .before .before .before .look .ensures) (c .before .before .before .before .before .before .before .before .before .before .handle-parsed .ensures .0 (a .s .table .holds .outside)) _ (c .before .before .before .before .before .before .before .before .before .before .handle-parsed .ensures .1 .0 (a .s .table .holds .outside))) (stops-words (a .s) ws (a .fx .now) (a .bytes .now) _ (l .fx) (tableWith (l .t) (holdsWith (l .all) (a .s .table .holds .outside))) (driverWith (a .s .driver) (handlesWith (l .handles))) (l .i) (l .j) (l .inv .4 ws) (c .before .before .before .before .before .before .before .before .before .before .before .before .before .before .before .before .before .before .before .before .loop-test .taken) (l .inv .3) (c .before .before .before .before .before .before .before .before .before .before .before .before .before .before .before .before .before .before .cqe .result) (c .before .before .before .before .before .before .before .before .before .before .before .before .before .before .before .before .before .before .cqe .ensures ∙ ap cqeOf (part-is (a .bytes .now) (16 * l .i))) _ (c .before .before .before .before .before .before .before .before .before .before .before .before .before .before .before .before .before .parse-cqe .result) (c .before .before .before .before .before .before .before .before .before .before .before .before .before .before .before .before .before .parse-cqe .ensures) (c .before .before .before .before .before .before .before .before .before .before .before .before .before .before .look .result) (c .before .before .before .before .before .before .before .before .before .before .before .before .before .before .look .ensures) (c .before .before .before .before .before .before .before .before .before .before .handle-parsed .ensures .0 (a .s .table .holds .outside)) _ (c .before .before .before .before .before .before .before .before .before .before .handle-parsed .ensures .1 .0 (a .s .table .holds .outside))))
+returns-2 c = let a = c .before .before .before .before .before .before .before .before .before .before .before .before .before .before .before .before .before .before .before .before .before .before .before .before .before .before .before .before .before .before .before .before .before .args in let l = c .before .before .before .before .before .before .before .before .before .before .before .before .before .before .before .before .before .before .before .before .before .loop in four (λ ws. parts _ _ _ _ _ (a .fx .now) _ _ (c .stop .ensures) (with-room (a .s) ws _ (a .bytes .now) (c .before .before .before .before .before .before .before .before .before .before .before .before .before .before .before .before .before .before .before .before .before .before .before .before .before .before .before .before .before .before .if1 .left) _ (stops-as (a .s) ws (a .fx .now) (a .bytes .now) _ (l .fx) (tableWith (l .t) (holdsWith (l .all) (a .s .table .holds .outside))) (driverWith (a .s .driver) (handlesWith (l .handles))) (l .i) (l .j) (l .inv .3 ws) (c .before .before .before .before .before .before .before .before .before .before .before .before .before .before .before .before .before .before .before .before .loop-test .taken) (c .before .before .before .before .before .before .before .before .before .before .before .before .before .before .before .before .before .before .cqe .result) (c .before .before .before .before .before .before .before .before .before .before .before .before .before .before .before .before .before .before .cqe .ensures ∙ ap cqeOf (part-is (a .bytes .now) (16 * l .i))) (c .before .before .before .before .before .before .before .before .before .before .before .before .before .before .before .before .before .parse-cqe .result) (c .before .before .before .before .before .before .before .before .before .before .before .before .before .before .before .before .before .parse-cqe .ensures) (c .before .before .before .before .before .before .before .before .before .before .before .before .before .before .look .result) (c .before .before .before .before .before .before .before .before .before .before .before .before .before .before .look .ensures) _ _ _ (c .before .before .before .before .before .before .before .before .before .before .handle-parsed .ensures .0 (a .s .table .holds .outside)) _ (c .before .before .before .before .before .before .before .before .before .before .handle-parsed .ensures .1 .0 (a .s .table .holds .outside)) _ _ _ (c .before .before .before .before .before .before .slot-after .ensures) (c .before .before .before .before .next-after .ensures) (c .before .before .before .head-after .ensures) (c .before .if2 .taken))) (stops-lent (a .s) ws (a .fx .now) (a .bytes .now) _ (l .fx) (tableWith (l .t) (holdsWith (l .all) (a .s .table .holds .outside))) (driverWith (a .s .driver) (handlesWith (l .handles))) (l .i) (l .j) (l .inv .3 ws) (c .before .before .before .before .before .before .before .before .before .before .before .before .before .before .before .before .before .before .before .before .loop-test .taken) (c .before .before .before .before .before .before .before .before .before .before .before .before .before .before .before .before .before .before .cqe .result) (c .before .before .before .before .before .before .before .before .before .before .before .before .before .before .before .before .before .before .cqe .ensures ∙ ap cqeOf (part-is (a .bytes .now) (16 * l .i))) (c .before .before .before .before .before .before .before .before .before .before .before .before .before .before .before .before .before .parse-cqe .result) (c .before .before .before .before .before .before .before .before .before .before .before .before .before .before .before .before .before .parse-cqe .ensures) (c .before .before .before .before .before .before .before .before .before .before .before .before .before .before .look .result) (c .before .before .before .before .before .before .before .before .before .before .before .before .before .before .look .ensures) _ _ _ (c .before .before .before .before .before .before .before .before .before .before .handle-parsed .ensures .0 (a .s .table .holds .outside)) _ (c .before .before .before .before .before .before .before .before .before .before .handle-parsed .ensures .1 .0 (a .s .table .holds .outside))) (stops-words (a .s) ws (a .fx .now) (a .bytes .now) _ (l .fx) (tableWith (l .t) (holdsWith (l .all) (a .s .table .holds .outside))) (driverWith (a .s .driver) (handlesWith (l .handles))) (l .i) (l .j) (l .inv .3 ws) (c .before .before .before .before .before .before .before .before .before .before .before .before .before .before .before .before .before .before .before .before .loop-test .taken) (c .before .before .before .before .before .before .before .before .before .before .before .before .before .before .before .before .before .before .cqe .result) (c .before .before .before .before .before .before .before .before .before .before .before .before .before .before .before .before .before .before .cqe .ensures ∙ ap cqeOf (part-is (a .bytes .now) (16 * l .i))) (c .before .before .before .before .before .before .before .before .before .before .before .before .before .before .before .before .before .parse-cqe .result) (c .before .before .before .before .before .before .before .before .before .before .before .before .before .before .before .before .before .parse-cqe .ensures) (c .before .before .before .before .before .before .before .before .before .before .before .before .before .before .look .result) (c .before .before .before .before .before .before .before .before .before .before .before .before .before .before .look .ensures) _ _ _ (c .before .before .before .before .before .before .before .before .before .before .handle-parsed .ensures .0 (a .s .table .holds .outside)) _ (c .before .before .before .before .before .before .before .before .before .before .handle-parsed .ensures .1 .0 (a .s .table .holds .outside))))
 
 add-i : tie.Need-add-i Inv-loop μ-loop
-add-i c = omega (arith, c .before .before .before .before .before .before .before .before .before .before .before .before .before .before .before .before .before .before .before .loop-test .taken, c .before .before .before .before .before .before .before .before .before .before .before .before .before .before .before .before .before .before .before .before .loop .inv .5)
+add-i c = omega (arith, c .before .before .before .before .before .before .before .before .before .before .before .before .before .before .before .before .before .before .before .loop-test .taken, c .before .before .before .before .before .before .before .before .before .before .before .before .before .before .before .before .before .before .before .before .loop .inv .4)
 
 loop-less : tie.Need-loop-less Inv-loop μ-loop
 loop-less c = omega (arith, c .before .before .before .before .before .before .before .before .before .before .before .before .before .before .before .before .before .before .before .loop-test .taken)
 
 loop-again : tie.Need-loop-again Inv-loop μ-loop
-loop-again c = let a = c .before .before .before .before .before .before .before .before .before .before .before .before .before .before .before .before .before .before .before .before .before .before .before .before .before .before .before .before .before .before .before .before .args in let l = c .before .before .before .before .before .before .before .before .before .before .before .before .before .before .before .before .before .before .before .before .loop in (omega (arith, c .before .before .before .before .before .before .before .before .before .before .before .before .before .before .before .before .before .before .before .loop-test .taken), omega (arith, l .inv .1, c .before .before .before .before .before .before .before .before .before .handle-parsed .ensures .1 .1), ap length (c .before .before .before .before .before .before .before .before .before .handle-parsed .ensures .1 .0 (a .s .table .holds .outside)) ∙ length-sets (l .fx) (l .j) (handledFx (c .before .before .before .before .before .before .before .before .before .before .before .before .before .before .before .before .parse-cqe .result) (c .before .before .before .before .before .before .before .before .before .before .before .before .before .look .result) (holdsWith (l .all) (a .s .table .holds .outside)) (handlesWith (l .handles))) ∙ l .inv .2, ap (λ (x : Handled). length (x .holds .holds)) (c .before .before .before .before .before .before .before .before .before .handle-parsed .ensures .0 (a .s .table .holds .outside)) ∙ holds-size (c .before .before .before .before .before .before .before .before .before .before .before .before .before .before .before .before .parse-cqe .result) (c .before .before .before .before .before .before .before .before .before .before .before .before .before .look .result) (holdsWith (l .all) (a .s .table .holds .outside)) (handlesWith (l .handles)) ∙ l .inv .3, λ ws. goes-on-as (a .s) ws (a .fx .now) (a .bytes .now) _ (l .fx) (tableWith (l .t) (holdsWith (l .all) (a .s .table .holds .outside))) (driverWith (a .s .driver) (handlesWith (l .handles))) (l .i) (l .j) (l .inv .4 ws) (c .before .before .before .before .before .before .before .before .before .before .before .before .before .before .before .before .before .before .before .loop-test .taken) (l .inv .3) (c .before .before .before .before .before .before .before .before .before .before .before .before .before .before .before .before .before .cqe .result) (c .before .before .before .before .before .before .before .before .before .before .before .before .before .before .before .before .before .cqe .ensures ∙ ap cqeOf (part-is (a .bytes .now) (16 * l .i))) _ (c .before .before .before .before .before .before .before .before .before .before .before .before .before .before .before .before .parse-cqe .result) (c .before .before .before .before .before .before .before .before .before .before .before .before .before .before .before .before .parse-cqe .ensures) (c .before .before .before .before .before .before .before .before .before .before .before .before .before .look .result) (c .before .before .before .before .before .before .before .before .before .before .before .before .before .look .ensures) (c .before .before .before .before .before .before .before .before .before .handle-parsed .ensures .0 (a .s .table .holds .outside)) _ (c .before .before .before .before .before .before .before .before .before .handle-parsed .ensures .1 .0 (a .s .table .holds .outside)) _ _ _ (c .before .before .before .before .before .slot-after .ensures) (c .before .before .before .next-after .ensures) (c .before .before .head-after .ensures) (c .if2 .left), l .inv .5)
+loop-again c = let a = c .before .before .before .before .before .before .before .before .before .before .before .before .before .before .before .before .before .before .before .before .before .before .before .before .before .before .before .before .before .before .before .before .args in let l = c .before .before .before .before .before .before .before .before .before .before .before .before .before .before .before .before .before .before .before .before .loop in (omega (arith, c .before .before .before .before .before .before .before .before .before .before .before .before .before .before .before .before .before .before .before .loop-test .taken), omega (arith, l .inv .1, c .before .before .before .before .before .before .before .before .before .handle-parsed .ensures .1 .1), lent-length (c .before .before .before .before .before .before .before .before .before .before .before .before .before .before .before .before .parse-cqe .result) (c .before .before .before .before .before .before .before .before .before .before .before .before .before .look .result) (holdsWith (l .all) (a .s .table .holds .outside)) (handlesWith (l .handles)) _ (l .fx) (l .j) (c .before .before .before .before .before .before .before .before .before .handle-parsed .ensures .1 .0 (a .s .table .holds .outside)) ∙ l .inv .2, λ ws. goes-on-as (a .s) ws (a .fx .now) (a .bytes .now) _ (l .fx) (tableWith (l .t) (holdsWith (l .all) (a .s .table .holds .outside))) (driverWith (a .s .driver) (handlesWith (l .handles))) (l .i) (l .j) (l .inv .3 ws) (c .before .before .before .before .before .before .before .before .before .before .before .before .before .before .before .before .before .before .before .loop-test .taken) (c .before .before .before .before .before .before .before .before .before .before .before .before .before .before .before .before .before .cqe .result) (c .before .before .before .before .before .before .before .before .before .before .before .before .before .before .before .before .before .cqe .ensures ∙ ap cqeOf (part-is (a .bytes .now) (16 * l .i))) (c .before .before .before .before .before .before .before .before .before .before .before .before .before .before .before .before .parse-cqe .result) (c .before .before .before .before .before .before .before .before .before .before .before .before .before .before .before .before .parse-cqe .ensures) (c .before .before .before .before .before .before .before .before .before .before .before .before .before .look .result) (c .before .before .before .before .before .before .before .before .before .before .before .before .before .look .ensures) _ _ _ (c .before .before .before .before .before .before .before .before .before .handle-parsed .ensures .0 (a .s .table .holds .outside)) _ (c .before .before .before .before .before .before .before .before .before .handle-parsed .ensures .1 .0 (a .s .table .holds .outside)) _ _ _ (c .before .before .before .before .before .slot-after .ensures) (c .before .before .before .next-after .ensures) (c .before .before .head-after .ensures) (c .if2 .left), l .inv .4)
 
 mul-t65 : tie.Need-mul-t65 Inv-loop μ-loop
 mul-t65 c = search needs
@@ -112,7 +110,7 @@ same-length-2 : tie.Need-same-length-2 Inv-loop μ-loop
 same-length-2 c = search needs
 
 returns-3 : tie.Need-returns-3 Inv-loop μ-loop
-returns-3 c = let a = c .before .before .before .before .before .before .before .before .before .before .before .before .before .args in let l = c .before .loop in four (λ ws. parts _ _ (l .inv .4 ws .made) _ _ (a .fx .now) _ _ refl (with-room (a .s) ws _ (a .bytes .now) (c .before .before .before .before .before .before .before .before .before .before .if1 .left) _ (ends (a .s) ws (a .fx .now) (a .bytes .now) _ (l .fx) (tableWith (l .t) (holdsWith (l .all) (a .s .table .holds .outside))) (driverWith (a .s .driver) (handlesWith (l .handles))) (l .i) (l .j) (l .inv .4 ws) (omega (arith, l .inv .0, c .loop-test .left)))) (l .inv .4 ws .lent) (sym (l .inv .4 ws .words)))
+returns-3 c = let a = c .before .before .before .before .before .before .before .before .before .before .before .before .before .args in let l = c .before .loop in four (λ ws. parts _ _ (l .inv .3 ws .made) _ _ (a .fx .now) _ _ refl (with-room (a .s) ws _ (a .bytes .now) (c .before .before .before .before .before .before .before .before .before .before .if1 .left) _ (ends (a .s) ws (a .fx .now) (a .bytes .now) _ (l .fx) (tableWith (l .t) (holdsWith (l .all) (a .s .table .holds .outside))) (driverWith (a .s .driver) (handlesWith (l .handles))) (l .i) (l .j) (l .inv .3 ws) (omega (arith, l .inv .0, c .loop-test .left)))) (l .inv .3 ws .lent) (sym (l .inv .3 ws .words)))
 
 pub write-spec : {M : Type 1} → statement M
 write-spec =
