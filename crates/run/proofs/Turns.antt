@@ -16,7 +16,7 @@ use Rattle.schemev2.specs.declared.Cqe.{Cqe}
 use Rattle.events.specs.Event.{write, on}
 use Rattle.events.specs.Read.{readOf}
 use Rattle.events.specs.WellFormed.{WellFormed}
-use Rattle.events.proofs.Exact.{write-most, write-room}
+use Rattle.events.proofs.Exact as effects
 use Rattle.outcome_bytes.specs.Output.{told, outcomeBytes}
 use Rattle.le.specs.Le.{word}
 use Rattle.record.specs.Record.{wordsAt}
@@ -138,7 +138,7 @@ module _ (w : World) (i : WellFormed w) (words n m k : ℕ) (fx front bs bs' : L
   lent = em ∙ length-take-le n fx (omega (arith, en))
 
   fits : k ≤ n
-  fits = omega (arith, lent, ek, write-room w i m bs)
+  fits = omega (arith, lent, ek, effects.write-room w i m bs)
 
   pub write-part : k ≡ length (take k (front ++ drop n fx))
   write-part = front-counts fx front (writeOf w m bs .effects) n k (omega (arith, en)) fits ek is
@@ -151,7 +151,7 @@ module _ (w : World) (i : WellFormed w) (words n m k : ℕ) (fx front bs bs' : L
 
   -- 18 effects an entry have room in 27 bytes for each of its own
   pub write-most : (tail : ℕ) → length bs' ≡ tail → 32 + 8 * k ≤ 192 + 27 * tail
-  write-most tail e = omega (arith, ek, write-most w i m bs, ap length eb, e)
+  write-most tail e = omega (arith, ek, effects.write-most w i m bs, ap length eb, e)
 
   pub write-fits : k ≤ length (front ++ drop n fx)
   write-fits = omega (arith, write-part, length-take k (front ++ drop n fx))

@@ -1,0 +1,139 @@
+#!/usr/bin/env python3
+"""Wrong definitions of the layer against the claims themselves: each is an edit of crates/events/must-fail, and
+for each the claim that it breaks is proved FALSE of it, by a run in which the two sides of the claim's equation
+differ. So no other proof could save it, which a refused must-fail edit alone does not show.
+
+    tests/wrong_layers.py [NAME..]
+
+Takes some seconds for each; no part of the gate. Needs rt; the crates below `events` are proved first if they are not.
+"""
+import pathlib
+import re
+import shutil
+import subprocess
+import sys
+import tempfile
+
+TOP = pathlib.Path(__file__).resolve().parent.parent
+
+CALL = "on (call 1 6 (args6 0 0 0 0 0 0) 0 0 1 [])"
+# two calls; a write of two entries, to tag 1 and to tag 0: read 17 bytes apart, the second has kind 7
+TWO = f"{CALL} ∷ {CALL} ∷ []"
+ENTRIES = "on (write 108 ((0 ∷ 0 ∷ 0 ∷ 0 ∷ 1 ∷ replicate 11 0) ++ (0 ∷ 7 ∷ replicate 14 0)))"
+# name, claim, events before, the event, its clause, what is taken of both sides, the wrong layer's, the claimed
+WRONG = [
+    ("idle_layer", "Exactly", "[]", "on (reserve 1)", "answer", "code", "5001", "0"),
+    ("wake_answers_ok", "Exactly", f"{CALL} ∷ []", "on (wake 0 1 0 0 0)", "answer", "code", "0", "5001"),
+    ("entries_17_apart", "Exactly", TWO, ENTRIES, "answer", "code", "16", "32"),
+    ("first_entry_only", "Exactly", TWO, ENTRIES, "answer", "code", "16", "32"),
+    ("ended_skips_map_requests", "Exactly", "on (fmap 1 5 1 0 0 0 1) ∷ hostEnded 1 ∷ []", "on (supply 0 0 0 1)",
+     "answer", "code", "0", "1003"),
+    ("cancel_with_argument", "Demand3", f"{CALL} ∷ []", "on (wake 0 1 0 0 0)", "queue", "(λ (l : List ℕ). getD l 72 0)", "1", "0"),
+    ("every_event_205", "Exactly", "[]", "on (reserve 1)", "answer", "code", "1205", "0"),
+    ("read_would_wait", "Exactly", f"{CALL} ∷ []", "on (read 64 0)", "answer", "code", "5000", "64"),
+    ("no_wake_effect", "Demand3", f"{CALL} ∷ []", "on (write 54 (replicate 16 0))", "effects", "length", "0", "3"),
+    ("submit_answers_0", "Exactly", "on (reserve 1) ∷ on (reserve 1) ∷ []", "on (submit 1 1 6 0 (args6 0 0 0 0 0 0) 1 [])",
+     "answer", "code", "0", "1"),
+    ("no_root_effect", "Demand3", "[]", CALL, "effects", "length", "0", "3"),
+    ("second_cancel", "Demand3", f"{CALL} ∷ on (wake 0 1 0 0 0) ∷ []", "on (wake 0 1 0 0 0)", "queue", "length", "192", "128"),
+    ("never_hands_over", "Demand3", f"{CALL} ∷ on (write 54 (replicate 16 0)) ∷ []", "on (wake 0 1 0 0 0)", "hand", "bit", "0", "1"),
+    ("killed_wake_vacates", "Exactly", f"{CALL} ∷ on (wake 0 1 1 0 0) ∷ []", "on (reserve 2)", "answer", "code", "0", "1"),
+]
+
+REFUTED = """-- {claim} does not hold of this layer.
+use Prim.Native.Nat.{{ℕ, _+_}}
+use mathlib.Core.Path.{{_≡_, refl, ap}}
+use mathlib.Core.Bool.{{Bool, cond}}
+use mathlib.Core.List.{{List, [], _∷_, _++_}}
+use native.Mathlib.Omega.{{arith}}
+use lib.ListN.{{length, getD, replicate, length-replicate}}
+use Rattle.wait_queue.specs.Queue.{{wordsFrom}}
+use Rattle.events.specs.Outcome.{{Answer, onAnswer}}
+use Rattle.events.specs.Submit.{{args6}}
+use Rattle.events.specs.Event.{{reserve, submit, call, fmap, wake, read, write, supply, Event, hostEnded, on, step}}
+use Rattle.events.specs.Run.{{Run, begin, next, runFrom, run, Steps, fresh, then}}
+use Rattle.events.specs.{claim}.{{{claim}}}
+
+abbrev code : Answer → ℕ
+code a = onAnswer a (λ v. v) (λ k. 1000 + k) 5000 5001 (λ r. 5002)
+
+abbrev bit : Bool → ℕ
+bit b = cond b 1 0
+
+steps-from : (es : List Event) (r : Run) → Steps r → Steps (runFrom r es)
+steps-from [] r s = s
+steps-from (e ∷ es) r s = steps-from es (next r e) (then r e (step (r .world) e) s refl)
+
+abbrev before : List Event
+before = {before}
+
+pub refuted : {claim} → ⊥
+unfolding wordsFrom
+refuted x =
+    let s = steps-from before (begin 7 (replicate 1024 0)) (fresh 7 (replicate 1024 0) (length-replicate {{A = ℕ}} 1024 0)) in
+    let z : _≡_ {{A = ℕ}} {wrong} {claimed} = ap {measure} ({clause}) in
+    omega arith
+"""
+
+
+def apply(edit, crate):
+    """The pairs of a must-fail edit, on a copy of the crate."""
+    file, old = None, None
+    for line in edit.read_text().splitlines():
+        if line.startswith("file: "):
+            file = crate / line[6:]
+        elif line.startswith("old: "):
+            old = line[5:]
+        elif line.startswith("new: "):
+            text = file.read_text()
+            if text.count(old) != 1:
+                sys.exit(f"{edit.name}: stands {text.count(old)} times: {old}")
+            file.write_text(text.replace(old, line[5:]))
+
+
+def main():
+    names = sys.argv[1:]
+    unknown = set(names) - {w[0] for w in WRONG}
+    if unknown:
+        sys.exit(f"no such wrong layer: {', '.join(sorted(unknown))}")
+    below = "answer closes counts error fd_list flag handles holds host_ended host_holds host_put ids le opcode parse_cqe schemev2 slot state status table take_holds user_args wait_queue wait_queue_receive word_put"
+    subprocess.run(["rt", "check", *below.split()], cwd=TOP, check=True, stdout=subprocess.DEVNULL)
+    failed = 0
+    with tempfile.TemporaryDirectory() as folder:
+        copy = pathlib.Path(folder)
+        for part in ("crates", "crates.txt", "target"):
+            source = TOP / part
+            shutil.copytree(source, copy / part) if source.is_dir() else shutil.copy(source, copy / part)
+        subprocess.run(["git", "init", "-q"], cwd=copy, check=True)
+        events = copy / "crates/events"
+        for name, claim, before, event, clause, measure, wrong, claimed in WRONG:
+            if names and name not in names:
+                continue
+            shutil.rmtree(events)
+            shutil.copytree(TOP / "crates/events", events)
+            apply(TOP / f"crates/events/must-fail/{name}.edit", events)
+            shutil.rmtree(events / "proofs")
+            (events / "proofs").mkdir()
+            (events / "proofs/Lib.antt").write_text("pub mod Refuted\n")
+            # the examples cite the definitions as they should be, and no claim rests on them
+            lib = events / "specs/Lib.antt"
+            lib.write_text(lib.read_text().replace("pub mod Examples\n", ""))
+            (events / "specs/Examples.antt").unlink()
+            said = f"x (runFrom (begin 7 (replicate 1024 0)) before) s .{'answer' if claim == 'Exactly' else 'turn'} ({event})"
+            said += "" if claim == "Exactly" else f" .{clause}"
+            (events / "proofs/Refuted.antt").write_text(
+                REFUTED.format(claim=claim, before=before, wrong=wrong, claimed=claimed, measure=measure, clause=said))
+            run = subprocess.run(["rt", "check", "events"], cwd=copy, capture_output=True, text=True)
+            if run.returncode == 0:
+                print(f"{name}: {claim} is false of it ({clause}: {wrong}, where {claimed} is claimed)")
+            else:
+                failed += 1
+                log = run.stdout + run.stderr
+                print(f"{name}: NOT shown false of {claim}")
+                print("\n".join(l for l in log.splitlines() if re.search(r"error|Refuted", l))[:3000])
+    print(f"{failed} not shown")
+    sys.exit(failed != 0)
+
+
+if __name__ == "__main__":
+    main()
