@@ -20,6 +20,15 @@ CALL = "on (call 1 6 (args6 0 0 0 0 0 0) 0 0 1 [])"
 # two calls; a write of two entries, to tag 1 and to tag 0: read 17 bytes apart, the second has kind 7
 TWO = f"{CALL} ∷ {CALL} ∷ []"
 ENTRIES = "on (write 108 ((0 ∷ 0 ∷ 0 ∷ 0 ∷ 1 ∷ replicate 11 0) ++ (0 ∷ 7 ∷ replicate 14 0)))"
+# the second entry is of no kind
+STOPPED = "on (write 108 ((0 ∷ 0 ∷ 0 ∷ 0 ∷ 1 ∷ replicate 11 0) ++ (6 ∷ replicate 15 0)))"
+
+
+def REPLY(result):
+    """A regular reply to tag 0 with these eight bytes for a result."""
+    return f"on (write 54 (replicate 8 0 ++ ({result})))"
+
+
 # name, claim, events before, the event, its clause, what is taken of both sides, the wrong layer's, the claimed
 WRONG = [
     ("idle_layer", "Exactly", "[]", "on (reserve 1)", "answer", "code", "5001", "0"),
@@ -37,6 +46,27 @@ WRONG = [
     ("no_root_effect", "Demand3", "[]", CALL, "effects", "length", "0", "3"),
     ("second_cancel", "Demand3", f"{CALL} ∷ on (wake 0 1 0 0 0) ∷ []", "on (wake 0 1 0 0 0)", "queue", "length", "192", "128"),
     ("never_hands_over", "Demand3", f"{CALL} ∷ on (write 54 (replicate 16 0)) ∷ []", "on (wake 0 1 0 0 0)", "hand", "bit", "0", "1"),
+    ("cancel_for_killed", "Demand3", f"{CALL} ∷ []", "on (wake 0 1 1 0 0)", "queue", "length", "128", "64"),
+    ("eintr_reply_returns", "Exactly", f"{CALL} ∷ on (wake 0 1 0 0 0) ∷ {REPLY('131 ∷ 255 ∷ 255 ∷ 255 ∷ replicate 4 0')} ∷ []",
+     "on (wake 0 1 0 0 0)", "answer", "code", "1201", "6504"),
+    ("ended_reply_kept", "Exactly", f"{CALL} ∷ hostEnded 1 ∷ {REPLY('replicate 8 0')} ∷ []", "on (reserve 2)", "answer", "code", "1", "0"),
+    ("entry_not_counted", "Exactly", TWO, STOPPED, "answer", "code", "0", "16"),
+    ("refused_entry_counted", "Exactly", TWO, STOPPED, "answer", "code", "32", "16"),
+    ("esrch_leaves_slot", "Exactly", "on (fmap 1 5 1 0 0 0 1) ∷ hostEnded 1 ∷ on (supply 0 0 0 1) ∷ []", "on (supply 0 0 0 1)",
+     "answer", "code", "1003", "1022"),
+    ("full_without_looking", "Exactly", "[]", "on (reserve 1)", "answer", "code", "1202", "0"),
+    ("hands_another_reply", "Exactly", f"{CALL} ∷ {REPLY('9 ∷ replicate 7 0')} ∷ []", "on (wake 0 1 0 0 0)", "answer", "code", "6000", "6009"),
+    ("hands_to_any_caller", "Exactly", f"{CALL} ∷ {REPLY('replicate 8 0')} ∷ []", "on (wake 0 2 0 0 0)", "answer", "code", "6000", "1201"),
+    ("hands_to_returned", "Exactly", f"{CALL} ∷ on (wake 0 1 1 0 0) ∷ {REPLY('replicate 8 0')} ∷ []", "on (wake 0 1 0 0 0)",
+     "answer", "code", "6000", "1201"),
+    ("map_request_served", "Exactly", "on (fmap 1 5 1 0 0 0 1) ∷ []", REPLY("replicate 8 0"), "answer", "code", "16", "1022"),
+    ("placeholder_served", "Exactly", "on (reserve 1) ∷ []", REPLY("replicate 8 0"), "answer", "code", "16", "1077"),
+    ("responded_served_again", "Exactly", f"{CALL} ∷ {REPLY('replicate 8 0')} ∷ []", REPLY("replicate 8 0"), "answer", "code", "16", "1022"),
+    ("obtain_vacant_77", "Exactly", "[]", "on (write 54 ((3 ∷ 0 ∷ 0 ∷ 0 ∷ 5 ∷ []) ++ replicate 11 0))", "answer", "code", "1077", "1022"),
+    ("submit_to_ended", "Exactly", "on (reserve 1) ∷ hostEnded 1 ∷ []", "on (submit 0 1 6 0 (args6 0 0 0 0 0 0) 1 [])",
+     "answer", "code", "0", "1201"),
+    ("unknown_kind_22", "Exactly", "[]", "on (stdfs 1 1 (0 ∷ []) 0 0 (9 ∷ 0 ∷ 0 ∷ []))", "answer", "code", "1022", "1095"),
+    ("waiting_slot_given_out", "Exactly", f"{CALL} ∷ []", "on (reserve 2)", "answer", "code", "0", "1"),
     ("killed_wake_vacates", "Exactly", f"{CALL} ∷ on (wake 0 1 1 0 0) ∷ []", "on (reserve 2)", "answer", "code", "0", "1"),
 ]
 
@@ -48,14 +78,20 @@ use mathlib.Core.List.{{List, [], _∷_, _++_}}
 use native.Mathlib.Omega.{{arith}}
 use lib.ListN.{{length, getD, replicate, length-replicate}}
 use Rattle.wait_queue.specs.Queue.{{wordsFrom}}
-use Rattle.events.specs.Outcome.{{Answer, onAnswer}}
+use Rattle.events.specs.Outcome.{{Response, success, error, descriptor, many, Answer, onAnswer}}
 use Rattle.events.specs.Submit.{{args6}}
-use Rattle.events.specs.Event.{{reserve, submit, call, fmap, wake, read, write, supply, Event, hostEnded, on, step}}
+use Rattle.events.specs.Event.{{reserve, submit, call, stdfs, fmap, wake, read, write, supply, Event, hostEnded, on, step}}
 use Rattle.events.specs.Run.{{Run, begin, next, runFrom, run, Steps, fresh, then}}
 use Rattle.events.specs.{claim}.{{{claim}}}
 
+abbrev worth : Response → ℕ
+worth (success w x b) = w
+worth (error e x b) = 500 + e
+worth (descriptor d) = d
+worth (many ds) = 0
+
 abbrev code : Answer → ℕ
-code a = onAnswer a (λ v. v) (λ k. 1000 + k) 5000 5001 (λ r. 5002)
+code a = onAnswer a (λ v. v) (λ k. 1000 + k) 5000 5001 (λ r. 6000 + worth r)
 
 abbrev bit : Bool → ℕ
 bit b = cond b 1 0
