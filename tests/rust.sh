@@ -59,4 +59,6 @@ sh oracle/build.sh test --quiet --manifest-path ../record/Cargo.toml
 if [ -f "$library" ]; then
     # a test looks for slips in many runs
     sh oracle/build.sh test --quiet --release --manifest-path ../compare/Cargo.toml
+    # every difference that docs/DIFFERENCES.md lists shows on both sides
+    bash ../tests/differences.sh
 fi
