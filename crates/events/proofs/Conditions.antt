@@ -7,27 +7,24 @@ use native.Mathlib.Omega.{arith}
 use native.Mathlib.Decide.{decLt}
 use lib.Dec.{leb, ltb, eqb, leb·suc-suc}
 use lib.ListN.{length, getD}
-use borrow.Author.Tests.{eq-eqb, ne-eqb, lt-ltb, le-ltb, le-leb, lt-leb, eqb-true, leb-false}
+use borrow.Author.Tests.{eq-eqb, ne-eqb, lt-ltb, le-ltb, le-leb, lt-leb, leb-false}
 use Rattle.handles.specs.Handles.{isFree}
 use Rattle.holds.specs.Holds.{unheld}
 use Rattle.slot.specs.declared.Phase.{Phase}
 use Rattle.slot.specs.declared.Phase.the-variants.{Vacant, Placeholder, Waiting, Responded, Fmap}
-use Rattle.slot.specs.declared.Slot.{Slot}
-use Rattle.slot.specs.Slots.{phaseOf}
 use Rattle.table.specs.Reached.{Linked}
 use Rattle.wait_queue.specs.Queue.{wordsFrom}
 use Rattle.wait_queue.proofs.Unread.{length-bytes, length-words}
 use Rattle.events.specs.World.{World, tableOf, queueOf, holdsOf, handlesOf, slotIn, phaseIn, queueFull, unreadIn}
 use Rattle.events.specs.Submit.{badOpcode, tableFull, isPlaceholder, submittable, wrongKind}
-use Rattle.events.specs.Wake.{awaits, wakeable}
 use Rattle.events.specs.Descriptors.{requestOf, wrongWords}
 use Rattle.events.specs.Entry.{isVacant, isWaiting}
 use Rattle.events.specs.History.{Fact, Stage, free, reserved, waits, replied, mapping, book}
 use Rattle.events.specs.WellFormed.{WellFormed}
 use Rattle.events.specs.Exactly.{state, inState, vacantTags, noTagVacant, nextTag, all128Unread, holdsIn, outsideIn, lacks, handleAt, wrongOpcode, wrongFsKind}
-use Rattle.events.proofs.Entries.{InvOf, waiting-is}
+use Rattle.events.proofs.Entries.{InvOf}
 use Rattle.events.proofs.Inv.{phase-is, in-stage, in-phase}
-use Rattle.events.proofs.Stage.{Core, clash, phaseAt, callerIs, cancelingIs, endedIs, returnedIs}
+use Rattle.events.proofs.Stage.{clash, phaseAt, callerIs, endedIs}
 use Rattle.events.proofs.Stored.{shape}
 
 -- conditions on numbers, as the definitions and as the claim write them
@@ -137,7 +134,7 @@ guarded : (a x y : Bool) → (a ≡ true → not x ≡ y) → not (a && x) ≡ n
 guarded true x y f = f refl
 guarded false x y f = refl
 
-placeholder-is : (p : Phase) → isPlaceholder p ≡ true → p ≡ Placeholder
+pub placeholder-is : (p : Phase) → isPlaceholder p ≡ true → p ≡ Placeholder
 placeholder-is Vacant e = clash false e refl
 placeholder-is Placeholder e = refl
 placeholder-is Waiting e = clash false e refl

@@ -10,15 +10,15 @@ use Rattle.slot.specs.Slots.{vacantSlot}
 use Rattle.status.specs.declared.Status.the-variants as status
 use Rattle.status.specs.Status.{isIn}
 use Rattle.status.proofs.Words.{in-le, ones-count}
-use Rattle.table.specs.Table.{rising, freshTable, noSlot, slotAt}
+use Rattle.table.specs.Table.{freshTable, noSlot, slotAt}
 use Rattle.table.proofs.Chain.{linked-rising}
 use Rattle.events.specs.World.{tableOf}
 use Rattle.events.specs.Outcome.{Outcome}
 use Rattle.events.specs.Event.{Event, step}
 use Rattle.events.specs.Run.{Run, begin, told, next, runFrom, run, Steps, fresh, then}
-use Rattle.events.specs.Demand3.{Demanded, Demand3}
+use Rattle.events.specs.Demand3.{Demand3}
 use Rattle.events.specs.WellFormed.{WellFormed}
-use Rattle.events.specs.Exactly.{ExactAt, Exactly}
+use Rattle.events.specs.Exactly.{Exactly}
 use Rattle.events.proofs.Entries.{InvOf}
 use Rattle.events.proofs.Exact.{exact-at}
 use Rattle.events.proofs.Once.{Sorted, event-sorted, all-apart, all-sourced}

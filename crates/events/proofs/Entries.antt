@@ -1,6 +1,6 @@
 -- Each completion entry keeps the invariant, leaves the queue alone and wakes whom it has to. Assumes nothing.
 use Prim.Native.Nat.{ℕ, _<_}
-use mathlib.Core.Path.{_≡_, refl, sym, ap, ap₂, _∙_}
+use mathlib.Core.Path.{_≡_, refl, sym, ap, _∙_}
 use mathlib.Core.Bool.{Bool, true, false, not, cond, _||_}
 use mathlib.Core.List.{List, [], _∷_, _++_, map}
 use native.Mathlib.Omega.{arith}
@@ -28,7 +28,7 @@ use Rattle.slot.specs.Slots.{phaseOf, respondedOf, withFdsOf}
 use Rattle.table.specs.Reached.{idle}
 use Rattle.table.specs.Table.{putAt, vacateAt}
 use Rattle.table.proofs.Chain.{occupied-within}
-use Rattle.events.specs.World.{World, tableOf, schemeOf, holdsOf, handlesOf, slotIn, phaseIn, withTable, tableWith, withHandles, unreadIn}
+use Rattle.events.specs.World.{World, tableOf, schemeOf, holdsOf, handlesOf, slotIn, phaseIn, unreadIn}
 use Rattle.events.specs.Wake.{responseOf}
 use Rattle.events.specs.Entry.{Decision, closesOf, Offer, result, one, listed, responseTo, storedAs, keptFds, goneFds, ownFds, namedOf, dropped, unmapOf, releaseOf, servedBy, respondBy, inHandle, takenOut, byDescriptor, isWaiting, obtainRows, obtained, obtainEntryOf}
 use Rattle.events.specs.Complete.{Entered, accepted, rejected, carried, entryBy, entryOf}
@@ -37,9 +37,9 @@ use Rattle.events.specs.Demand3.{wakesFor, wakesIn}
 use Rattle.events.specs.WellFormed.{WellFormed}
 use Rattle.events.proofs.Checked.{checked-cases}
 use Rattle.events.proofs.Decided.{refusedIn, carried-cases}
-use Rattle.events.proofs.Effects.{Triples, Silent, triples-append, silent-none, silent-append, silent-closes, wakes-append}
+use Rattle.events.proofs.Effects.{Triples, Silent, triples-append, silent-none, silent-append, silent-closes}
 use Rattle.events.proofs.Inv.{Inv, in-stage, in-phase, inv-same, inv-serve, inv-lose}
-use Rattle.events.proofs.Stage.{Core, core, coreBy, callerIs, endedIs}
+use Rattle.events.proofs.Stage.{core, coreBy, callerIs, endedIs}
 use Rattle.events.proofs.Stored.{shape, put-stored, vacate-stored}
 
 abbrev pub InvOf : World → List Fact → Type 0

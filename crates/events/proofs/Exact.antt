@@ -1,12 +1,12 @@
 -- What each event answers, by the rows of the claim and by what happened. Assumes nothing.
 use Prim.Native.Nat.{ℕ, zero, suc, min, _+_, _*_, _/_, _%_, _≤_}
-use mathlib.Core.Path.{_≡_, refl, sym, ap, ap₂, _∙_, subst}
+use mathlib.Core.Path.{_≡_, refl, sym, ap, ap₂, _∙_}
 use mathlib.Core.Bool.{Bool, true, false, not, cond, _||_, _&&_, true≢false, false≢true}
 use mathlib.Core.List.{List, [], _∷_, _++_}
 use native.Mathlib.Omega.{arith}
-use lib.Dec.{ltb, leb, eqb}
-use lib.ListN.{length, length-append, drop, getD}
-use borrow.Author.Tests.{lt-ltb, ltb-false, eqb-true, not-true}
+use lib.Dec.{ltb, eqb}
+use lib.ListN.{length, length-append, drop}
+use borrow.Author.Tests.{lt-ltb, ltb-false, eqb-true}
 use Rattle.counts.specs.Counts.{lasts}
 use Rattle.closes.specs.declared.Reason.the-variants.{Replied, Ended, Unusable}
 use Rattle.closes.specs.Closes.{closing, only, closes}
@@ -34,26 +34,26 @@ use Rattle.slot.specs.Slots.{noFds}
 use Rattle.slot.specs.declared.Phase.the-variants.{Vacant, Placeholder, Waiting, Responded, Fmap}
 use Rattle.wait_queue.specs.declared.WaitQueue.{WaitQueue}
 use Rattle.wait_queue_receive.specs.Receive.{receiveAnswer, emptyBy, receivedIf}
-use Rattle.events.specs.World.{World, tableOf, queueOf, holdsOf, handlesOf, slotIn, phaseIn, queueFull, unreadIn}
-use Rattle.events.specs.Outcome.{Answer, ok, no, wait, blocked, reply, answered, Outcome, outcome, Row, row, checked, refuse}
+use Rattle.events.specs.World.{World, tableOf, queueOf, holdsOf, handlesOf, slotIn, phaseIn, queueFull}
+use Rattle.events.specs.Outcome.{Answer, ok, no, wait, answered, Outcome, outcome, Row, row, checked, refuse}
 use Rattle.events.specs.Submit.{reserveRows, submitRows, callRows, genericRows, stdfsRows, fmapRows, queueRows, longList, kindByte, isPlaceholder, tableFull}
-use Rattle.events.specs.Wake.{responseOf, wakeable, wakeRows, blockedBy, waitedBy, wokenBy}
+use Rattle.events.specs.Wake.{responseOf, wakeable, wakeRows, waitedBy, wokenBy}
 use Rattle.events.specs.Descriptors.{requestOf, requestRows, listRows}
 use Rattle.events.specs.Supply.{wrongPages, pageRows, suppliedAs, suppliedBy}
 use Rattle.events.specs.Entry.{Decision, closesOf, Offer, result, one, listed, goneFds, namedOf, ownFds, unmapOf, releaseOf, servedBy, respondBy, inHandle, handleRows, isVacant, isWaiting, obtainRows, decisionOf}
 use Rattle.events.specs.Complete.{writeRows, Entered, accepted, rejected, worldOf, entryOf, cut, entriesOf, stopped, onEntered, writeOn}
 use Rattle.events.specs.Event.{DriverEvent, hostPut, reserve, submit, call, generic, stdfs, fmap, close, detach, wake, read, write, move, obtain, supply, Event, hostOpen, hostCopy, hostDrop, hostEnded, on, step}
-use Rattle.events.specs.History.{Fact, Stage, free, reserved, waits, replied, mapping, Call, book}
+use Rattle.events.specs.History.{Fact, Stage, waits, replied, mapping, Call, book}
 use Rattle.events.specs.Run.{Run}
 use Rattle.events.specs.WellFormed.{WellFormed}
-use Rattle.events.specs.Exactly.{ruled, state, inState, noTagVacant, nextTag, all128Unread, holdsIn, listLacks, woken, firstRows, goodEntries, driverAnswer, answerTo, ExactAt}
+use Rattle.events.specs.Exactly.{ruled, state, inState, noTagVacant, nextTag, all128Unread, holdsIn, listLacks, driverAnswer, answerTo, ExactAt}
 use Rattle.events.proofs.Checked.{checked-cases}
 use Rattle.events.proofs.Decided.{refusedIn, carried-cases}
-use Rattle.events.proofs.Conditions.{Named, opcode-same, not-ltb, some-same, odd-same, count-same, kind-same, unread-length, queue-same, empty-same, isResponded, isFmap, slot-named, table-same, next-tag, submit-same, wake-same, lacks-same, free-same, words-same}
+use Rattle.events.proofs.Conditions.{Named, opcode-same, not-ltb, some-same, odd-same, count-same, kind-same, unread-length, queue-same, empty-same, isResponded, slot-named, table-same, next-tag, submit-same, wake-same, lacks-same, free-same, words-same}
 use Rattle.events.proofs.Entries.{InvOf}
 use Rattle.events.proofs.Inv.{in-stage, in-phase, replied-is}
-use Rattle.events.proofs.Stage.{Core, coreBy, dress, StageIn, callerIs, cancelingIs, endedIs, returnedIs}
-use Rattle.events.proofs.Steps.{both, or-split}
+use Rattle.events.proofs.Stage.{Core, coreBy, dress, StageIn, callerIs, endedIs, returnedIs}
+use Rattle.events.proofs.Steps.{waited-is}
 use Rattle.events.proofs.Stored.{shape}
 use Rattle.events.proofs.WellFormed.{formed-entry}
 use Rattle.events.proofs.Writes.{ruled-checked, write-ok}
@@ -291,13 +291,6 @@ module _ (r : Run) (i : WellFormed (r .world)) (inv : InvOf (r .world) (r .facts
       barred-waiting : not (eqb (k .caller) c) || (k .ended || k .returned) ≡ not (wakeable (slotIn w n) c)
       barred-waiting = barred Waiting waits (coreBy Waiting (slotIn w n)) core refl refl refl
 
-      waited-is : wakeable (slotIn w n) c ≡ true → k .waited ≡ slotIn w n .canceling
-      waited-is y =
-          let b = both (eqb (slotIn w n .caller) c) (not (slotIn w n .ended) && not (slotIn w n .returned)) y in
-          let f = both (not (slotIn w n .ended)) (not (slotIn w n .returned)) (b .1) in
-          let z : k .returned ≡ false = ap returnedIs (sym core) ∙ not-true (slotIn w n .returned) (f .1) in
-          sym (or-split (k .waited) (k .returned) z) ∙ ap cancelingIs (sym core)
-
       waiting-answer : ltb 1 killed ≡ false → wakeable (slotIn w n) c ≡ true → waitedBy (eqb killed 1) w n span .answer ≡ claimed
       waiting-answer qx qy = go (eqb killed 1) (slotIn w n .canceling) (queueFull w) refl refl refl
         where
@@ -308,13 +301,13 @@ module _ (r : Run) (i : WellFormed (r .world)) (inv : InvOf (r .world) (r .facts
               (b x y : Bool) → eqb killed 1 ≡ b → slotIn w n .canceling ≡ x → queueFull w ≡ y
               → waitedBy (eqb killed 1) w n span .answer ≡ claimed
           go true x y qb qc qf = rw (qx, stage Waiting p, open-to, qb) refl
-          go false true y qb qc qf = let z : k .waited ≡ true = waited-is qy ∙ qc in rw (qx, stage Waiting p, open-to, qb, qc, z) refl
+          go false true y qb qc qf = let z : k .waited ≡ true = waited-is r i inv n c killed base count p qy ∙ qc in rw (qx, stage Waiting p, open-to, qb, qc, z) refl
           go false false true qb qc qf =
-              let z : k .waited ≡ false = waited-is qy ∙ qc in
+              let z : k .waited ≡ false = waited-is r i inv n c killed base count p qy ∙ qc in
               let f : all128Unread w ≡ true = sym (queue-same w i) ∙ qf in
               rw (qx, stage Waiting p, open-to, qb, qc, z, qf, f) refl
           go false false false qb qc qf =
-              let z : k .waited ≡ false = waited-is qy ∙ qc in
+              let z : k .waited ≡ false = waited-is r i inv n c killed base count p qy ∙ qc in
               let f : all128Unread w ≡ false = sym (queue-same w i) ∙ qf in
               rw (qx, stage Waiting p, open-to, qb, qc, z, qf, f) refl
 

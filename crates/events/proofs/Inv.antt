@@ -27,7 +27,7 @@ use Rattle.events.specs.Demand3.{Every, needs, fair, sum}
 use Rattle.events.specs.Exactly.{relisted, vacantTags}
 use Rattle.events.proofs.Sane.{unwoken}
 use Rattle.events.proofs.Stage.{Core, vacant, placeholder, waiting, responded, mapped, coreBy, core, phaseIs, callerIs, endedIs, returnedIs, readsIs, dress, wanted, phaseAt, core-phase, dress-phase, StageIn, stage-in}
-use Rattle.events.proofs.Stored.{Shape, shape, Stored, holding, held-is, heldOf}
+use Rattle.events.proofs.Stored.{Shape, shape, Stored, holding, held-is}
 
 abbrev pub Balance : ℕ → List Fact → Type 0
 Balance held h = sum (λ k. 1) 0 h ≡ sum (λ k. 0) 1 h + (held + sum (λ k. cond (k .ended) 1 0) 0 h)

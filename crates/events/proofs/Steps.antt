@@ -1,11 +1,11 @@
 -- Each event keeps the invariant and does what it owes: hand-over, queue, bytes, effects. Assumes nothing.
-use Prim.Native.Nat.{ℕ, _+_, _*_, _/_, _%_, _<_}
+use Prim.Native.Nat.{ℕ, _+_, _/_, _%_, _<_}
 use mathlib.Core.Path.{_≡_, refl, sym, ap, ap₂, _∙_, subst}
 use mathlib.Core.Bool.{Bool, true, false, not, cond, _||_, _&&_}
 use mathlib.Core.List.{List, [], _∷_, _++_, append-nil}
 use native.Mathlib.Omega.{arith}
 use lib.Dec.{eqb, leb, ltb}
-use lib.ListN.{drop, take, length, replicate}
+use lib.ListN.{take, length}
 use lib.Seq.{sets}
 use borrow.Author.Tests.{eqb-true, leb-false, ltb-true, ltb-false, lt-leb, le-leb, not-true, not-false}
 use Rattle.answer.specs.Answer as numbered
@@ -18,20 +18,20 @@ use Rattle.host_put.specs.Put.{putOf, putAnswer}
 use Rattle.le.specs.Le.{bytesOf}
 use Rattle.schemev2.specs.declared.Args.{Args}
 use Rattle.schemev2.specs.declared.Sqe.{Sqe}
-use Rattle.schemev2.specs.Entry.{sqeWords, sqeBytes}
+use Rattle.schemev2.specs.Entry.{sqeWords}
 use Rattle.slot.specs.declared.PageSpan.{PageSpan}
 use Rattle.slot.specs.declared.Phase.{Phase}
 use Rattle.slot.specs.declared.Phase.the-variants.{Vacant, Placeholder, Waiting, Responded, Fmap}
 use Rattle.slot.specs.declared.Slot.{Slot}
 use Rattle.slot.specs.Slots.{phaseOf, placeholderOf, waitingOf, mapRequestOf, canceledOf, interruptedOf, withFdsOf, noFds}
-use Rattle.table.specs.Reached.{idle, Linked}
-use Rattle.table.specs.Table.{slotAt, putAt, givenOut, vacateAt}
+use Rattle.table.specs.Reached.{idle}
+use Rattle.table.specs.Table.{putAt, givenOut, vacateAt}
 use Rattle.table.proofs.Chain.{head-vacant}
 use Rattle.wait_queue.specs.Queue.{unread, sentIf, placeOf}
 use Rattle.wait_queue.proofs.Unread.{unread-more, unread-sent, unread-removed}
-use Rattle.wait_queue_receive.specs.Receive.{copied, emptyBy, receivedIf, receivedOf, receiveAnswer}
-use Rattle.events.specs.World.{World, tableOf, schemeOf, holdsOf, handlesOf, queueOf, slotIn, phaseIn, withTable, withQueue, queueFull, queued, unreadIn}
-use Rattle.events.specs.Outcome.{Response, Answer, ok, no, onOk, Outcome, outcome, reply, valued, answered, refuse, checked}
+use Rattle.wait_queue_receive.specs.Receive.{copied, emptyBy, receivedIf, receiveAnswer}
+use Rattle.events.specs.World.{World, tableOf, holdsOf, handlesOf, queueOf, slotIn, phaseIn, withTable, withQueue, queueFull, queued, unreadIn}
+use Rattle.events.specs.Outcome.{Answer, ok, no, onOk, Outcome, outcome, reply, valued, answered, refuse, checked}
 use Rattle.events.specs.Submit.{badOpcode, badList, longList, isPlaceholder, submittable, tableFull, reserveRows, reserved, takenHolds, begun, callRows, genericRows, stdfsRows, fmapRows, queueRows, notified, submitEntry, callEntry, genericEntry, stdMeta, fmapEntry, closeEntry, detachEntry}
 use Rattle.events.specs.Wake.{responseOf, cancelEntry, blockedBy, waitedBy, wokenBy, wakeable, wakeRows}
 use Rattle.events.specs.Entry.{isWaiting}
@@ -41,13 +41,14 @@ use Rattle.events.specs.Supply.{wrongPages, suppliedAs, suppliedBy}
 use Rattle.events.specs.Event.{DriverEvent, hostPut, reserve, submit, call, generic, stdfs, fmap, close, detach, wake, read, write, move, obtain, supply, Event, hostOpen, hostCopy, hostDrop, hostEnded, on, step}
 use Rattle.events.specs.History.{Fact, to, end, gave, took, filled, Stage, free, reserved as held-back, waits, replied, mapping, Call, book, View, tells, sends, wakes, reads, writes, moves, supplies, viewOf, poured, news}
 use Rattle.events.specs.Demand3.{Right, owes, due, cancelBytes, wakesFor}
-use Rattle.events.specs.Run.{Turn, Run}
+use Rattle.events.specs.Run.{Run}
 use Rattle.events.specs.WellFormed.{WellFormed}
 use Rattle.events.proofs.Checked.{checked-cases}
+use Rattle.events.proofs.Conditions.{placeholder-is}
 use Rattle.events.proofs.Entries.{InvOf, Same, in-range, same-core, waiting-is}
-use Rattle.events.proofs.Inv.{Inv, phase-is, in-stage, in-phase, replied-is, inv-same, inv-gave, inv-asked, inv-took, inv-block, inv-break, inv-pass, inv-filled, inv-end}
+use Rattle.events.proofs.Inv.{Inv, in-stage, in-phase, replied-is, inv-same, inv-gave, inv-asked, inv-took, inv-block, inv-break, inv-pass, inv-filled, inv-end}
 use Rattle.events.proofs.Stage.{Core, StageIn, clash, callerIs, cancelingIs, endedIs, returnedIs}
-use Rattle.events.proofs.Stored.{Shape, shape, holding, Stored, stored-over, put-stored, vacate-stored, give-stored}
+use Rattle.events.proofs.Stored.{Shape, shape, holding, stored-over, put-stored, vacate-stored, give-stored}
 use Rattle.events.proofs.Writes.{hands, write-ok}
 
 valued-hands : (vs : List ℕ) → hands (valued vs) ≡ false
@@ -66,16 +67,9 @@ none-told (numbered.success (v ∷ vs)) h = refl
 none-told (numbered.refused n) h = refl
 none-told numbered.waits h = refl
 
-pub both : (a b : Bool) → a && b ≡ true → (a ≡ true) × (b ≡ true)
+both : (a b : Bool) → a && b ≡ true → (a ≡ true) × (b ≡ true)
 both true b e = (refl, e)
 both false b e = clash false e refl
-
-placeholder-is : (p : Phase) → isPlaceholder p ≡ true → p ≡ Placeholder
-placeholder-is Vacant e = clash false e refl
-placeholder-is Placeholder e = refl
-placeholder-is Waiting e = clash false e refl
-placeholder-is Responded e = clash false e refl
-placeholder-is Fmap e = clash false e refl
 
 -- a reply is due by what the slot says of its caller
 due-by : (x o e r : Bool) → x ≡ true → x && (o && (not r && not e)) ≡ o && (not e && not r)
@@ -86,7 +80,7 @@ due-by true true false true q = refl
 due-by true true false false q = refl
 due-by false o e r q = clash false q refl
 
-pub or-split : (a b : Bool) → b ≡ false → a || b ≡ a
+or-split : (a b : Bool) → b ≡ false → a || b ≡ a
 or-split true b q = refl
 or-split false b q = q
 
@@ -277,7 +271,7 @@ module _ (r : Run) (whole : WellFormed (r .world)) (i : InvOf (r .world) (r .fac
       not-due = ap (λ (s : Stage). due s k c killed) (stage Waiting p)
 
       -- cancelling is having waited, since the call has not returned
-      waited-is : k .waited ≡ slotIn w n .canceling
+      pub waited-is : k .waited ≡ slotIn w n .canceling
       waited-is =
           let e = in-phase t h i n Waiting waits p (stage Waiting p) in
           let b = both (eqb (slotIn w n .caller) c) (not (slotIn w n .ended) && not (slotIn w n .returned)) y in

@@ -1,12 +1,12 @@
 -- What a store at one tag leaves: that slot, all others, the count of slots that hold a reply, and the chain of vacant ones. All
 -- that the invariant needs of the table. Assumes nothing.
-use Prim.Native.Nat.{ℕ, zero, suc, _+_, _<_, _≤_}
+use Prim.Native.Nat.{ℕ, zero, suc, _+_, _<_}
 use mathlib.Core.Path.{_≡_, refl, sym, ap, _∙_, subst}
-use mathlib.Core.Bool.{Bool, true, false, cond}
+use mathlib.Core.Bool.{Bool, cond}
 use mathlib.Core.List.{List, [], _∷_}
 use native.Mathlib.Omega.{arith}
 use native.Mathlib.Nat.{not-suc-le-zero, le-of-suc-le-suc}
-use lib.Dec.{eqb, ltb}
+use lib.Dec.{eqb}
 use lib.ListN.{getD, set, length, drop}
 use lib.Seq.{getD-set-same}
 use borrow.Author.Tests.{lt-ltb, ne-eqb}
@@ -18,7 +18,7 @@ use Rattle.status.specs.declared.Status.the-variants as status
 use Rattle.status.specs.Status.{bit, isIn, countOf}
 use Rattle.table.specs.declared.Table.{Table}
 use Rattle.table.specs.Reached.{times, Linked, Chain, Occupied}
-use Rattle.table.specs.Table.{noSlot, slotAt, stored, putAt, givenOut, vacateAt}
+use Rattle.table.specs.Table.{noSlot, slotAt, putAt, givenOut, vacateAt}
 use Rattle.table.proofs.Access.{put-at, put-within, give-at, vacate-at, vacate-within}
 use Rattle.table.proofs.Chain.{linked-set}
 

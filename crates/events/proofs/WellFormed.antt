@@ -45,7 +45,7 @@ use Rattle.events.specs.Complete.{worldOf, writeRows, Entered, accepted,
 use Rattle.events.specs.Descriptors.{requestOf, requestRows, listRows}
 use Rattle.events.specs.Supply.{pageRows, suppliedBy}
 use Rattle.events.specs.Event.{DriverEvent, hostPut, reserve, submit, call, generic, stdfs, fmap, close, detach, wake, read, write, move, obtain, supply, Event, hostOpen, hostCopy, hostDrop, hostEnded, on, driverStep, step}
-use Rattle.events.specs.Run.{Run, begin, next, runFrom, run}
+use Rattle.events.specs.Run.{Run, next, runFrom, run}
 use Rattle.events.specs.WellFormed.{WellFormed}
 use Rattle.events.proofs.Checked.{Passed, checked-cases}
 use Rattle.events.proofs.Decided.{refusedIn, carried-cases}

@@ -1,14 +1,13 @@
 -- A write, entry after entry by their places: which entries it accepts, what it answers, what it leaves and whom it wakes.
 -- Assumes nothing.
-use Prim.Native.Nat.{ℕ, zero, suc, _+_, _*_, _/_, _≤_}
+use Prim.Native.Nat.{ℕ, zero, suc, _+_, _*_, _/_}
 use mathlib.Core.Path.{_≡_, refl, sym, ap, ap₂, _∙_, subst}
-use mathlib.Core.Bool.{Bool, true, false, not, cond, _||_, true≢false, false≢true}
+use mathlib.Core.Bool.{Bool, true, false, not, cond, _||_, true≢false}
 use mathlib.Core.List.{List, [], _∷_, _++_, append-nil, append-assoc}
 use native.Mathlib.Omega.{arith}
 use lib.Dec.{eqb}
 use lib.ListN.{length, drop, getD}
 use lib.Seq.{getD-drop, drop-drop}
-use Rattle.error.specs.Errors.{demuxOf}
 use Rattle.fd_list.specs.Lists.{numbers}
 use Rattle.flag.specs.Flags.{within, eventFlags, fobtainFdFlags}
 use Rattle.handles.specs.declared.Handles.{Handles}
@@ -21,18 +20,18 @@ use Rattle.schemev2.specs.declared.CqeOpcode.the-variants.{RespondRegular, Resp
 use Rattle.schemev2.specs.Entry.{kindOf, extraOf, cqeOpcodeOf, cqeOf}
 use Rattle.slot.specs.declared.Phase.{Phase}
 use Rattle.slot.specs.declared.Phase.the-variants.{Vacant, Placeholder, Waiting, Responded, Fmap}
-use Rattle.events.specs.World.{World, holdsOf, handlesOf, slotIn, phaseIn, schemeOf, unreadIn}
+use Rattle.events.specs.World.{World, holdsOf, handlesOf, slotIn, phaseIn}
 use Rattle.events.specs.Outcome.{Answer, ok, no, onAnswer, onOk, Outcome, outcome, Row, row, checked}
 use Rattle.events.specs.Submit.{isPlaceholder}
 use Rattle.events.specs.Entry.{Decision, Offer, one, listed, servedBy, respondBy, inHandle, takenOut, byDescriptor, isVacant, isWaiting, obtainRows, obtained}
 use Rattle.events.specs.Complete.{Entered, accepted, rejected, worldOf, carried, entryBy, entryOf, cut, stopped, onEntered, writeOn}
-use Rattle.events.specs.History.{Fact, book, entryAt, afterEntries, served, poured}
+use Rattle.events.specs.History.{Fact, entryAt, afterEntries, served, poured}
 use Rattle.events.specs.Demand3.{wakesFor, wakesIn}
 use Rattle.events.specs.Run.{Run}
 use Rattle.events.specs.WellFormed.{WellFormed}
-use Rattle.events.specs.Exactly.{ruled, isDue, inState, respondRows, entryRowsBy, entryRows, goodEntries, firstRows}
+use Rattle.events.specs.Exactly.{ruled, isDue, respondRows, entryRowsBy, entryRows, goodEntries, firstRows}
 use Rattle.events.proofs.Decided.{refusedIn}
-use Rattle.events.proofs.Conditions.{Named, isResponded, isFmap, slot-named}
+use Rattle.events.proofs.Conditions.{isResponded, isFmap, slot-named}
 use Rattle.events.proofs.Effects.{Triples, triples-append, wakes-append, wakes-over}
 use Rattle.events.proofs.Entries.{InvOf, Same, Entered-ok, entry-ok}
 use Rattle.events.proofs.WellFormed.{formed-entry}

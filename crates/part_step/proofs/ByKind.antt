@@ -1,15 +1,15 @@
 -- Events and their slots by the number of the kind. Assumes nothing.
 use Prim.Native.Nat.{ℕ, zero, suc, _%_}
-use mathlib.Core.Path.{_≡_, refl, sym, ap, _∙_, subst}
+use mathlib.Core.Path.{_≡_, refl, sym, subst}
 use mathlib.Core.List.{List}
 use Rattle.holds.specs.declared.Holds.{Holds}
 use Rattle.state.specs.declared.State.{State}
 use Rattle.part.specs.declared.Part.{Part}
-use Rattle.part.specs.Part.{Stands, found, leaves}
+use Rattle.part.specs.Part.{Stands, leaves}
 use Rattle.record.specs.declared.Record.{Record}
 use Rattle.record.specs.Record.{supplyOf}
 use Rattle.events.specs.World.{World, world}
-use Rattle.events.specs.Outcome.{Answer, Outcome, outcome}
+use Rattle.events.specs.Outcome.{Answer, outcome}
 use Rattle.events.specs.Event.{Event, step}
 use Rattle.part_step.specs.PartStep.{placeOf, partEvent}
 

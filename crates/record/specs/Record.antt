@@ -2,7 +2,7 @@
 --   byte 0 the kind, 1 to 19 in the order of `eventNamed`; byte 1 how many words the first list has, byte 2 the second; byte 3 a submit's
 --   flags; bytes 4 to 7 the caller, a read's flags or how many bytes a write has; bytes 8 to 11 uid, 12 to 15 gid.
 -- Numbers are little-endian, words have eight bytes. What an event lacks must be 0.
-use Prim.Native.Nat.{ℕ, zero, suc, _+_, _-_, _*_, min}
+use Prim.Native.Nat.{ℕ, zero, suc, _+_, _*_, min}
 use mathlib.Core.Bool.{Bool, cond, _&&_}
 use mathlib.Core.List.{List, [], _∷_, _++_}
 use lib.Dec.{eqb, leb}

@@ -13,7 +13,6 @@ use Rattle.events.specs.World.{World, queueOf, withQueue}
 use Rattle.events.specs.Outcome.{Answer, Outcome, outcome, answered, refuse}
 use Rattle.events.specs.Complete.{Entered, accepted, rejected, entryOf, entriesOf, stopped, onEntered, shortWords, writeOn, writeOf}
 use Rattle.schemev2.specs.declared.Cqe.{Cqe}
-use Rattle.events.specs.Event.{write, on}
 use Rattle.events.specs.Read.{readOf}
 use Rattle.events.specs.WellFormed.{WellFormed}
 use Rattle.events.proofs.Exact as effects

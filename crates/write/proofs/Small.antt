@@ -1,9 +1,9 @@
 -- Where a write stops. Assumes nothing.
 use Prim.Native.Nat.{ℕ, zero, suc, _*_, _<_, _≤_}
 use mathlib.Core.Path.{_≡_, refl, sym, ap}
-use mathlib.Core.Logic.{_⊎_, inl, inr}
+use mathlib.Core.Logic.{inl, inr}
 use native.Mathlib.Omega.{arith}
-use Rattle.events.specs.Outcome.{Answer, ok, no}
+use Rattle.events.specs.Outcome.{ok, no}
 use Rattle.events.specs.Complete.{stopped}
 use Rattle.write.specs.Write.{refusal}
 
