@@ -14,4 +14,5 @@ pub mod Steps
 pub mod Exact
 pub mod Refused
 pub mod Demanded
+pub mod Spelled
 pub mod Examples

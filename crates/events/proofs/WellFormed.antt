@@ -6,15 +6,18 @@ use mathlib.Core.List.{List, [], _∷_, _++_, map}
 use native.Mathlib.Omega.{arith}
 use native.Mathlib.Decide.{decLt}
 use lib.Dec.{leb, ltb, eqb}
-use lib.ListN.{length, getD, drop, replicate, getD-replicate, length-map}
+use lib.ListN.{length-set, length, getD, drop, replicate, getD-replicate, length-map}
 use lib.Seq.{sets, length-sets}
 use borrow.Author.Tests.{leb-false, lt-ltb, not-false}
 use Rattle.fd_list.specs.declared.List.{List as Fds}
 use Rattle.fd_list.specs.Lists.{numbers, listOf}
 use Rattle.fd_list.proofs.Laws.{listOf-length}
 use Rattle.handles.specs.declared.Handles.{Handles}
-use Rattle.handles.specs.Handles.{isFree, obtainBy, obtainIn, obtainOf}
+use Rattle.handles.specs.Handles.{into, isFree, obtainBy, obtainIn, obtainOf}
 use Rattle.holds.specs.declared.Holds.{Holds}
+use Rattle.holds.specs.Holds.{unheld}
+use Rattle.host_put.specs.declared.PutAnswer.the-variants as putting
+use Rattle.host_put.specs.Put.{inside, put, putOf}
 use Rattle.host_ended.specs.Ended.{markedBy, markedOf, endedTable}
 use Rattle.parse_cqe.specs.declared.ParsedCqe.{ParsedCqe}
 use Rattle.parse_cqe.specs.declared.ParsedCqe.the-variants as parsed
@@ -122,16 +125,16 @@ sound-ended t c s =
 module _ (w : World) (i : WellFormed w) where
   formed-table : (t : Table) (h : Holds) → Sound t → WellFormed (withTable w (tableWith t h))
   formed-table t h s =
-      record { slots = s .size .slots; next = s .size .next; chain = s .chain; room = i .room; words = i .words; lists = s .lists }
+      record { slots = s .size .slots; next = s .size .next; chain = s .chain; handles = i .handles; room = i .room; words = i .words; lists = s .lists }
 
   formed-holds : (h : Holds) → WellFormed (withHolds w h)
   formed-holds h = formed-table (tableOf w) h (sound w i)
 
-  pub formed-handles : (k : Handles) → WellFormed (withHandles w k)
-  formed-handles k = record { slots = i .slots; next = i .next; chain = i .chain; room = i .room; words = i .words; lists = i .lists }
+  pub formed-handles : (k : Handles) → length (k .at) ≡ 64 → WellFormed (withHandles w k)
+  formed-handles k l = record { slots = i .slots; next = i .next; chain = i .chain; handles = l; room = i .room; words = i .words; lists = i .lists }
 
   formed-queue : (q : WaitQueue) (ws : List ℕ) → q .len ≤ 128 → length ws ≡ 1024 → WellFormed (withQueue w q ws)
-  formed-queue q ws r l = record { slots = i .slots; next = i .next; chain = i .chain; room = r; words = l; lists = i .lists }
+  formed-queue q ws r l = record { slots = i .slots; next = i .next; chain = i .chain; handles = i .handles; room = r; words = l; lists = i .lists }
 
   formed-queued : (e : Sqe) → WellFormed (queued w e)
   formed-queued e = go (leb 128 (queueOf w .len)) refl
@@ -172,6 +175,25 @@ obtained-full h n l k e = go (numbers l)
     go : (ds : List ℕ) → length (obtainIn ds h n l k .list .at) ≡ 16
     go [] = e
     go (d ∷ ds) = by (isFree n k) d
+
+-- as many handles as before
+obtained-handles : (h : Holds) (n : Handles) (l : Fds) (k : ℕ) → length (obtainOf h n l k .handles .at) ≡ length (n .at)
+obtained-handles h n l k = go (numbers l)
+  where
+    by : (b : Bool) (d : ℕ) → length (obtainBy b h n l k d .handles .at) ≡ length (n .at)
+    by true d = length-set (n .at) k (suc d)
+    by false d = refl
+
+    go : (ds : List ℕ) → length (obtainIn ds h n l k .handles .at) ≡ length (n .at)
+    go [] = refl
+    go (d ∷ ds) = by (isFree n k) d
+
+put-handles : (h : Holds) (n : Handles) (d k : ℕ) → length (putOf h n d k .handles .at) ≡ length (n .at)
+put-handles h n d k = go (unheld (h .holds) (h .outside) d || not (isFree n k))
+  where
+    go : (b : Bool) → length (cond b (put putting.BadArgument n h) (put putting.Put (into n k d) (inside h d)) .handles .at) ≡ length (n .at)
+    go true = refl
+    go false = length-set (n .at) k (suc d)
 
 kept-full : (o : Offer) (v : Slot) → Full v → length (keptFds o v .at) ≡ 16
 kept-full (result r x b) v e = refl
@@ -233,35 +255,37 @@ module _ (w : World) (i : WellFormed w) where
       go true = i
       go false = formed-queue w i _ (w .words) (omega (arith, i .room)) (i .words)
 
-  formed-served : (b : Bool) (n t : ℕ) (o : Offer) (k : Handles) → Occupied (slotIn w n) → WellFormed (after w n (servedBy b (slotIn w n) t o (holdsOf w) k))
-  formed-served false n t o k p = formed-handles _ (formed-put n _ _ p refl (kept-full o (slotIn w n) (i .lists n))) k
-  formed-served true n t o k p = formed-handles _ (formed-vacate n _ p) k
+  formed-served : (b : Bool) (n t : ℕ) (o : Offer) (k : Handles) → length (k .at) ≡ 64 → Occupied (slotIn w n) → WellFormed (after w n (servedBy b (slotIn w n) t o (holdsOf w) k))
+  formed-served false n t o k l p = formed-handles _ (formed-put n _ _ p refl (kept-full o (slotIn w n) (i .lists n))) k l
+  formed-served true n t o k l p = formed-handles _ (formed-vacate n _ p) k l
 
   formed-respond :
-      (turn : ℕ → Decision) (n t : ℕ) (o : Offer) (k : Handles) → ((m : ℕ) → WellFormed (after w n (turn m)))
+      (turn : ℕ → Decision) (n t : ℕ) (o : Offer) (k : Handles) → length (k .at) ≡ 64 → ((m : ℕ) → WellFormed (after w n (turn m)))
       → (p : Phase) → phaseIn w n ≡ p → WellFormed (after w n (respondBy p turn (slotIn w n) t o (holdsOf w) k))
-  formed-respond turn n t o k j Vacant e = j 77
-  formed-respond turn n t o k j Placeholder e = j 77
-  formed-respond turn n t o k j Waiting e = formed-served (slotIn w n .ended) n t o k (ap idle e)
-  formed-respond turn n t o k j Responded e = j 22
-  formed-respond turn n t o k j Fmap e = j 22
+  formed-respond turn n t o k l j Vacant e = j 77
+  formed-respond turn n t o k l j Placeholder e = j 77
+  formed-respond turn n t o k l j Waiting e = formed-served (slotIn w n .ended) n t o k l (ap idle e)
+  formed-respond turn n t o k l j Responded e = j 22
+  formed-respond turn n t o k l j Fmap e = j 22
 
   kept-entry : (rows : List Row) (n : ℕ) (d : Decision) → (Passed rows → WellFormed (after w n d)) → WellFormed (after w n (checked (refusedIn w n) rows d))
   kept-entry rows n d good = checked-cases (λ (x : Decision). WellFormed (after w n x)) (refusedIn w n) rows d (λ k. i) good
 
 formed-parsed : (w : World) (p : ParsedCqe) (n : ℕ) → WellFormed w → WellFormed (after w n (decisionOf p (slotIn w n) (holdsOf w) (handlesOf w)))
 formed-parsed w (parsed.TriggerFevent number flags) n i = i
-formed-parsed w (parsed.RegularResponse t r x) n i = formed-respond w i (refusedIn w n) n (t .0) (result r x false) (handlesOf w) (λ m. i) _ refl
+formed-parsed w (parsed.RegularResponse t r x) n i = formed-respond w i (refusedIn w n) n (t .0) (result r x false) (handlesOf w) (i .handles) (λ m. i) _ refl
 formed-parsed w (parsed.ResponseWithFd t k) n i =
     kept-entry w i (handleRows (handlesOf w) (k .0)) n _
-    (λ p. formed-respond w i _ n (t .0) (one (inHandle (handlesOf w) (k .0))) _ (λ m. formed-handles _ (formed-holds w i _) _) _ refl)
-formed-parsed w (parsed.ResponseWithMultipleFds t c) n i = formed-respond w i (refusedIn w n) n (t .0) listed (handlesOf w) (λ m. i) _ refl
+    (λ p. formed-respond w i _ n (t .0) (one (inHandle (handlesOf w) (k .0))) _ (length-set (handlesOf w .at) (k .0) 0 ∙ i .handles)
+    (λ m. formed-handles _ (formed-holds w i _) _ (length-set (handlesOf w .at) (k .0) 0 ∙ i .handles)) _ refl)
+formed-parsed w (parsed.ResponseWithMultipleFds t c) n i = formed-respond w i (refusedIn w n) n (t .0) listed (handlesOf w) (i .handles) (λ m. i) _ refl
 formed-parsed w (parsed.ObtainFd t flags k) n i =
     kept-entry w i (obtainRows (slotIn w n)) n _
     (λ p.
     formed-handles _
-    (formed-list w i n _ _ (or-left _ _ (p .1 .0)) (obtained-full (holdsOf w) (handlesOf w) (slotIn w n .fds) (k .0) (i .lists n))) _)
-formed-parsed w (parsed.RespondAndNotifyOnDetach t r x) n i = formed-respond w i (refusedIn w n) n (t .0) (result r x true) (handlesOf w) (λ m. i) _ refl
+    (formed-list w i n _ _ (or-left _ _ (p .1 .0)) (obtained-full (holdsOf w) (handlesOf w) (slotIn w n .fds) (k .0) (i .lists n))) _
+    (obtained-handles (holdsOf w) (handlesOf w) (slotIn w n .fds) (k .0) ∙ i .handles))
+formed-parsed w (parsed.RespondAndNotifyOnDetach t r x) n i = formed-respond w i (refusedIn w n) n (t .0) (result r x true) (handlesOf w) (i .handles) (λ m. i) _ refl
 formed-parsed w parsed.UnknownKind n i = i
 formed-parsed w parsed.UnknownEventFlags n i = i
 formed-parsed w parsed.UnknownObtainFlags n i = i
@@ -280,7 +304,7 @@ formed-write (e ∷ es) w i n fx = go (entryOf w e) (formed-entry w e i) (formed
     go (rejected k gx u) j more = j
 
 formed-driver : (w : World) (e : DriverEvent) → WellFormed w → WellFormed (driverStep w e .world)
-formed-driver w (hostPut d k) i = formed-handles _ (formed-holds w i _) _
+formed-driver w (hostPut d k) i = formed-handles _ (formed-holds w i _) _ (put-handles (holdsOf w) (handlesOf w) d k ∙ i .handles)
 formed-driver w (reserve c) i = kept w i (reserveRows w) _ (λ p. formed-give w i (placeholderOf c) (holdsOf w) (p .0) refl refl)
 formed-driver w (submit n c op fl args pid ds) i =
     checked-cases (λ (u : Outcome). WellFormed (u .world)) (refuse _) (submitRows w n c op ds) _ (λ k. formed-holds w i _)
@@ -328,7 +352,7 @@ fresh-lists n = go (decLt n 64)
 
 pub formed-fresh : (scheme : ℕ) (words : List ℕ) → length words ≡ 1024 → WellFormed (freshWorld scheme words)
 formed-fresh scheme words e =
-    record { slots = refl; next = refl; chain = reached fresh .1; room = omega arith; words = e; lists = fresh-lists }
+    record { slots = refl; next = refl; chain = reached fresh .1; handles = refl; room = omega arith; words = e; lists = fresh-lists }
 
 pub formed-from : (r : Run) (es : List Event) → WellFormed (r .world) → WellFormed (runFrom r es .world)
 formed-from r [] i = i

@@ -5,9 +5,10 @@ use mathlib.Core.Path.{_≡_, refl, sym, ap, ap₂, _∙_, subst}
 use mathlib.Core.Bool.{Bool, true, false, not, cond, _||_, true≢false}
 use mathlib.Core.List.{List, [], _∷_, _++_, append-nil, append-assoc}
 use native.Mathlib.Omega.{arith}
-use lib.Dec.{eqb}
-use lib.ListN.{length, drop, getD}
+use lib.Dec.{eqb, ltb}
+use lib.ListN.{length, drop, getD, List·getD-eq-default}
 use lib.Seq.{getD-drop, drop-drop}
+use borrow.Author.Tests.{eq-eqb, ltb-true}
 use Rattle.fd_list.specs.Lists.{numbers}
 use Rattle.flag.specs.Flags.{within, eventFlags, fobtainFdFlags}
 use Rattle.handles.specs.declared.Handles.{Handles}
@@ -93,7 +94,15 @@ served-goes : (b : Bool) (w : World) (n : ℕ) (o : Offer) (k : Handles) → ent
 served-goes true w n o k = refl
 served-goes false w n o k = refl
 
-module _ (w : World) (h : List Fact) (i : InvOf w h) where
+-- a handle above 63 holds nothing
+empty-same : (n : Handles) (k : ℕ) → length (n .at) ≡ 64 → eqb (heldAt n k) 0 ≡ ltb 63 k || eqb (heldAt n k) 0
+empty-same n k l = go (ltb 63 k) refl
+  where
+    go : (b : Bool) → ltb 63 k ≡ b → eqb (heldAt n k) 0 ≡ b || eqb (heldAt n k) 0
+    go true e = eq-eqb (heldAt n k) 0 (List·getD-eq-default (n .at) 0 {n = k} (omega (arith, l, ltb-true 63 k e)))
+    go false e = refl
+
+module _ (w : World) (h : List Fact) (formed : WellFormed w) (i : InvOf w h) where
   respond-number :
       (turn : ℕ → Decision) (n : ℕ) (o : Offer) (k : Handles)
       → entryAnswer (carried w n (turn 77)) ≡ no 77 → entryAnswer (carried w n (turn 22)) ≡ no 22
@@ -140,7 +149,9 @@ module _ (w : World) (h : List Fact) (i : InvOf w h) where
 
     entry-number-by : (op : CqeOpcode) → entryAnswer (entryBy (parsedBy op c) w (c .tag)) ≡ ruled (entryRowsBy op h w c) (ok 0)
     entry-number-by RespondRegular = respond-number (refusedIn w (c .tag)) (c .tag) _ (handlesOf w) refl refl
-    entry-number-by RespondWithFd = handle-number (eqb (heldAt (handlesOf w) (c .result)) 0)
+    entry-number-by RespondWithFd =
+        handle-number (eqb (heldAt (handlesOf w) (c .result)) 0)
+        ∙ ap (λ (b : Bool). ruled (row 22 b ∷ respondRows h (c .tag)) (ok 0)) (empty-same (handlesOf w) (c .result) (formed .handles))
     entry-number-by SendFevent = event-number (within eventFlags (c .tag))
     entry-number-by ObtainFd =
         obtain-number (within fobtainFdFlags (extraOf c))
@@ -319,7 +330,7 @@ module _ (r : Run) (bs : List ℕ) where
       subst (λ (c : Cqe). Wrote j (suc m) (writeOn (at j) (c ∷ cut m (drop 16 (drop (16 * j) bs))) j fx)) (sym (entry-at bs j))
       (subst (λ (l : List ℕ). Wrote j (suc m) (writeOn (at j) (entryAt bs j ∷ cut m l) j fx)) (sym (next-at bs j))
       (land j m fx s (λ gx t. write-at m (suc j) (fx ++ gx) t) (entryOf (at j) (entryAt bs j)) refl
-      (entry-number (at j) (past j) (s .inv) (entryAt bs j)) (entry-ok (at j) (past j) (s .formed) (s .inv) (r .number) j (entryAt bs j))))
+      (entry-number (at j) (past j) (s .formed) (s .inv) (entryAt bs j)) (entry-ok (at j) (past j) (s .formed) (s .inv) (r .number) j (entryAt bs j))))
 
   pub write-ok : WellFormed (r .world) → InvOf (r .world) (r .facts) → (m : ℕ) → Wrote 0 m (writeOn (r .world) (cut m bs) 0 [])
   write-ok formed inv m =

@@ -32,7 +32,7 @@ Some P (f ∷ h) = P h f ⊎ Some P h
 abbrev pub needs : What → Stage → Type 0
 -- "a call's slot isn't given out again until a reply entry to it is accepted, a map request's not until map supply vacates it"
 needs (gave m c) s = s ≡ free
-needs took s = s ≡ reserved
+needs took s = s ≡ reserved  -- a call is submitted once
 -- an accepted reply entry "serves its tag's call, which waits"
 needs (serve i j r) s = s ≡ waits
 -- the layer queues its cancel message "while it waits": the wakes that are answered still blocked are those of waiting calls
@@ -40,11 +40,11 @@ needs block s = s ≡ waits
 needs break s = s ≡ waits
 -- a reply handed over is that of a served call, not handed over yet
 needs (pass r) s = s ≡ replied r
-needs filled s = s ≡ mapping
+needs filled s = s ≡ mapping  -- map supply vacates map requests alone, each once
 
 abbrev pub fair : List Fact → Fact → Type 0
 fair h (to n x) = needs x (book h n .stage)
-fair h (end c) = Unit {0}
+fair h (end c) = Unit {0}  -- a caller may end at any time
 
 -- "no completion entry serves two calls, even with the same tag one after the other", and no call is served by two: of two
 -- accepted reply entries the places differ, and the calls differ too, by tag or by lap
@@ -67,7 +67,7 @@ pub record Owed : Type 0 where
   pub removes : ℕ  -- so many bytes leave the queue's front
   pub adds : List ℕ  -- these join its end
   pub stores : List ℕ  -- these are stored in the bytes that a read is lent
-  pub all : Bool  -- all its effects are told, or the wakes among them
+  pub all : Bool  -- true: `makes` are all its effects; false, of a write: the wakes among them
   pub makes : List ℕ
 
 abbrev pub owed : Bool → ℕ → List ℕ → List ℕ → Bool → List ℕ → Owed
@@ -107,12 +107,11 @@ wakesFor h (to n x ∷ fs) =
     let k = book (fs ++ h) n in wakesFor h fs ++ onReply x (cond (k .ended) [] (1 ∷ k .caller ∷ n ∷ [])) [] []
 wakesFor h (end c ∷ fs) = wakesFor h fs
 
--- "The layer itself queues one cancel message for a call, while it waits, exactly at its first wake answered still blocked"; an
--- event that is accepted queues its own entry; a read removes the whole entries that it copied
+-- "The layer itself queues one cancel message for a call, while it waits, exactly at its first wake answered still blocked"
 abbrev pub owes : Turn → View → Owed
 owes t (tells f) = owed false 0 [] [] true []
 owes t (sends f e flags) =
-    onOk (t .outcome .answer) (λ v. queuing (t .before) false (bytesOf (sqeWords (e v))) flags) (owed false 0 [] [] true [])
+    onOk (t .outcome .answer) (λ v. queuing (t .before) false (bytesOf (sqeWords (e v))) flags) (owed false 0 [] [] true [])  -- accepted: its own entry
 owes t (wakes n c killed span) =
     let b = due (book (t .past) n .stage) (book (t .past) n) c killed in
     let none = owed b 0 [] [] true [] in
@@ -131,11 +130,11 @@ wakesIn (k ∷ a ∷ []) = []
 wakesIn (k ∷ a ∷ b ∷ fx) = cond (eqb k 1) (k ∷ a ∷ b ∷ wakesIn fx) (wakesIn fx)
 
 pub record Right (t : Turn) (o : Owed) : Type 0 where
-  pub hand : onAnswer (t .outcome .answer) (λ v. false) (λ k. false) false false (λ r. true) ≡ o .hands
-  pub queue : unreadIn (t .outcome .world) ≡ drop (o .removes) (unreadIn (t .before)) ++ o .adds
-  pub bytes : t .outcome .bytes ≡ o .stores
+  pub hand : onAnswer (t .outcome .answer) (λ v. false) (λ k. false) false false (λ r. true) ≡ o .hands  -- a reply exactly where due
+  pub queue : unreadIn (t .outcome .world) ≡ drop (o .removes) (unreadIn (t .before)) ++ o .adds  -- all its unread bytes
+  pub bytes : t .outcome .bytes ≡ o .stores  -- all that is stored
   pub effects : cond (o .all) (t .outcome .effects) (wakesIn (t .outcome .effects)) ≡ o .makes
-  pub scheme : schemeOf (t .outcome .world) ≡ schemeOf (t .before)
+  pub scheme : schemeOf (t .outcome .world) ≡ schemeOf (t .before)  -- the scheme number stays
 
 -- over all that happened: a of each accepted reply entry, by its call before it, and p of each hand-over
 abbrev pub sum : (Call → ℕ) → ℕ → List Fact → ℕ
@@ -148,9 +147,9 @@ abbrev pub held : World → ℕ
 held w = ones (wordOf (isIn status.Responded) (tableOf w .slots))
 
 pub record Demanded (r : Run) : Type 0 where
-  pub facts : Every fair (r .facts)
-  pub entries : Every (λ h f. Every (apart h f) h) (r .facts)
-  pub replies : Every sourced (r .facts)
+  pub facts : Every fair (r .facts)  -- each thing found its call in the stage that it needs
+  pub entries : Every (λ h f. Every (apart h f) h) (r .facts)  -- any two accepted reply entries are apart
+  pub replies : Every sourced (r .facts)  -- each reply handed over has its entry
   pub turn : (e : Event) → Right (turnOf r e) (owes (turnOf r e) (viewOf e))  -- whatever event comes next
   -- "Accepted reply entries = replies handed over + still held + dropped for ended callers", accepted when these had already ended
   pub balance : sum (λ k. 1) 0 (r .facts) ≡ sum (λ k. 0) 1 (r .facts) + (held (r .world) + sum (λ k. cond (k .ended) 1 0) 0 (r .facts))

@@ -110,7 +110,7 @@ respondRows h n = row 77 (inState 0 h n || inState 1 h n) ∷ row 22 (inState 3 
 -- a completion entry, by its kind
 abbrev pub entryRowsBy : CqeOpcode → List Fact → World → Cqe → List Row
 entryRowsBy RespondRegular h w e = respondRows h (e .tag)
-entryRowsBy RespondWithFd h w e = row 22 (eqb (handleAt w (e .result)) 0) ∷ respondRows h (e .tag)
+entryRowsBy RespondWithFd h w e = row 22 (ltb 63 (e .result) || eqb (handleAt w (e .result)) 0) ∷ respondRows h (e .tag)
 entryRowsBy SendFevent h w e = row 22 (not (within eventFlags (e .tag))) ∷ []
 entryRowsBy ObtainFd h w e =
     row 22 (not (within fobtainFdFlags (extraOf e)))

@@ -64,7 +64,7 @@ marked w r e k =
 abbrev pub change : What → Call → Call
 change (gave m c) k = given (cond m mapping reserved) c k
 change took k = onto waits k
-change (serve i j r) k = onto (cond (k .ended) free (replied r)) k
+change (serve i j r) k = onto (cond (k .ended) free (replied r)) k  -- an ended caller's reply is dropped
 change block k = marked true false false k
 change break k = marked false true false k
 change (pass r) k = onto free k
@@ -74,28 +74,28 @@ change filled k = onto free k
 abbrev pub book : List Fact → ℕ → Call
 book [] n = record { stage = free; caller = 0; waited = false; returned = false; ended = false; lap = 0 }
 book (to t x ∷ h) n = cond (eqb t n) (change x (book h n)) (book h n)
-book (end c ∷ h) n = marked false false (eqb (book h n .caller) c) (book h n)
+book (end c ∷ h) n = marked false false (eqb (book h n .caller) c) (book h n)  -- "reported ended since then"
 
 -- what an event is for the claims
 pub data View : Type 0 where
   tells : (ℕ → List Fact) → View  -- accepted with a value: these facts, newest first
   sends : (ℕ → List Fact) → (ℕ → Sqe) → (flags : ℕ) → View  -- the same, and an entry is queued, told to the root with these flags
-  wakes : (n c killed : ℕ) (span : PageSpan) → View
-  reads : View
-  writes : (words : ℕ) (bs : List ℕ) → View
-  moves : (ds : List ℕ) → View
-  supplies : (n : ℕ) → View
+  wakes : (n c killed : ℕ) (span : PageSpan) → View  -- a wake of tag n by caller c
+  reads : View  -- the driver reads
+  writes : (words : ℕ) (bs : List ℕ) → View  -- the driver writes these bytes
+  moves : (ds : List ℕ) → View  -- a move that brings these descriptions
+  supplies : (n : ℕ) → View  -- a map supply to tag n
 
 abbrev pub plain : View
-plain = tells (λ v. [])
+plain = tells (λ v. [])  -- nothing is told
 
--- a reserve is a call from the start; `call` in each form is given out and submitted at once
+-- `call` in each form is given out and submitted at once
 abbrev pub begins : ℕ → (ℕ → Sqe) → View
 begins c e = sends (λ n. to n took ∷ to n (gave false c) ∷ []) e eventRead
 
 abbrev pub driverView : DriverEvent → View
 driverView (hostPut d k) = plain
-driverView (reserve c) = tells (λ n. to n (gave false c) ∷ [])
+driverView (reserve c) = tells (λ n. to n (gave false c) ∷ [])  -- "a call from the start, submitted or not"
 driverView (submit n c op fl args pid ds) = sends (λ v. to n took ∷ []) (λ v. submitEntry n op fl args pid) eventRead
 driverView (call c op args uid gid pid ds) = begins c (callEntry op args uid gid pid)
 driverView (generic c pid fds base len ms) = begins c (genericEntry 28 pid fds base len ms)
@@ -150,7 +150,7 @@ abbrev pub poured : ℕ → List ℕ → World → ℕ → List Fact
 poured i bs w zero = []
 poured i bs w (suc j) = served i j (afterEntries bs w j) (entryAt bs j) ++ poured i bs w j
 
--- what happened by event i on state w; an entry "is accepted when its write's answer counts it"
+-- what event i on state w tells by its answer (ok, no, wait, blocked, reply); EINTR is 4, ESRCH 3; of a write the entries that it counts
 abbrev pub news : ℕ → World → View → Answer → List Fact
 news i w (tells f) a = onOk a f []
 news i w (sends f e flags) a = onOk a f []

@@ -16,4 +16,5 @@ pub mod Demand3
 pub mod WellFormed
 pub mod Refusals
 pub mod Exactly
+pub mod Spelled
 pub mod Examples
