@@ -29,7 +29,7 @@ def REPLY(result):
     return f"on (write 54 (replicate 8 0 ++ ({result})))"
 
 
-# name, claim, events before, the event, its clause, what is taken of both sides, the wrong layer's, the claimed
+# name, claim, events before, the event (of Spelled: the line), its clause, what is taken of both sides, the wrong layer's, the claimed
 WRONG = [
     ("idle_layer", "Exactly", "[]", "on (reserve 1)", "answer", "code", "5001", "0"),
     ("wake_answers_ok", "Exactly", f"{CALL} ∷ []", "on (wake 0 1 0 0 0)", "answer", "code", "0", "5001"),
@@ -67,16 +67,20 @@ WRONG = [
      "answer", "code", "0", "1201"),
     ("unknown_kind_22", "Exactly", "[]", "on (stdfs 1 1 (0 ∷ []) 0 0 (9 ∷ 0 ∷ 0 ∷ []))", "answer", "code", "1022", "1095"),
     ("waiting_slot_given_out", "Exactly", f"{CALL} ∷ []", "on (reserve 2)", "answer", "code", "0", "1"),
+    ("call_with_tag_0", "Spelled", "[]", ".queued .call 0 (args6 0 0 0 0 0 0) 0 0 0 1", "queued", "(λ (l : List ℕ). getD l 0 0)", "0", "0x1_0000_0000"),
+    ("one_reading_for_all", "Spelled", "[]", ".readings .success vacantSlot 9 0 false", "readings", "worth", "0", "9"),
+    ("fresh_without_scheme", "Spelled", "[]", ".started 7 [] .number", "started", "(λ (n : ℕ). n)", "0", "7"),
     ("killed_wake_vacates", "Exactly", f"{CALL} ∷ on (wake 0 1 1 0 0) ∷ []", "on (reserve 2)", "answer", "code", "0", "1"),
 ]
 
 REFUTED = """-- {claim} does not hold of this layer.
 use Prim.Native.Nat.{{ℕ, _+_}}
 use mathlib.Core.Path.{{_≡_, refl, ap}}
-use mathlib.Core.Bool.{{Bool, cond}}
+use mathlib.Core.Bool.{{Bool, false, cond}}
 use mathlib.Core.List.{{List, [], _∷_, _++_}}
 use native.Mathlib.Omega.{{arith}}
 use lib.ListN.{{length, getD, replicate, length-replicate}}
+use Rattle.slot.specs.Slots.{{vacantSlot}}
 use Rattle.wait_queue.specs.Queue.{{wordsFrom}}
 use Rattle.events.specs.Outcome.{{Response, success, error, descriptor, many, Answer, onAnswer}}
 use Rattle.events.specs.Submit.{{args6}}
@@ -155,8 +159,12 @@ def main():
             lib = events / "specs/Lib.antt"
             lib.write_text(lib.read_text().replace("pub mod Examples\n", ""))
             (events / "specs/Examples.antt").unlink()
-            said = f"x (runFrom (begin 7 (replicate 1024 0)) before) s .{'answer' if claim == 'Exactly' else 'turn'} ({event})"
-            said += "" if claim == "Exactly" else f" .{clause}"
+            at = "x (runFrom (begin 7 (replicate 1024 0)) before) s"
+            said = {
+                "Exactly": f"{at} .answer ({event})",
+                "Demand3": f"{at} .turn ({event}) .{clause}",
+                "Spelled": f"x {event}",
+            }[claim]
             (events / "proofs/Refuted.antt").write_text(
                 REFUTED.format(claim=claim, before=before, wrong=wrong, claimed=claimed, measure=measure, clause=said))
             run = subprocess.run(["rt", "check", "events"], cwd=copy, capture_output=True, text=True)
