@@ -25,16 +25,16 @@ pub data Stage : Type 0 where
   free : Stage  -- none yet; or handed its reply, served when its caller had already ended, or supplied
   reserved : Stage  -- a call, not submitted yet
   waits : Stage  -- from its accepted submit or `call` until a reply entry to it is accepted
-  replied : Response → Stage  -- served by an entry that reads this, and not handed the reply yet
+  replied : Response → Stage  -- served by an entry that reads this, not handed the reply yet; a returned call, or one ended since, stays
   mapping : Stage  -- a map request
 
 -- what happens to a tag
 pub data What : Type 0 where
   gave : (m : Bool) (c : ℕ) → What  -- it was given out to caller c, for a map request (m) or else for a call
-  took : What  -- its call was submitted
-  serve : (i j : ℕ) (r : Response) → What  -- the reply entry to it was accepted that reads r: entry j of event i, both from 0
-  block : What  -- a wake of it was answered still blocked
-  break : What  -- a wake of it was refused with EINTR
+  took : What  -- a submit of it, or the `call` that gave it out, was accepted
+  serve : (i j : ℕ) (r : Response) → What  -- a reply entry to it, entry j of event i (both from 0), was accepted and reads r
+  block : What  -- a wake of it, whoever asked, was answered still blocked
+  break : What  -- a wake of it, whoever asked, was refused with EINTR
   pass : (r : Response) → What  -- a wake of it handed r over
   filled : What  -- map supply vacated it: a success or ESRCH
 
@@ -42,15 +42,15 @@ pub data Fact : Type 0 where
   to : (n : ℕ) → What → Fact  -- this happened to tag n
   end : (c : ℕ) → Fact  -- caller c was reported ended
 
-pub record Call : Type 0 where
+pub record Call : Type 0 where  -- what is known of the call or map request that a tag was last given out for
   pub stage : Stage
   pub caller : ℕ  -- whose it is
   pub waited : Bool  -- a wake of it was answered still blocked
   pub returned : Bool  -- a wake of it was refused with EINTR
   pub ended : Bool  -- its caller was reported ended since it was given out
-  pub lap : ℕ  -- how often the tag had been given out, this time included
+  pub lap : ℕ  -- how often the tag had been given out, this time included; counted here alone, no tag carries it
 
--- given out once more; in another stage; with these marks set: waited, returned, ended
+-- given out once more; in another stage; with these marks set (waited, returned, ended) and the others as they were
 abbrev pub given : Stage → ℕ → Call → Call
 given s c k = record { stage = s; caller = c; waited = false; returned = false; ended = false; lap = suc (k .lap) }
 
@@ -74,16 +74,16 @@ change filled k = onto free k
 abbrev pub book : List Fact → ℕ → Call
 book [] n = record { stage = free; caller = 0; waited = false; returned = false; ended = false; lap = 0 }
 book (to t x ∷ h) n = cond (eqb t n) (change x (book h n)) (book h n)
-book (end c ∷ h) n = marked false false (eqb (book h n .caller) c) (book h n)  -- "reported ended since then"
+book (end c ∷ h) n = marked false false (eqb (book h n .caller) c) (book h n)  -- `given` clears it: ended since it was given out
 
 -- what an event is for the claims
 pub data View : Type 0 where
-  tells : (ℕ → List Fact) → View  -- accepted with a value: these facts, newest first
-  sends : (ℕ → List Fact) → (ℕ → Sqe) → (flags : ℕ) → View  -- the same, and an entry is queued, told to the root with these flags
-  wakes : (n c killed : ℕ) (span : PageSpan) → View  -- a wake of tag n by caller c
+  tells : (ℕ → List Fact) → View  -- accepted with a value (of reserve, `call`, map request the tag): its facts, newest first
+  sends : (ℕ → List Fact) → (ℕ → Sqe) → (flags : ℕ) → View  -- the same; an entry is queued, and effect 5 made with these flags
+  wakes : (n c killed : ℕ) (span : PageSpan) → View  -- a wake of tag n by caller c; the span is for what EINTR leaves (Refusals)
   reads : View  -- the driver reads
-  writes : (words : ℕ) (bs : List ℕ) → View  -- the driver writes these bytes
-  moves : (ds : List ℕ) → View  -- a move that brings these descriptions
+  writes : (words : ℕ) (bs : List ℕ) → View  -- the driver writes these bytes; words are lent for effects (Refusals)
+  moves : (ds : List ℕ) → View  -- a move that brings these descriptions (Refusals); it tells nothing
   supplies : (n : ℕ) → View  -- a map supply to tag n
 
 abbrev pub plain : View
@@ -94,12 +94,12 @@ abbrev pub begins : ℕ → (ℕ → Sqe) → View
 begins c e = sends (λ n. to n took ∷ to n (gave false c) ∷ []) e eventRead
 
 abbrev pub driverView : DriverEvent → View
-driverView (hostPut d k) = plain
+driverView (hostPut d k) = plain  -- the host's fifth event
 driverView (reserve c) = tells (λ n. to n (gave false c) ∷ [])  -- "a call from the start, submitted or not"
 driverView (submit n c op fl args pid ds) = sends (λ v. to n took ∷ []) (λ v. submitEntry n op fl args pid) eventRead
 driverView (call c op args uid gid pid ds) = begins c (callEntry op args uid gid pid)
-driverView (generic c pid fds base len ms) = begins c (genericEntry 28 pid fds base len ms)
-driverView (stdfs c pid fds base len ms) = begins c (genericEntry 33 pid fds base len (stdMeta ms))
+driverView (generic c pid fds base len ms) = begins c (genericEntry 28 pid fds base len ms)  -- opcode Call
+driverView (stdfs c pid fds base len ms) = begins c (genericEntry 33 pid fds base len (stdMeta ms))  -- opcode StdFsCall
 driverView (fmap c id pages flags uid gid pid) = sends (λ n. to n (gave true c) ∷ []) (fmapEntry id pages flags uid gid pid) eventRead
 driverView (close id) = sends (λ v. []) (λ v. closeEntry id) (eventRead + eventHup)
 driverView (detach id pid) = sends (λ v. []) (λ v. detachEntry id pid) eventRead
@@ -117,7 +117,7 @@ viewOf (hostDrop d) = plain
 viewOf (hostEnded c) = tells (λ v. end c ∷ [])
 viewOf (on e) = driverView e
 
--- entry j of a write stands at byte 16 j: flags 0, extra 1-3, tag 4-7, result 8-15, little-endian
+-- entry j of a write stands at byte 16 j: flags at its byte 0, extra at 1 to 3, tag at 4 to 7, result at 8 to 15, little-endian
 abbrev pub entryAt : List ℕ → ℕ → Cqe
 entryAt bs j =
     record {
@@ -132,13 +132,13 @@ abbrev pub afterEntries : List ℕ → World → ℕ → World
 afterEntries bs w zero = w
 afterEntries bs w (suc j) = worldOf (entryOf (afterEntries bs w j) (entryAt bs j))
 
--- "Reply entries are kinds 0, 1, 4 and 5": what one brings, with its handle as it is before it; any other entry brings none
+-- "Reply entries are kinds 0, 1, 4 and 5": what one brings, with its handle as it is before it; any other entry brings nothing
 abbrev pub offers : CqeOpcode → World → Cqe → List Offer
-offers RespondRegular w e = result (demuxOf (e .result)) (e .«extra_raw» .0) false ∷ []
-offers RespondWithFd w e = one (inHandle (handlesOf w) (e .result)) ∷ []
+offers RespondRegular w e = result (demuxOf (e .result)) (e .«extra_raw» .0) false ∷ []  -- no notice
+offers RespondWithFd w e = one (inHandle (handlesOf w) (e .result)) ∷ []  -- the description in that handle
 offers SendFevent w e = []
 offers ObtainFd w e = []
-offers RespondWithMultipleFds w e = listed ∷ []
+offers RespondWithMultipleFds w e = listed ∷ []  -- the call's own list
 offers RespondAndNotifyOnDetach w e = result (demuxOf (e .result)) (e .«extra_raw» .0) true ∷ []
 offers Unknown w e = []
 
@@ -147,7 +147,7 @@ abbrev pub served : ℕ → ℕ → World → Cqe → List Fact
 served i j w e = map (λ o. to (e .tag) (serve i j (responseTo (slotIn w (e .tag)) o))) (offers (cqeOpcodeOf (kindOf e)) w e)
 
 abbrev pub poured : ℕ → List ℕ → World → ℕ → List Fact
-poured i bs w zero = []
+poured i bs w zero = []  -- the facts of the first j entries, newest first, each on the state that those before it left
 poured i bs w (suc j) = served i j (afterEntries bs w j) (entryAt bs j) ++ poured i bs w j
 
 -- what event i on state w tells by its answer (ok, no, wait, blocked, reply); EINTR is 4, ESRCH 3; of a write the entries that it counts
