@@ -28,16 +28,16 @@ abbrev pub Some : (List Fact → Fact → Type 0) → List Fact → Type 0
 Some P [] = ⊥
 Some P (f ∷ h) = P h f ⊎ Some P h
 
--- the stage in which what happens to a tag finds its call
+-- claimed, not assumed, whatever drivers write: the stage in which what happens to a tag finds its call
 abbrev pub needs : What → Stage → Type 0
 -- "a call's slot isn't given out again until a reply entry to it is accepted, a map request's not until map supply vacates it"
 needs (gave m c) s = s ≡ free  -- and more: not until that reply is handed over or dropped
 needs took s = s ≡ reserved  -- a call is submitted once
 -- an accepted reply entry "serves its tag's call, which waits"
 needs (serve i j r) s = s ≡ waits  -- by tag alone: a second reply can still reach the tag's next call
--- the layer queues its cancel message "while it waits": the wakes that are answered still blocked are those of waiting calls
+-- the layer queues its cancel message "while it waits": only a waiting call's wake is answered still blocked
 needs block s = s ≡ waits
-needs break s = s ≡ waits  -- nor is another wake refused with EINTR
+needs break s = s ≡ waits  -- likewise, only a waiting call's wake is refused with EINTR
 -- a reply handed over is that of a served call, not handed over yet
 needs (pass r) s = s ≡ replied r
 needs filled s = s ≡ mapping  -- map supply vacates map requests alone, each once
@@ -67,7 +67,7 @@ pub record Owed : Type 0 where
   pub removes : ℕ  -- so many bytes leave the queue's front
   pub adds : List ℕ  -- these join its end
   pub stores : List ℕ  -- these are stored in the bytes that a read is lent
-  pub all : Bool  -- true: `makes` are all its effects; false, of a write: the wakes among them
+  pub all : Bool  -- true: `makes` are all its effects; false, of a write: only its effects 1, by which callers are woken
   pub makes : List ℕ  -- three words each
 
 abbrev pub owed : Bool → ℕ → List ℕ → List ℕ → Bool → List ℕ → Owed
@@ -107,19 +107,19 @@ wakesFor h (to n x ∷ fs) =
     let k = book (fs ++ h) n in wakesFor h fs ++ onReply x (cond (k .ended) [] (1 ∷ k .caller ∷ n ∷ [])) [] []
 wakesFor h (end c ∷ fs) = wakesFor h fs
 
--- "The layer itself queues one cancel message for a call, while it waits, exactly at its first wake answered still blocked"
+-- what a turn owes; a wake: "The layer itself queues one cancel message for a call, while it waits, exactly at its first wake answered still blocked"
 abbrev pub owes : Turn → View → Owed
 owes t (tells f) = owed false 0 [] [] true []  -- no reply, no bytes, no effect
 owes t (sends f e flags) =
     onOk (t .outcome .answer) (λ v. queuing (t .before) false (bytesOf (sqeWords (e v))) flags) (owed false 0 [] [] true [])  -- accepted: its own entry
 owes t (wakes n c killed span) =
     let b = due (book (t .past) n .stage) (book (t .past) n) c killed in
-    let none = owed b 0 [] [] true [] in  -- whatever it answers, `hand` compares the answer with b
+    let none = owed b 0 [] [] true [] in  -- nothing queued, no effect; `hand` compares the answer with b
     onAnswer (t .outcome .answer) (λ v. none) (λ k. none) none
     (cond (book (t .past) n .waited) none (queuing (t .before) b (cancelBytes n) eventRead)) (λ r. none)  -- blocked for the first time
 owes t reads = onOk (t .outcome .answer) (λ v. owed false (v / 64 * 64) [] (take v (unreadIn (t .before))) true []) (owed false 0 [] [] true [])
 owes t (writes words bs) = owed false 0 [] [] false (wakesFor (t .past) (news (t .number) (t .before) (writes words bs) (t .outcome .answer)))
-owes t (moves ds) = owed false 0 [] [] true []
+owes t (moves ds) = owed false 0 [] [] true []  -- as `tells`
 owes t (supplies n) = owed false 0 [] [] true []
 
 -- of effects, three words each, those of kind 1
@@ -150,7 +150,7 @@ pub record Demanded (r : Run) : Type 0 where
   pub facts : Every fair (r .facts)  -- each thing found its call in the stage that it needs
   pub entries : Every (λ h f. Every (apart h f) h) (r .facts)  -- any two accepted reply entries are apart
   pub replies : Every sourced (r .facts)  -- each reply handed over has its entry
-  pub turn : (e : Event) → Right (turnOf r e) (owes (turnOf r e) (viewOf e))  -- whatever event comes next; each beginning of a run is a run
+  pub turn : (e : Event) → Right (turnOf r e) (owes (turnOf r e) (viewOf e))  -- whatever event comes next; so every event of a run, as each beginning of a run is a run
   -- "Accepted reply entries = replies handed over + still held + dropped for ended callers" [who had ended when it was accepted]
   pub balance : sum (λ k. 1) 0 (r .facts) ≡ sum (λ k. 0) 1 (r .facts) + (held (r .world) + sum (λ k. cond (k .ended) 1 0) 0 (r .facts))
 

@@ -25,8 +25,8 @@ pub data Stage : Type 0 where
   free : Stage  -- none yet; or handed its reply, served when its caller had already ended, or supplied
   reserved : Stage  -- a call, not submitted yet
   waits : Stage  -- from its accepted submit or `call` until a reply entry to it is accepted
-  replied : Response → Stage  -- served by an entry that reads this, not handed the reply yet; a returned call, or one ended since, stays
-  mapping : Stage  -- a map request
+  replied : Response → Stage  -- served by an entry that reads this, not handed it yet; returned with EINTR, or its caller ended since: so for good
+  mapping : Stage  -- a map request, not supplied yet
 
 -- what happens to a tag
 pub data What : Type 0 where
@@ -78,9 +78,9 @@ book (end c ∷ h) n = marked false false (eqb (book h n .caller) c) (book h n) 
 
 -- what an event is for the claims
 pub data View : Type 0 where
-  tells : (ℕ → List Fact) → View  -- accepted with a value (of reserve, `call`, map request the tag): its facts, newest first
-  sends : (ℕ → List Fact) → (ℕ → Sqe) → (flags : ℕ) → View  -- the same; an entry is queued, and effect 5 made with these flags
-  wakes : (n c killed : ℕ) (span : PageSpan) → View  -- a wake of tag n by caller c; the span is for what EINTR leaves (Refusals)
+  tells : (ℕ → List Fact) → View  -- accepted with a value v: the facts of v, newest first; else none (v is the tag of reserve, `call`, map request)
+  sends : (ℕ → List Fact) → (ℕ → Sqe) → (flags : ℕ) → View  -- the same; accepted, its entry is queued and effect 5 (the root is told) made with these flags
+  wakes : (n c killed : ℕ) (span : PageSpan) → View  -- caller c asks for tag n, killed (1) or not (0); the span is for what EINTR leaves (Refusals)
   reads : View  -- the driver reads
   writes : (words : ℕ) (bs : List ℕ) → View  -- the driver writes these bytes; words are lent for effects (Refusals)
   moves : (ds : List ℕ) → View  -- a move that brings these descriptions (Refusals); it tells nothing
@@ -132,9 +132,9 @@ abbrev pub afterEntries : List ℕ → World → ℕ → World
 afterEntries bs w zero = w
 afterEntries bs w (suc j) = worldOf (entryOf (afterEntries bs w j) (entryAt bs j))
 
--- "Reply entries are kinds 0, 1, 4 and 5": what one brings, with its handle as it is before it; any other entry brings nothing
+-- "Reply entries are kinds 0, 1, 4 and 5": what one brings, its handle looked up in the state before it; any other entry brings nothing
 abbrev pub offers : CqeOpcode → World → Cqe → List Offer
-offers RespondRegular w e = result (demuxOf (e .result)) (e .«extra_raw» .0) false ∷ []  -- no notice
+offers RespondRegular w e = result (demuxOf (e .result)) (e .«extra_raw» .0) false ∷ []  -- success word or errno, extra's first byte, no notice
 offers RespondWithFd w e = one (inHandle (handlesOf w) (e .result)) ∷ []  -- the description in that handle
 offers SendFevent w e = []
 offers ObtainFd w e = []
@@ -146,8 +146,8 @@ offers Unknown w e = []
 abbrev pub served : ℕ → ℕ → World → Cqe → List Fact
 served i j w e = map (λ o. to (e .tag) (serve i j (responseTo (slotIn w (e .tag)) o))) (offers (cqeOpcodeOf (kindOf e)) w e)
 
-abbrev pub poured : ℕ → List ℕ → World → ℕ → List Fact
-poured i bs w zero = []  -- the facts of the first j entries, newest first, each on the state that those before it left
+abbrev pub poured : ℕ → List ℕ → World → ℕ → List Fact  -- the first j entries, newest first, each on the state that those before it left
+poured i bs w zero = []
 poured i bs w (suc j) = served i j (afterEntries bs w j) (entryAt bs j) ++ poured i bs w j
 
 -- what event i on state w tells by its answer (ok, no, wait, blocked, reply); EINTR is 4, ESRCH 3; of a write the entries that it counts
