@@ -40,10 +40,10 @@ WRONG = [
     ("cancel_with_argument", "Demand3", f"{CALL} ∷ []", "on (wake 0 1 0 0 0)", "queue", "(λ (l : List ℕ). getD l 72 0)", "1", "0"),
     ("every_event_205", "Exactly", "[]", "on (reserve 1)", "answer", "code", "1205", "0"),
     ("read_would_wait", "Exactly", f"{CALL} ∷ []", "on (read 64 0)", "answer", "code", "5000", "64"),
-    ("no_wake_effect", "Demand3", f"{CALL} ∷ []", "on (write 54 (replicate 16 0))", "effects", "length", "0", "3"),
+    ("no_wake_effect", "Exactly", f"{CALL} ∷ []", "on (write 54 (replicate 16 0))", "effects", "length", "0", "3"),
     ("submit_answers_0", "Exactly", "on (reserve 1) ∷ on (reserve 1) ∷ []", "on (submit 1 1 6 0 (args6 0 0 0 0 0 0) 1 [])",
      "answer", "code", "0", "1"),
-    ("no_root_effect", "Demand3", "[]", CALL, "effects", "length", "0", "3"),
+    ("no_root_effect", "Exactly", "[]", CALL, "effects", "length", "0", "3"),
     ("second_cancel", "Demand3", f"{CALL} ∷ on (wake 0 1 0 0 0) ∷ []", "on (wake 0 1 0 0 0)", "queue", "length", "192", "128"),
     ("never_hands_over", "Demand3", f"{CALL} ∷ on (write 54 (replicate 16 0)) ∷ []", "on (wake 0 1 0 0 0)", "hand", "bit", "0", "1"),
     ("cancel_for_killed", "Demand3", f"{CALL} ∷ []", "on (wake 0 1 1 0 0)", "queue", "length", "128", "64"),
@@ -161,7 +161,7 @@ def main():
             (events / "specs/Examples.antt").unlink()
             at = "x (runFrom (begin 7 (replicate 1024 0)) before) s"
             said = {
-                "Exactly": f"{at} .answer ({event})",
+                "Exactly": f"{at} .rest ({event}) .effects" if clause == "effects" else f"{at} .answer ({event})",
                 "Demand3": f"{at} .turn ({event}) .{clause}",
                 "Spelled": f"x {event}",
             }[claim]

@@ -8,7 +8,8 @@ use lib.Dec.{eqb}
 use lib.ListN.{length, length-append}
 use Rattle.closes.specs.Closes.{closes}
 use Rattle.events.specs.History.{Fact, to, end, book}
-use Rattle.events.specs.Demand3.{onReply, wakesFor, wakesIn}
+use Rattle.events.specs.Demand3.{onReply}
+use Rattle.events.specs.Effects.{wakesFor, wakesIn}
 
 -- so many effects
 abbrev pub Triples : List ℕ → Type 0

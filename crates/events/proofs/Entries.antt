@@ -33,7 +33,7 @@ use Rattle.events.specs.Wake.{responseOf}
 use Rattle.events.specs.Entry.{Decision, closesOf, Offer, result, one, listed, responseTo, storedAs, keptFds, goneFds, ownFds, namedOf, dropped, unmapOf, releaseOf, servedBy, respondBy, inHandle, takenOut, byDescriptor, isWaiting, obtainRows, obtained, obtainEntryOf}
 use Rattle.events.specs.Complete.{Entered, accepted, rejected, carried, entryBy, entryOf}
 use Rattle.events.specs.History.{Fact, to, serve, waits, book, offers, served}
-use Rattle.events.specs.Demand3.{wakesFor, wakesIn}
+use Rattle.events.specs.Effects.{wakesFor, wakesIn}
 use Rattle.events.specs.WellFormed.{WellFormed}
 use Rattle.events.proofs.Checked.{checked-cases}
 use Rattle.events.proofs.Decided.{refusedIn, carried-cases}

@@ -53,7 +53,7 @@ use Rattle.events.proofs.Conditions.{Named, opcode-same, not-ltb, some-
 use Rattle.events.proofs.Entries.{InvOf}
 use Rattle.events.proofs.Inv.{in-stage, in-phase, replied-is}
 use Rattle.events.proofs.Stage.{Core, coreBy, dress, StageIn, callerIs, endedIs, returnedIs}
-use Rattle.events.proofs.Steps.{waited-is}
+use Rattle.events.proofs.Steps.{waited-is, event-ok}
 use Rattle.events.proofs.Stored.{shape}
 use Rattle.events.proofs.WellFormed.{formed-entry}
 use Rattle.events.proofs.Writes.{ruled-checked, write-ok}
@@ -301,13 +301,13 @@ module _ (r : Run) (i : WellFormed (r .world)) (inv : InvOf (r .world) (r .facts
               (b x y : Bool) → eqb killed 1 ≡ b → slotIn w n .canceling ≡ x → queueFull w ≡ y
               → waitedBy (eqb killed 1) w n span .answer ≡ claimed
           go true x y qb qc qf = rw (qx, stage Waiting p, open-to, qb) refl
-          go false true y qb qc qf = let z : k .waited ≡ true = waited-is r i inv n c killed base count p qy ∙ qc in rw (qx, stage Waiting p, open-to, qb, qc, z) refl
+          go false true y qb qc qf = let z : k .wasBlocked ≡ true = waited-is r i inv n c killed base count p qy ∙ qc in rw (qx, stage Waiting p, open-to, qb, qc, z) refl
           go false false true qb qc qf =
-              let z : k .waited ≡ false = waited-is r i inv n c killed base count p qy ∙ qc in
+              let z : k .wasBlocked ≡ false = waited-is r i inv n c killed base count p qy ∙ qc in
               let f : all128Unread w ≡ true = sym (queue-same w i) ∙ qf in
               rw (qx, stage Waiting p, open-to, qb, qc, z, qf, f) refl
           go false false false qb qc qf =
-              let z : k .waited ≡ false = waited-is r i inv n c killed base count p qy ∙ qc in
+              let z : k .wasBlocked ≡ false = waited-is r i inv n c killed base count p qy ∙ qc in
               let f : all128Unread w ≡ false = sym (queue-same w i) ∙ qf in
               rw (qx, stage Waiting p, open-to, qb, qc, z, qf, f) refl
 
@@ -413,4 +413,4 @@ module _ (r : Run) (i : WellFormed (r .world)) (inv : InvOf (r .world) (r .facts
   event-answer (on e) = driver-answer e
 
   pub exact-at : ExactAt r
-  exact-at = record { answer = event-answer; most = write-most w i; room = write-room w i }
+  exact-at = record { answer = event-answer; rest = λ e. event-ok r i inv e .rest; most = write-most w i; room = write-room w i }

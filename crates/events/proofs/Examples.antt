@@ -17,7 +17,7 @@ use Rattle.events.specs.Submit.{args6}
 use Rattle.events.specs.Wake.{cancelEntry}
 use Rattle.events.specs.Replies.{intoRegularOf, callGenericOf, noticeOf, schemeLocal, external, failed, kopenatOf, kdupOf}
 use Rattle.events.specs.Event.{hostPut, reserve, submit, call, generic, stdfs, fmap, close, detach, wake, read, write, move, supply, Event, hostOpen, hostCopy, hostEnded, on}
-use Rattle.events.specs.History.{to, end, gave, took, serve, block, break, pass, filled}
+use Rattle.events.specs.History.{to, end, gave, took, serve, block, interrupt, pass, filled}
 use Rattle.events.specs.Examples.{line, linesOf, factsOf, countsOf, leaves, callBy, completion, woke, more}
 
 -- The accident: a killed dosing call keeps its slot until its driver has replied, and the late reply serves it, not the valve call.
@@ -57,7 +57,7 @@ accident-facts :
     ∷ to 0 (serve 4 0 (success 0 0 false))
     ∷ to 1 took
     ∷ to 1 (gave false 200)
-    ∷ to 0 break
+    ∷ to 0 interrupt
     ∷ to 0 took
     ∷ to 0 (gave false 100)
     ∷ []

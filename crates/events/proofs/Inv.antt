@@ -22,7 +22,7 @@ use Rattle.table.specs.Reached.{Linked}
 use Rattle.table.specs.Table.{noSlot, slotAt}
 use Rattle.events.specs.Outcome.{Response}
 use Rattle.events.specs.Wake.{responseOf}
-use Rattle.events.specs.History.{What, Fact, to, end, gave, took, serve, block, break, pass, filled, Stage, free, reserved, waits, replied, mapping, Call, change, marked, onto, book}
+use Rattle.events.specs.History.{What, Fact, to, end, gave, took, serve, block, interrupt, pass, filled, Stage, free, reserved, waits, replied, mapping, Call, change, marked, onto, book}
 use Rattle.events.specs.Demand3.{Every, needs, fair, sum}
 use Rattle.events.specs.Exactly.{relisted, vacantTags}
 use Rattle.events.proofs.Sane.{unwoken}
@@ -75,7 +75,7 @@ module _ (s : Shape) (h : List Fact) (i : Inv s h) (n : ℕ) where
   -- something happens to tag n, and its slot changes to v
   happened :
       (x : What) (v : Slot) (s' : Shape) → Stored s n v (relisted x n (call .ended)) s' → core v ≡ wanted (change x call)
-      → Balance (s' .held) (to n x ∷ h) → needs x (call .stage) → Inv s' (to n x ∷ h)
+      → Balance (s' .held) (to n x ∷ h) → call .stage ≡ needs x → Inv s' (to n x ∷ h)
   happened x v s' t c b f =
       record { fits = λ m. go m (ℕ-discrete n m); chain = t .chain (vacantTags h) (i .chain); balance = b; every = (f, i .every) }
     where
@@ -119,12 +119,12 @@ module _ (s : Shape) (h : List Fact) (i : Inv s h) (n : ℕ) where
 
   -- a wake of it is refused with EINTR
   pub inv-break :
-      (span : PageSpan) (s' : Shape) → Stored s n (interruptedOf (s .look n) span) (λ l. l) s' → phaseOf (s .look n) ≡ Waiting → Inv s' (to n break ∷ h)
+      (span : PageSpan) (s' : Shape) → Stored s n (interruptedOf (s .look n) span) (λ l. l) s' → phaseOf (s .look n) ≡ Waiting → Inv s' (to n interrupt ∷ h)
   inv-break span s' t p =
       let g = in-stage Waiting p in
-      happened break (interruptedOf (s .look n) span) s' t
+      happened interrupt (interruptedOf (s .look n) span) s' t
       (ap (λ (q : Phase). coreBy q (interruptedOf (s .look n) span)) p ∙ ap (λ (k : Core). waiting (callerIs k) true (endedIs k) true) (in-phase Waiting waits p g)
-      ∙ ap (λ (b : Bool). waiting (call .caller) b (call .ended) true) (sym (or-true (call .waited)))
+      ∙ ap (λ (b : Bool). waiting (call .caller) b (call .ended) true) (sym (or-true (call .wasBlocked)))
       ∙ sym (ap (λ (j : Stage). dress j (marked false true false call)) g))
       (omega (arith, i .balance, t .sum, held-is (s .look n) Waiting p, held-is (interruptedOf (s .look n) span) Waiting p)) g
 

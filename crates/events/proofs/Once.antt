@@ -13,10 +13,10 @@ use Rattle.schemev2.specs.declared.CqeOpcode.{CqeOpcode}
 use Rattle.schemev2.specs.declared.CqeOpcode.the-variants.{RespondRegular, RespondWithFd, SendFevent, ObtainFd, RespondWithMultipleFds, RespondAndNotifyOnDetach, Unknown}
 use Rattle.schemev2.specs.Entry.{kindOf, cqeOpcodeOf}
 use Rattle.events.specs.World.{World, slotIn}
-use Rattle.events.specs.Outcome.{Response, success, Answer, ok, no, wait, blocked, reply, onAnswer, onOk}
+use Rattle.events.specs.Outcome.{Response, success, Answer, ok, no, wait, blocked, reply, onOk}
 use Rattle.events.specs.Entry.{responseTo}
 use Rattle.events.specs.Event.{DriverEvent, hostPut, reserve, submit, call, generic, stdfs, fmap, close, detach, wake, read, write, move, obtain, supply, Event, hostOpen, hostCopy, hostDrop, hostEnded, on}
-use Rattle.events.specs.History.{What, Fact, to, end, gave, took, serve, block, break, pass, filled, Stage, free, reserved, waits, replied, mapping, Call, change, book, View, tells, sends, wakes, reads, writes, moves, supplies, viewOf, entryAt, afterEntries, offers, served, poured, news}
+use Rattle.events.specs.History.{What, Fact, to, end, gave, took, serve, block, interrupt, pass, filled, Stage, free, reserved, waits, replied, mapping, Call, change, book, View, tells, sends, wakes, reads, writes, moves, supplies, viewOf, entryAt, afterEntries, offers, served, poured, woke, supplied, news}
 use Rattle.events.specs.Demand3.{needs, fair, Every, Some, apart, source, sourced, onReply, sum}
 use Rattle.events.proofs.Stage.{num}
 use Rattle.events.proofs.Sane.{either, at-tag}
@@ -41,18 +41,18 @@ done-served false r = refl
 abbrev Grows : Call → Call → Type 0
 Grows k j = (k .lap ≤ j .lap) × (j .lap ≡ k .lap → done (k .stage) ≡ 1 → done (j .stage) ≡ 1)
 
-grows-by : (x : What) (k : Call) → needs x (k .stage) → Grows k (change x k)
+grows-by : (x : What) (k : Call) → k .stage ≡ needs x → Grows k (change x k)
 grows-by (gave m c) k q = (omega arith, λ e. absurd (omega arith))
 grows-by took k q = (omega arith, λ e s. absurd (omega (arith, s, ap done q)))
 grows-by (serve i j r) k q = (omega arith, λ e s. done-served (k .ended) r)
 grows-by block k q = (omega arith, λ e s. s)
-grows-by break k q = (omega arith, λ e s. s)
+grows-by interrupt k q = (omega arith, λ e s. s)
 grows-by (pass r) k q = (omega arith, λ e s. refl)
 grows-by filled k q = (omega arith, λ e s. refl)
 
 grows : (f : Fact) (h : List Fact) → fair h f → (n : ℕ) → Grows (book h n) (book (f ∷ h) n)
 grows (to t x) h q n =
-    either (Grows (book h n)) (eqb t n) _ (book h n) (λ b. grows-by x (book h n) (subst (needs x) (at-tag h t n (λ (k : Call). k .stage) b) q)) (omega arith, λ e s. s)
+    either (Grows (book h n)) (eqb t n) _ (book h n) (λ b. grows-by x (book h n) (sym (at-tag h t n (λ (k : Call). k .stage) b) ∙ q)) (omega arith, λ e s. s)
 grows (end c) h q n = (omega arith, λ e s. s)
 
 -- the call that an accepted entry served is, in its lap, served ever after
@@ -94,7 +94,7 @@ eventIn (gave m c) = 0
 eventIn took = 0
 eventIn (serve i j r) = i
 eventIn block = 0
-eventIn break = 0
+eventIn interrupt = 0
 eventIn (pass r) = 0
 eventIn filled = 0
 
@@ -103,7 +103,7 @@ entryIn (gave m c) = 0
 entryIn took = 0
 entryIn (serve i j r) = j
 entryIn block = 0
-entryIn break = 0
+entryIn interrupt = 0
 entryIn (pass r) = 0
 entryIn filled = 0
 
@@ -214,35 +214,40 @@ module _ (e : ℕ) where
   view-quiet (hostEnded c) = λ v. refl
   view-quiet (on d) = driver-quiet d
 
-  on-answer :
-      (P : List Fact → Type 0) (a : Answer) (f g : ℕ → List Fact) (x y : List Fact) (z : Response → List Fact)
-      → ((v : ℕ) → P (f v)) → ((k : ℕ) → P (g k)) → P x → P y → ((r : Response) → P (z r)) → P (onAnswer a f g x y z)
-  on-answer P (ok v) f g x y z pf pg px py pz = pf v
-  on-answer P (no k) f g x y z pf pg px py pz = pg k
-  on-answer P wait f g x y z pf pg px py pz = px
-  on-answer P blocked f g x y z pf pg px py pz = py
-  on-answer P (reply r) f g x y z pf pg px py pz = pz r
+  -- an accepted event tells fs of its value, any other nothing
+  on-ok : (a : Answer) (f : ℕ → List Fact) (h : List Fact) → ((v : ℕ) → Later (f v ++ h)) → Later h → Later (onOk a f [] ++ h)
+  on-ok (ok v) f h p q = p v
+  on-ok (no k) f h p q = q
+  on-ok wait f h p q = q
+  on-ok blocked f h p q = q
+  on-ok (reply r) f h p q = q
 
   on-test : (P : List Fact → Type 0) (b : Bool) (g h : List Fact) → P g → P h → P (cond b g h)
   on-test P true g h p r = p
   on-test P false g h p r = r
 
+  woke-sorted : (n : ℕ) (a : Answer) (h : List Fact) → Sorted e 0 h → Later (woke n a ++ h)
+  woke-sorted n (ok v) h s = up 0 h s
+  woke-sorted n (no k) h s = on-test (λ fs. Later (fs ++ h)) (eqb k 4) _ [] (over (to n interrupt ∷ []) h refl s) (up 0 h s)
+  woke-sorted n wait h s = up 0 h s
+  woke-sorted n blocked h s = over (to n block ∷ []) h refl s
+  woke-sorted n (reply r) h s = over (to n (pass r) ∷ []) h refl s
+
+  supplied-sorted : (n : ℕ) (a : Answer) (h : List Fact) → Sorted e 0 h → Later (supplied n a ++ h)
+  supplied-sorted n (ok v) h s = over (to n filled ∷ []) h refl s
+  supplied-sorted n (no k) h s = on-test (λ fs. Later (fs ++ h)) (eqb k 3) _ [] (over (to n filled ∷ []) h refl s) (up 0 h s)
+  supplied-sorted n wait h s = up 0 h s
+  supplied-sorted n blocked h s = up 0 h s
+  supplied-sorted n (reply r) h s = up 0 h s
+
   news-sorted : (v : View) (w : World) (a : Answer) (h : List Fact) → Quiet v → Sorted e 0 h → Later (news e w v a ++ h)
-  news-sorted (tells f) w a h z s =
-      on-answer (λ fs. Later (fs ++ h)) a f _ [] [] _ (λ v. over (f v) h (z v) s) (λ k. up 0 h s) (up 0 h s) (up 0 h s) (λ r. up 0 h s)
-  news-sorted (sends f x flags) w a h z s =
-      on-answer (λ fs. Later (fs ++ h)) a f _ [] [] _ (λ v. over (f v) h (z v) s) (λ k. up 0 h s) (up 0 h s) (up 0 h s) (λ r. up 0 h s)
-  news-sorted (wakes n c killed span) w a h z s =
-      on-answer (λ fs. Later (fs ++ h)) a _ _ [] _ _ (λ v. up 0 h s)
-      (λ k. on-test (λ fs. Later (fs ++ h)) (eqb k 4) _ [] (over (to n break ∷ []) h refl s) (up 0 h s)) (up 0 h s) (over (to n block ∷ []) h refl s)
-      (λ r. over (to n (pass r) ∷ []) h refl s)
+  news-sorted (tells f) w a h z s = on-ok a f h (λ v. over (f v) h (z v) s) (up 0 h s)
+  news-sorted (sends f x flags) w a h z s = on-ok a f h (λ v. over (f v) h (z v) s) (up 0 h s)
+  news-sorted (wakes n c killed span) w a h z s = woke-sorted n a h s
   news-sorted reads w a h z s = up 0 h s
   news-sorted (writes words bs) w a h z s = let m = onOk a (λ v. v / 16) 0 in up m (poured e bs w m ++ h) (poured-sorted m bs w h s)
   news-sorted (moves ds) w a h z s = up 0 h s
-  news-sorted (supplies n) w a h z s =
-      let full = over (to n filled ∷ []) h refl s in
-      on-answer (λ fs. Later (fs ++ h)) a _ _ [] [] _ (λ v. full) (λ k. on-test (λ fs. Later (fs ++ h)) (eqb k 3) _ [] full (up 0 h s)) (up 0 h s) (up 0 h s)
-      (λ r. up 0 h s)
+  news-sorted (supplies n) w a h z s = supplied-sorted n a h s
 
   pub event-sorted : (x : Event) (w : World) (a : Answer) (h : List Fact) → Sorted e 0 h → Later (news e w (viewOf x) a ++ h)
   event-sorted x w a h s = news-sorted (viewOf x) w a h (view-quiet x) s
@@ -290,7 +295,7 @@ come-by (serve i j v) t n h b o r e = go (book h n .ended) e
     go true e = absurd (omega (arith, ap num e))
     go false e = inl (i, j, λ z. to (eqb-true t n b z) (serve i j (ap replyIn e z)), refl)
 come-by block t n h b o r e = inr (o r e)
-come-by break t n h b o r e = inr (o r e)
+come-by interrupt t n h b o r e = inr (o r e)
 come-by (pass v) t n h b o r e = absurd (omega (arith, ap num e))
 come-by filled t n h b o r e = absurd (omega (arith, ap num e))
 

@@ -6,7 +6,7 @@ use mathlib.Core.List.{List, [], _∷_}
 use native.Mathlib.Omega.{arith}
 use lib.Dec.{eqb}
 use borrow.Author.Tests.{eqb-true}
-use Rattle.events.specs.History.{What, Fact, to, end, gave, took, serve, block, break, pass, filled, free, reserved, replied, Call, change, book}
+use Rattle.events.specs.History.{What, Fact, to, end, gave, took, serve, block, interrupt, pass, filled, free, reserved, replied, Call, change, book}
 use Rattle.events.specs.Demand3.{needs, fair, Every}
 use Rattle.events.proofs.Stage.{num}
 
@@ -21,29 +21,23 @@ at-tag h t n f b = ap (λ (m : ℕ). f (book h m)) (eqb-true t n b)
 
 -- what is not submitted was not woken either
 abbrev Unwoken : Call → Type 0
-Unwoken k = k .stage ≡ reserved → (k .waited ≡ false) × (k .returned ≡ false)
+Unwoken k = k .stage ≡ reserved → (k .wasBlocked ≡ false) × (k .returned ≡ false)
 
-unwoken-by : (x : What) (k : Call) → needs x (k .stage) → Unwoken k → Unwoken (change x k)
+unwoken-by : (x : What) (k : Call) → k .stage ≡ needs x → Unwoken k → Unwoken (change x k)
 unwoken-by (gave m c) k q u = λ e. (refl, refl)
 unwoken-by took k q u = λ e. absurd (omega (arith, ap num e))
 unwoken-by (serve i j r) k q u = go (k .ended)
   where
-    go : (b : Bool) → cond b free (replied r) ≡ reserved → (k .waited ≡ false) × (k .returned ≡ false)
+    go : (b : Bool) → cond b free (replied r) ≡ reserved → (k .wasBlocked ≡ false) × (k .returned ≡ false)
     go true e = absurd (omega (arith, ap num e))
     go false e = absurd (omega (arith, ap num e))
 unwoken-by block k q u = λ e. absurd (omega (arith, ap num (sym q ∙ e)))
-unwoken-by break k q u = λ e. absurd (omega (arith, ap num (sym q ∙ e)))
+unwoken-by interrupt k q u = λ e. absurd (omega (arith, ap num (sym q ∙ e)))
 unwoken-by (pass r) k q u = λ e. absurd (omega (arith, ap num e))
 unwoken-by filled k q u = λ e. absurd (omega (arith, ap num e))
 
 pub unwoken : (h : List Fact) → Every fair h → (n : ℕ) → Unwoken (book h n)
 unwoken [] e n = λ q. (refl, refl)
 unwoken (to t x ∷ h) e n =
-    either Unwoken (eqb t n) _ _ (λ b. unwoken-by x (book h n) (subst-needs b) (unwoken h (e .1) n)) (unwoken h (e .1) n)
-  where
-    subst-needs : eqb t n ≡ true → needs x (book h n .stage)
-    subst-needs b = let p = at-tag h t n (λ (k : Call). k .stage) b in here x p (e .0)
-      where
-        here : (x : What) → book h t .stage ≡ book h n .stage → needs x (book h t .stage) → needs x (book h n .stage)
-        here x p q = rw (sym p) q
+    either Unwoken (eqb t n) _ _ (λ b. unwoken-by x (book h n) (sym (at-tag h t n (λ (k : Call). k .stage) b) ∙ e .0) (unwoken h (e .1) n)) (unwoken h (e .1) n)
 unwoken (end c ∷ h) e n = unwoken h (e .1) n

@@ -77,7 +77,7 @@ readsIs (mapped c e) = success 0 0 false
 abbrev pub dress : Stage → Call → Core
 dress free k = vacant
 dress reserved k = placeholder (k .caller) (k .ended)
-dress waits k = waiting (k .caller) (k .waited || k .returned) (k .ended) (k .returned)
+dress waits k = waiting (k .caller) (k .wasBlocked || k .returned) (k .ended) (k .returned)
 dress (replied r) k = responded (k .caller) (k .ended) (k .returned) r
 dress mapping k = mapped (k .caller) (k .ended)
 

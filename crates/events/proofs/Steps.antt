@@ -31,7 +31,7 @@ use Rattle.wait_queue.specs.Queue.{unread, sentIf, placeOf}
 use Rattle.wait_queue.proofs.Unread.{unread-more, unread-sent, unread-removed}
 use Rattle.wait_queue_receive.specs.Receive.{copied, emptyBy, receivedIf, receiveAnswer}
 use Rattle.events.specs.World.{World, tableOf, holdsOf, handlesOf, queueOf, slotIn, phaseIn, withTable, withQueue, queueFull, queued, unreadIn}
-use Rattle.events.specs.Outcome.{Answer, ok, no, onOk, Outcome, outcome, reply, valued, answered, refuse, checked}
+use Rattle.events.specs.Outcome.{Answer, ok, no, isReply, onOk, Outcome, outcome, reply, valued, answered, refuse, checked}
 use Rattle.events.specs.Submit.{badOpcode, badList, longList, isPlaceholder, submittable, tableFull, reserveRows, reserved, takenHolds, begun, callRows, genericRows, stdfsRows, fmapRows, queueRows, notified, submitEntry, callEntry, genericEntry, stdMeta, fmapEntry, closeEntry, detachEntry}
 use Rattle.events.specs.Wake.{responseOf, cancelEntry, blockedBy, waitedBy, wokenBy, wakeable, wakeRows}
 use Rattle.events.specs.Entry.{isWaiting}
@@ -40,7 +40,8 @@ use Rattle.events.specs.Descriptors.{requestOf, requestRows, listRows, b
 use Rattle.events.specs.Supply.{wrongPages, suppliedAs, suppliedBy}
 use Rattle.events.specs.Event.{DriverEvent, hostPut, reserve, submit, call, generic, stdfs, fmap, close, detach, wake, read, write, move, obtain, supply, Event, hostOpen, hostCopy, hostDrop, hostEnded, on, step}
 use Rattle.events.specs.History.{Fact, to, end, gave, took, filled, Stage, free, reserved as held-back, waits, replied, mapping, Call, book, View, tells, sends, wakes, reads, writes, moves, supplies, viewOf, poured, news}
-use Rattle.events.specs.Demand3.{Right, owes, due, cancelBytes, wakesFor}
+use Rattle.events.specs.Demand3.{Right, owes, due, cancelBytes}
+use Rattle.events.specs.Effects.{Rest, wakesFor}
 use Rattle.events.specs.Run.{Run}
 use Rattle.events.specs.WellFormed.{WellFormed}
 use Rattle.events.proofs.Checked.{checked-cases}
@@ -49,13 +50,13 @@ use Rattle.events.proofs.Entries.{InvOf, Same, in-range, same-core, wai
 use Rattle.events.proofs.Inv.{Inv, in-stage, in-phase, replied-is, inv-same, inv-gave, inv-asked, inv-took, inv-block, inv-break, inv-pass, inv-filled, inv-end}
 use Rattle.events.proofs.Stage.{Core, StageIn, clash, callerIs, cancelingIs, endedIs, returnedIs}
 use Rattle.events.proofs.Stored.{Shape, shape, holding, stored-over, put-stored, vacate-stored, give-stored}
-use Rattle.events.proofs.Writes.{hands, write-ok}
+use Rattle.events.proofs.Writes.{write-ok}
 
-valued-hands : (vs : List ℕ) → hands (valued vs) ≡ false
+valued-hands : (vs : List ℕ) → isReply (valued vs) ≡ false
 valued-hands [] = refl
 valued-hands (v ∷ vs) = refl
 
-answered-hands : (a : numbered.Answer) → hands (answered a) ≡ false
+answered-hands : (a : numbered.Answer) → isReply (answered a) ≡ false
 answered-hands (numbered.success vs) = valued-hands vs
 answered-hands (numbered.refused n) = refl
 answered-hands numbered.waits = refl
@@ -84,6 +85,10 @@ or-split : (a b : Bool) → b ≡ false → a || b ≡ a
 or-split true b q = refl
 or-split false b q = q
 
+-- the first time, and not again
+once : (b x : Bool) (l : List ℕ) → b ≡ x → cond (not x) l [] ≡ cond (not b) l []
+once b x l q = ap (λ (y : Bool). cond (not y) l []) (sym q)
+
 -- an entry is queued
 module _ (w : World) (whole : WellFormed w) (room : queueFull w ≡ false) where
   sent : (e : Sqe) → unreadIn (queued w e) ≡ unread (record { first = queueOf w .first; len = queueOf w .len + 1 }) (sets (w .words) (placeOf (queueOf w)) (sqeWords e))
@@ -102,6 +107,7 @@ pub record Ok (r : Run) (e : Event) (v : View) (o : Outcome) : Type 0 where
   pub right :
       Right (record { number = r .number; past = r .facts; before = r .world; event = e; outcome = o })
       (owes (record { number = r .number; past = r .facts; before = r .world; event = e; outcome = o }) v)
+  pub rest : Rest (record { number = r .number; past = r .facts; before = r .world; event = e; outcome = o }) v
 
 module _ (r : Run) (whole : WellFormed (r .world)) (i : InvOf (r .world) (r .facts)) where
   abbrev w : World
@@ -119,10 +125,10 @@ module _ (r : Run) (whole : WellFormed (r .world)) (i : InvOf (r .world) (r .fac
 
   -- an event that queues nothing and tells fs where it is accepted
   plain-ok :
-      (e : Event) (f : ℕ → List Fact) (a : Answer) (u : World) → InvOf u (onOk a f [] ++ h) → hands a ≡ false → Same w u
+      (e : Event) (f : ℕ → List Fact) (a : Answer) (u : World) → InvOf u (onOk a f [] ++ h) → isReply a ≡ false → Same w u
       → Ok r e (tells f) (outcome a [] u)
   plain-ok e f a u j b s =
-      record { inv = j; right = record { hand = b; queue = s .queue ∙ still; bytes = refl; effects = refl; scheme = s .scheme } }
+      record { inv = j; right = record { hand = b; queue = s .queue ∙ still }; rest = record { bytes = refl; effects = refl; scheme = s .scheme } }
 
   -- the host's events
   host-ok : (e : Event) (a : numbered.Answer) (u : World) → InvOf u h → Same w u → Ok r e (tells (λ v. [])) (outcome (answered a) [] u)
@@ -132,7 +138,7 @@ module _ (r : Run) (whole : WellFormed (r .world)) (i : InvOf (r .world) (r .fac
   turned-down e f k = plain-ok e f (no k) w i refl (record { queue = refl; scheme = refl })
 
   unsent : (e : Event) (f : ℕ → List Fact) (s : ℕ → Sqe) (flags k : ℕ) → Ok r e (sends f s flags) (refuse w k)
-  unsent e f s flags k = record { inv = i; right = record { hand = refl; queue = still; bytes = refl; effects = refl; scheme = refl } }
+  unsent e f s flags k = record { inv = i; right = record { hand = refl; queue = still }; rest = record { bytes = refl; effects = refl; scheme = refl } }
 
   -- the first of the chain is vacant and in range
   module _ (full : tableFull w ≡ false) where
@@ -159,7 +165,8 @@ module _ (r : Run) (whole : WellFormed (r .world)) (i : InvOf (r .world) (r .fac
     sent-ok e c fds g s room =
         record {
           inv = begun-inv c fds g s;
-          right = record { hand = refl; queue = queue-more w whole room (s (tableOf w .head)); bytes = refl; effects = refl; scheme = refl };
+          right = record { hand = refl; queue = queue-more w whole room (s (tableOf w .head)) };
+          rest = record { bytes = refl; effects = refl; scheme = refl };
         }
 
   reserve-ok : (c : ℕ) → Ok r (on (reserve c)) (viewOf (on (reserve c))) (step w (on (reserve c)))
@@ -195,10 +202,8 @@ module _ (r : Run) (whole : WellFormed (r .world)) (i : InvOf (r .world) (r .fac
                 record {
                   hand = refl;
                   queue = unread-more (queueOf w) (w .words) (submitEntry n op fl args pid) (leb-false 128 (queueOf w .len) qy) (whole .words);
-                  bytes = refl;
-                  effects = refl;
-                  scheme = refl;
                 };
+            rest = record { bytes = refl; effects = refl; scheme = refl };
           })
 
   fmap-ok : (c id pages flags uid gid pid : ℕ) → Ok r (on (fmap c id pages flags uid gid pid)) (viewOf (on (fmap c id pages flags uid gid pid))) (step w (on (fmap c id pages flags uid gid pid)))
@@ -210,21 +215,15 @@ module _ (r : Run) (whole : WellFormed (r .world)) (i : InvOf (r .world) (r .fac
         inv =
             inv-asked t h i (tableOf w .head) c (shape (givenOut (tableOf w) (mapRequestOf c)))
             (give-stored (tableOf w) (whole .slots) (mapRequestOf c) (first-in (f .0))) (first-vacant (f .0));
-        right =
-            record {
-              hand = refl;
-              queue = queue-more w whole (f .1 .0) (fmapEntry id pages flags uid gid pid (tableOf w .head));
-              bytes = refl;
-              effects = refl;
-              scheme = refl;
-            };
+        right = record { hand = refl; queue = queue-more w whole (f .1 .0) (fmapEntry id pages flags uid gid pid (tableOf w .head)) };
+        rest = record { bytes = refl; effects = refl; scheme = refl };
       })
 
   -- an entry of its own
   notified-ok : (e : Event) (flags : ℕ) (s : Sqe) → Ok r e (sends (λ v. []) (λ v. s) flags) (checked (refuse w) (queueRows w) (notified w flags s))
   notified-ok e flags s =
       checked-cases (Ok r e (sends (λ v. []) (λ v. s) flags)) (refuse w) (queueRows w) (notified w flags s) (unsent _ _ _ _)
-      (λ f. record { inv = i; right = record { hand = refl; queue = queue-more w whole (f .0) s; bytes = refl; effects = refl; scheme = refl } })
+      (λ f. record { inv = i; right = record { hand = refl; queue = queue-more w whole (f .0) s }; rest = record { bytes = refl; effects = refl; scheme = refl } })
 
   module _ (n c killed base count : ℕ) where
     abbrev woken : Event
@@ -252,7 +251,7 @@ module _ (r : Run) (whole : WellFormed (r .world)) (i : InvOf (r .world) (r .fac
 
     refused-ok : (m : ℕ) → eqb m 4 ≡ false → owed-reply ≡ false → Ok r woken (viewOf woken) (refuse w m)
     refused-ok m z d =
-        record { inv = rw z i; right = record { hand = sym d; queue = still; bytes = refl; effects = refl; scheme = refl } }
+        record { inv = rw z i; right = record { hand = sym d; queue = still }; rest = record { bytes = refl; effects = refl; scheme = refl } }
 
     stage : (p : Phase) → phaseIn w n ≡ p → StageIn p (k .stage)
     stage p q = in-stage t h i n p q
@@ -271,36 +270,38 @@ module _ (r : Run) (whole : WellFormed (r .world)) (i : InvOf (r .world) (r .fac
       not-due = ap (λ (s : Stage). due s k c killed) (stage Waiting p)
 
       -- cancelling is having waited, since the call has not returned
-      pub waited-is : k .waited ≡ slotIn w n .canceling
+      pub waited-is : k .wasBlocked ≡ slotIn w n .canceling
       waited-is =
           let e = in-phase t h i n Waiting waits p (stage Waiting p) in
           let b = both (eqb (slotIn w n .caller) c) (not (slotIn w n .ended) && not (slotIn w n .returned)) y in
           let f = both (not (slotIn w n .ended)) (not (slotIn w n .returned)) (b .1) in
           let z : k .returned ≡ false = ap returnedIs (sym e) ∙ not-true (slotIn w n .returned) (f .1) in
-          sym (or-split (k .waited) (k .returned) z) ∙ ap cancelingIs (sym e)
+          sym (or-split (k .wasBlocked) (k .returned) z) ∙ ap cancelingIs (sym e)
 
       inside : n < 64
       inside = in-range w n Waiting p refl
 
       block-go : (a b : Bool) → slotIn w n .canceling ≡ a → queueFull w ≡ b → Ok r woken (viewOf woken) (blockedBy a b w n)
       block-go true b qa qb =
-          let z : k .waited ≡ true = waited-is ∙ qa in
+          let z : k .wasBlocked ≡ true = waited-is ∙ qa in
           record {
             inv =
                 inv-block t h i n t
                 (record { here = same; there = λ m o. refl; sum = ap (λ (v : Slot). t .held + holding v) same; chain = λ l p. p }) p;
-            right = rw z (record { hand = sym not-due; queue = still; bytes = refl; effects = refl; scheme = refl });
+            right = rw z (record { hand = sym not-due; queue = still });
+            rest = record { bytes = refl; effects = once (k .wasBlocked) _ _ z; scheme = refl };
           }
         where
           same : slotIn w n ≡ canceledOf (slotIn w n)
           same = λ z. record { state = slotIn w n .state; caller = slotIn w n .caller; canceling = qa z; ended = slotIn w n .ended; returned = slotIn w n .returned; span = slotIn w n .span; reply = slotIn w n .reply; fds = slotIn w n .fds }
       block-go false true qa qb = refused-ok 203 refl not-due
       block-go false false qa qb =
-          let z : k .waited ≡ false = waited-is ∙ qa in
+          let z : k .wasBlocked ≡ false = waited-is ∙ qa in
           record {
             inv =
                 inv-block t h i n (shape (putAt (tableOf w) n (canceledOf (slotIn w n)))) (put-stored (tableOf w) (whole .slots) n (canceledOf (slotIn w n)) inside) p;
-            right = rw z (record { hand = sym not-due; queue = queue-cancel w whole qb n inside (omega arith); bytes = refl; effects = refl; scheme = refl });
+            right = rw z (record { hand = sym not-due; queue = queue-cancel w whole qb n inside (omega arith) });
+            rest = record { bytes = refl; effects = once (k .wasBlocked) _ _ z; scheme = refl };
           }
 
       wait-go : (b : Bool) → Ok r woken (viewOf woken) (waitedBy b w n span)
@@ -309,7 +310,8 @@ module _ (r : Run) (whole : WellFormed (r .world)) (i : InvOf (r .world) (r .fac
             inv =
                 inv-break t h i n span (shape (putAt (tableOf w) n (interruptedOf (slotIn w n) span)))
                 (put-stored (tableOf w) (whole .slots) n (interruptedOf (slotIn w n) span) inside) p;
-            right = record { hand = sym not-due; queue = still; bytes = refl; effects = refl; scheme = refl };
+            right = record { hand = sym not-due; queue = still };
+            rest = record { bytes = refl; effects = refl; scheme = refl };
           }
       wait-go false = block-go (slotIn w n .canceling) (queueFull w) refl refl
 
@@ -327,7 +329,8 @@ module _ (r : Run) (whole : WellFormed (r .world)) (i : InvOf (r .world) (r .fac
           inv =
               inv-pass t h i n (shape (vacateAt (tableOf w) n))
               (vacate-stored (tableOf w) (whole .slots) n (in-range w n Responded qp refl) (whole .next) (whole .chain) (ap idle qp)) qp;
-          right = record { hand = sym (slot-due qx qp ∙ qy); queue = still; bytes = refl; effects = refl; scheme = refl };
+          right = record { hand = sym (slot-due qx qp ∙ qy); queue = still };
+          rest = record { bytes = refl; effects = refl; scheme = refl };
         }
     wake-go false Fmap y qx qp qy = refused-ok 77 refl (ap (λ (s : Stage). due s k c killed) (stage Fmap qp))
 
@@ -345,30 +348,24 @@ module _ (r : Run) (whole : WellFormed (r .world)) (i : InvOf (r .world) (r .fac
           }
 
       empty : (x y z : Bool) → copied (queueOf w) len ≡ 0 → Ok r (on (read len flags)) reads (record { answer = answered (receiveAnswer (emptyBy x y z)); effects = []; bytes = take (copied (queueOf w) len) (unreadIn w); world = w })
-      empty true y z q = record { inv = i; right = record { hand = refl; queue = still; bytes = ap (λ (m : ℕ). take m (unreadIn w)) q; effects = refl; scheme = refl } }
-      empty false true z q = record { inv = i; right = record { hand = refl; queue = still; bytes = ap (λ (m : ℕ). take m (unreadIn w)) q; effects = refl; scheme = refl } }
-      empty false false true q = record { inv = i; right = record { hand = refl; queue = still; bytes = ap (λ (m : ℕ). take m (unreadIn w)) q; effects = refl; scheme = refl } }
-      empty false false false q = record { inv = i; right = record { hand = refl; queue = still; bytes = ap (λ (m : ℕ). take m (unreadIn w)) q; effects = refl; scheme = refl } }
+      empty true y z q = record { inv = i; right = record { hand = refl; queue = still }; rest = record { bytes = ap (λ (m : ℕ). take m (unreadIn w)) q; effects = refl; scheme = refl } }
+      empty false true z q = record { inv = i; right = record { hand = refl; queue = still }; rest = record { bytes = ap (λ (m : ℕ). take m (unreadIn w)) q; effects = refl; scheme = refl } }
+      empty false false true q = record { inv = i; right = record { hand = refl; queue = still }; rest = record { bytes = ap (λ (m : ℕ). take m (unreadIn w)) q; effects = refl; scheme = refl } }
+      empty false false false q = record { inv = i; right = record { hand = refl; queue = still }; rest = record { bytes = ap (λ (m : ℕ). take m (unreadIn w)) q; effects = refl; scheme = refl } }
 
       go : (b : Bool) → eqb (queueOf w .len) 0 ≡ b → Ok r (on (read len flags)) reads (readBy b)
       go true q = empty (eqb (flags / 0x4_0000 % 2) 0) (eqb len 0) (ltb len 64) (omega (arith, eqb-true (queueOf w .len) 0 q))
       go false q =
           record {
             inv = i;
-            right =
-                record {
-                  hand = refl;
-                  queue = unread-removed (queueOf w) (w .words) (copied (queueOf w) len / 64) (omega arith) ∙ sym (append-nil _);
-                  bytes = refl;
-                  effects = refl;
-                  scheme = refl;
-                };
+            right = record { hand = refl; queue = unread-removed (queueOf w) (w .words) (copied (queueOf w) len / 64) (omega arith) ∙ sym (append-nil _) };
+            rest = record { bytes = refl; effects = refl; scheme = refl };
           }
 
   write-event-ok : (words : ℕ) (bs : List ℕ) → Ok r (on (write words bs)) (writes words bs) (step w (on (write words bs)))
   write-event-ok words bs =
       checked-cases (Ok r (on (write words bs)) (writes words bs)) (refuse w) (writeRows words bs) (writeOn w (entriesOf bs) 0 [])
-      (λ m. record { inv = i; right = record { hand = refl; queue = still; bytes = refl; effects = refl; scheme = refl } })
+      (λ m. record { inv = i; right = record { hand = refl; queue = still }; rest = record { bytes = refl; effects = refl; scheme = refl } })
       (λ f.
       let o = write-ok r bs whole i (length bs / 16) in
       record {
@@ -377,10 +374,8 @@ module _ (r : Run) (whole : WellFormed (r .world)) (i : InvOf (r .world) (r .fac
             record {
               hand = o .hand;
               queue = o .same .queue ∙ still;
-              bytes = o .bytes;
-              effects = o .wakes ∙ ap (λ (m : ℕ). wakesFor h (poured (r .number) bs w m)) (sym (o .counted));
-              scheme = o .same .scheme;
             };
+        rest = record { bytes = o .bytes; effects = o .wakes ∙ ap (λ (m : ℕ). wakesFor h (poured (r .number) bs w m)) (sym (o .counted)); scheme = o .same .scheme };
       })
 
   -- another list in a Waiting slot
@@ -394,14 +389,15 @@ module _ (r : Run) (whole : WellFormed (r .world)) (i : InvOf (r .world) (r .fac
   move-ok : (ms ds : List ℕ) → Ok r (on (move ms ds)) (moves ds) (step w (on (move ms ds)))
   move-ok ms ds =
       checked-cases (Ok r (on (move ms ds)) (moves ds)) (refuse w) (listRows w ds) (checked (refuse (broughtBack w ds)) (requestRows w 1 ms) (moved w (requestOf ms) ds))
-      (λ m. record { inv = i; right = record { hand = refl; queue = still; bytes = refl; effects = refl; scheme = refl } })
+      (λ m. record { inv = i; right = record { hand = refl; queue = still }; rest = record { bytes = refl; effects = refl; scheme = refl } })
       (λ f.
       checked-cases (Ok r (on (move ms ds)) (moves ds)) (refuse (broughtBack w ds)) (requestRows w 1 ms) (moved w (requestOf ms) ds)
-      (λ m. record { inv = i; right = record { hand = refl; queue = still; bytes = refl; effects = refl; scheme = refl } })
+      (λ m. record { inv = i; right = record { hand = refl; queue = still }; rest = record { bytes = refl; effects = refl; scheme = refl } })
       (λ g.
       record {
         inv = list-inv (requestOf ms) (listOf ds) (not-false _ (g .1 .0));
-        right = record { hand = refl; queue = still; bytes = refl; effects = refl; scheme = refl };
+        right = record { hand = refl; queue = still };
+        rest = record { bytes = refl; effects = refl; scheme = refl };
       }))
 
   obtain-ok : (ms : List ℕ) → Ok r (on (obtain ms)) (viewOf (on (obtain ms))) (step w (on (obtain ms)))
@@ -414,7 +410,7 @@ module _ (r : Run) (whole : WellFormed (r .world)) (i : InvOf (r .world) (r .fac
     filling = on (supply n offset base count)
 
     down : (m : ℕ) → eqb m 3 ≡ false → Ok r filling (supplies n) (refuse w m)
-    down m z = record { inv = rw z i; right = record { hand = refl; queue = still; bytes = refl; effects = refl; scheme = refl } }
+    down m z = record { inv = rw z i; right = record { hand = refl; queue = still }; rest = record { bytes = refl; effects = refl; scheme = refl } }
 
     fill-inv : phaseIn w n ≡ Fmap → InvOf (withTable w (vacateAt (tableOf w) n)) (to n filled ∷ h)
     fill-inv p =
@@ -422,8 +418,8 @@ module _ (r : Run) (whole : WellFormed (r .world)) (i : InvOf (r .world) (r .fac
         (vacate-stored (tableOf w) (whole .slots) n (in-range w n Fmap p refl) (whole .next) (whole .chain) (ap idle p)) p
 
     supplied-go : (b : Bool) → phaseIn w n ≡ Fmap → Ok r filling (supplies n) (outcome (suppliedAs b) [] (withTable w (vacateAt (tableOf w) n)))
-    supplied-go true p = record { inv = fill-inv p; right = record { hand = refl; queue = still; bytes = refl; effects = refl; scheme = refl } }
-    supplied-go false p = record { inv = fill-inv p; right = record { hand = refl; queue = still; bytes = refl; effects = refl; scheme = refl } }
+    supplied-go true p = record { inv = fill-inv p; right = record { hand = refl; queue = still }; rest = record { bytes = refl; effects = refl; scheme = refl } }
+    supplied-go false p = record { inv = fill-inv p; right = record { hand = refl; queue = still }; rest = record { bytes = refl; effects = refl; scheme = refl } }
 
     supply-go : (p : Phase) → phaseIn w n ≡ p → Ok r filling (supplies n) (suppliedBy p w n)
     supply-go Vacant e = down 22 refl

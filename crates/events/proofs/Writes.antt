@@ -22,12 +22,12 @@ use Rattle.schemev2.specs.Entry.{kindOf, extraOf, cqeOpcodeOf, cqeOf}
 use Rattle.slot.specs.declared.Phase.{Phase}
 use Rattle.slot.specs.declared.Phase.the-variants.{Vacant, Placeholder, Waiting, Responded, Fmap}
 use Rattle.events.specs.World.{World, holdsOf, handlesOf, slotIn, phaseIn}
-use Rattle.events.specs.Outcome.{Answer, ok, no, onAnswer, onOk, Outcome, outcome, Row, row, checked}
+use Rattle.events.specs.Outcome.{Answer, ok, no, isReply, onOk, Outcome, outcome, Row, row, checked}
 use Rattle.events.specs.Submit.{isPlaceholder}
 use Rattle.events.specs.Entry.{Decision, Offer, one, listed, servedBy, respondBy, inHandle, takenOut, byDescriptor, isVacant, isWaiting, obtainRows, obtained}
 use Rattle.events.specs.Complete.{Entered, accepted, rejected, worldOf, carried, entryBy, entryOf, cut, stopped, onEntered, writeOn}
 use Rattle.events.specs.History.{Fact, entryAt, afterEntries, served, poured}
-use Rattle.events.specs.Demand3.{wakesFor, wakesIn}
+use Rattle.events.specs.Effects.{wakesFor, wakesIn}
 use Rattle.events.specs.Run.{Run}
 use Rattle.events.specs.WellFormed.{WellFormed}
 use Rattle.events.specs.Exactly.{ruled, isDue, respondRows, entryRowsBy, entryRows, goodEntries, firstRows}
@@ -50,9 +50,6 @@ ruled-checked f turn bad (r ∷ rs) o = go (r .due) (ruled-checked f turn bad rs
 pub ruled-append : (rows rest : List Row) (a : Answer) → ruled rows (ruled rest a) ≡ ruled (rows ++ rest) a
 ruled-append [] rest a = refl
 ruled-append (r ∷ rs) rest a = ap (λ (x : Answer). cond (r .due) (no (r .number)) x) (ruled-append rs rest a)
-
-abbrev pub hands : Answer → Bool
-hands a = onAnswer a (λ v. false) (λ k. false) false false (λ r. true)
 
 -- answers told apart
 abbrev refusal : Answer → ℕ
@@ -228,7 +225,7 @@ module _ (r : Run) (bs : List ℕ) where
   pub record Wrote (j m : ℕ) (o : Outcome) : Type 0 where
     pub answer : o .answer ≡ answerAt j m
     pub counted : onOk (o .answer) (λ v. v / 16) 0 ≡ goodEntries r bs j m
-    pub hand : hands (o .answer) ≡ false
+    pub hand : isReply (o .answer) ≡ false
     pub inv : InvOf (o .world) (past (goodEntries r bs j m))
     pub same : Same (r .world) (o .world)
     pub bytes : o .bytes ≡ []
@@ -262,7 +259,7 @@ module _ (r : Run) (bs : List ℕ) where
   stopped-count zero k = refl
   stopped-count (suc j) k = sixteenth (suc j)
 
-  stopped-hands : (j k : ℕ) → hands (stopped j k) ≡ false
+  stopped-hands : (j k : ℕ) → isReply (stopped j k) ≡ false
   stopped-hands zero k = refl
   stopped-hands (suc j) k = refl
 

@@ -1,5 +1,5 @@
 -- Demand 3 (document 00) with the terms of 01's "Runs": one claim about all that a run comes to. What happened is a list of
--- facts, newest first, so that what stands behind a fact is what had happened before it.
+-- facts, newest first, so that what stands behind a fact is what had happened before it. Stored bytes and effects: Effects.antt.
 use Prim.Native.Nat.{ℕ, _+_, _*_, _/_}
 use mathlib.Core.Path.{_≡_}
 use mathlib.Core.Logic.{_⊎_}
@@ -7,16 +7,16 @@ use mathlib.Core.Bool.{Bool, true, false, not, cond, _&&_}
 use mathlib.Core.List.{List, [], _∷_, _++_}
 use lib.Count.{ones}
 use lib.Dec.{leb, eqb}
-use lib.ListN.{drop, take, replicate}
-use Rattle.flag.specs.Flags.{eventRead, sqeOneway}
+use lib.ListN.{drop, replicate}
+use Rattle.flag.specs.Flags.{sqeOneway}
 use Rattle.le.specs.Le.{bytes4, bytesOf}
 use Rattle.schemev2.specs.Entry.{sqeWords}
 use Rattle.status.specs.declared.Status.the-variants as status
 use Rattle.status.specs.Status.{isIn, wordOf}
-use Rattle.events.specs.World.{World, tableOf, schemeOf, unreadIn}
-use Rattle.events.specs.Outcome.{Response, onAnswer, onOk}
+use Rattle.events.specs.World.{World, tableOf, unreadIn}
+use Rattle.events.specs.Outcome.{Response, isReply, isBlocked, onOk}
 use Rattle.events.specs.Event.{Event}
-use Rattle.events.specs.History.{What, Fact, to, end, gave, took, serve, block, break, pass, filled, Stage, free, reserved, waits, replied, mapping, Call, book, View, tells, sends, wakes, reads, writes, moves, supplies, viewOf, news}
+use Rattle.events.specs.History.{What, Fact, to, end, gave, took, serve, block, interrupt, pass, filled, Stage, free, reserved, waits, replied, mapping, Call, book, View, tells, sends, wakes, reads, writes, moves, supplies, viewOf}
 use Rattle.events.specs.Run.{Turn, Run, turnOf, Steps}  -- Turn: one event with its number, past, state before and outcome
 
 -- every fact of a history, each with what had happened before it; some fact
@@ -28,26 +28,24 @@ abbrev pub Some : (List Fact → Fact → Type 0) → List Fact → Type 0
 Some P [] = ⊥
 Some P (f ∷ h) = P h f ⊎ Some P h
 
--- claimed, not assumed, whatever drivers write: the stage in which what happens to a tag finds its call
-abbrev pub needs : What → Stage → Type 0
+-- the stage that a tag's call is in just before this happens to it: the layer sees to it, whatever drivers write
+abbrev pub needs : What → Stage
 -- "a call's slot isn't given out again until a reply entry to it is accepted, a map request's not until map supply vacates it"
-needs (gave m c) s = s ≡ free  -- and more: not until that reply is handed over or dropped
-needs took s = s ≡ reserved  -- a call is submitted once
+needs (gave m c) = free  -- and more: not until that reply is handed over or dropped
+needs took = reserved  -- a call is submitted once
 -- an accepted reply entry "serves its tag's call, which waits"
-needs (serve i j r) s = s ≡ waits  -- by tag alone: a second reply can still reach the tag's next call
--- the layer queues its cancel message "while it waits": only a waiting call's wake is answered still blocked
-needs block s = s ≡ waits
-needs break s = s ≡ waits  -- likewise, only a waiting call's wake is refused with EINTR
--- a reply handed over is that of a served call, not handed over yet
-needs (pass r) s = s ≡ replied r
-needs filled s = s ≡ mapping  -- map supply vacates map requests alone, each once
+needs (serve i j r) = waits  -- an entry names but a tag: a driver's second entry for it can still serve the tag's next call
+needs block = waits  -- its cancel message is queued "while it waits": only a waiting call's wake is answered still blocked
+needs interrupt = waits  -- likewise, only a waiting call's wake is refused with EINTR
+needs (pass r) = replied r  -- a reply handed over is that of a served call, not handed over yet
+needs filled = mapping  -- map supply vacates map requests alone, each once
 
 abbrev pub fair : List Fact → Fact → Type 0
-fair h (to n x) = needs x (book h n .stage)  -- it found its call, as h left it, in the stage that it needs
+fair h (to n x) = book h n .stage ≡ needs x
 fair h (end c) = Unit {0}  -- a caller may end at any time
 
--- "no completion entry serves two calls, even with the same tag one after the other", and no call is served by two: of two
--- accepted reply entries, f the later, the places differ, and the calls differ too, by tag or by lap
+-- "no completion entry serves two calls, even with the same tag one after the other", and no call is served by two: f, before
+-- which h had happened, and the earlier f₀, before which h₀ had, are of two places, and of two calls, by tag or by lap
 abbrev pub apart : List Fact → Fact → List Fact → Fact → Type 0
 apart h f h₀ f₀ =
     (i i₀ j j₀ n n₀ : ℕ) (r r₀ : Response) → f ≡ to n (serve i j r) → f₀ ≡ to n₀ (serve i₀ j₀ r₀)
@@ -60,22 +58,6 @@ source n l r h₀ f₀ = (i : ℕ) × (j : ℕ) × (f₀ ≡ to n (serve i j r))
 
 abbrev pub sourced : List Fact → Fact → Type 0
 sourced h f = (n : ℕ) (r : Response) → f ≡ to n (pass r) → Some (source n (book h n .lap) r) h
-
--- what an event owes: hand-over, queue, stored bytes, effects
-pub record Owed : Type 0 where
-  pub hands : Bool  -- it hands a reply over
-  pub removes : ℕ  -- so many bytes leave the queue's front
-  pub adds : List ℕ  -- these join its end
-  pub stores : List ℕ  -- these are stored in the bytes that a read is lent
-  pub all : Bool  -- true: `makes` are all its effects; false, of a write: only its effects 1, by which callers are woken
-  pub makes : List ℕ  -- three words each
-
-abbrev pub owed : Bool → ℕ → List ℕ → List ℕ → Bool → List ℕ → Owed
-owed b n new bytes whole fx = record { hands = b; removes = n; adds = new; stores = bytes; all = whole; makes = fx }
-
--- an entry is queued: "Each entry queued here or by a wake makes effect 5 [scheme number, flags], with the Rust's flags"
-abbrev pub queuing : World → Bool → List ℕ → ℕ → Owed
-queuing w b new flags = owed b 0 new [] true (5 ∷ schemeOf w ∷ flags ∷ [])
 
 -- "a wake hands it over exactly when it is well-formed [its call's tag and caller, killed 0 or 1], its call by then served, not
 -- yet handed the reply and not returned, its caller not ended"
@@ -90,57 +72,57 @@ due mapping k c killed = false
 abbrev pub cancelBytes : ℕ → List ℕ
 cancelBytes n = (25 ∷ sqeOneway ∷ 0 ∷ 0 ∷ bytes4 n) ++ replicate 56 0
 
+-- what an event owes
+pub record Owed : Type 0 where
+  pub hands : Bool  -- whether it hands a reply over
+  pub removes : ℕ  -- so many bytes leave the queue's front
+  pub adds : List ℕ  -- these join its end
+
+abbrev pub owed : Bool → ℕ → List ℕ → Owed
+owed b n new = record { hands = b; removes = n; adds = new }
+
+-- only a wake hands over; a read takes whole entries; an accepted event queues its own entry, and a wake nothing but the Cancel:
+-- "The layer itself queues one cancel message for a call, while it waits, exactly at its first wake answered still blocked"
+abbrev pub owes : Turn → View → Owed
+owes t (tells f) = owed false 0 []
+owes t (sends f e flags) = owed false 0 (onOk (t .outcome .answer) (λ v. bytesOf (sqeWords (e v))) [])
+owes t (wakes n c killed span) =
+    let k = book (t .past) n in
+    owed (due (k .stage) k c killed) 0 (cond (isBlocked (t .outcome .answer) && not (k .wasBlocked)) (cancelBytes n) [])
+owes t reads = owed false (onOk (t .outcome .answer) (λ v. v / 64 * 64) 0) []
+owes t (writes words bs) = owed false 0 []
+owes t (moves ds) = owed false 0 []
+owes t (supplies n) = owed false 0 []
+
+pub record Right (t : Turn) (o : Owed) : Type 0 where  -- the turn's outcome is what is owed
+  pub hand : isReply (t .outcome .answer) ≡ o .hands  -- a reply exactly where due
+  pub queue : unreadIn (t .outcome .world) ≡ drop (o .removes) (unreadIn (t .before)) ++ o .adds  -- the unread bytes afterwards
+
 -- of what happens to a tag: a for an accepted reply entry, p for a hand-over, else z
 abbrev pub onReply : {A : Type 0} → What → A → A → A → A
 onReply (gave m c) a p z = z
 onReply took a p z = z
 onReply (serve i j r) a p z = a
 onReply block a p z = z
-onReply break a p z = z
+onReply interrupt a p z = z
 onReply (pass r) a p z = p
 onReply filled a p z = z
-
--- an accepted reply makes effect 1 with its call's caller and tag, a returned call's too, and none for an ended caller
-abbrev pub wakesFor : List Fact → List Fact → List ℕ
-wakesFor h [] = []
-wakesFor h (to n x ∷ fs) =
-    let k = book (fs ++ h) n in wakesFor h fs ++ onReply x (cond (k .ended) [] (1 ∷ k .caller ∷ n ∷ [])) [] []
-wakesFor h (end c ∷ fs) = wakesFor h fs
-
--- what a turn owes; a wake: "The layer itself queues one cancel message for a call, while it waits, exactly at its first wake answered still blocked"
-abbrev pub owes : Turn → View → Owed
-owes t (tells f) = owed false 0 [] [] true []  -- no reply, no bytes, no effect
-owes t (sends f e flags) =
-    onOk (t .outcome .answer) (λ v. queuing (t .before) false (bytesOf (sqeWords (e v))) flags) (owed false 0 [] [] true [])  -- accepted: its own entry
-owes t (wakes n c killed span) =
-    let b = due (book (t .past) n .stage) (book (t .past) n) c killed in
-    let none = owed b 0 [] [] true [] in  -- nothing queued, no effect; `hand` compares the answer with b
-    onAnswer (t .outcome .answer) (λ v. none) (λ k. none) none
-    (cond (book (t .past) n .waited) none (queuing (t .before) b (cancelBytes n) eventRead)) (λ r. none)  -- blocked for the first time
-owes t reads = onOk (t .outcome .answer) (λ v. owed false (v / 64 * 64) [] (take v (unreadIn (t .before))) true []) (owed false 0 [] [] true [])
-owes t (writes words bs) = owed false 0 [] [] false (wakesFor (t .past) (news (t .number) (t .before) (writes words bs) (t .outcome .answer)))
-owes t (moves ds) = owed false 0 [] [] true []  -- as `tells`
-owes t (supplies n) = owed false 0 [] [] true []
-
--- of effects, three words each, those of kind 1
-abbrev pub wakesIn : List ℕ → List ℕ
-wakesIn [] = []
-wakesIn (k ∷ []) = []
-wakesIn (k ∷ a ∷ []) = []
-wakesIn (k ∷ a ∷ b ∷ fx) = cond (eqb k 1) (k ∷ a ∷ b ∷ wakesIn fx) (wakesIn fx)
-
-pub record Right (t : Turn) (o : Owed) : Type 0 where  -- the turn's outcome is what is owed
-  pub hand : onAnswer (t .outcome .answer) (λ v. false) (λ k. false) false false (λ r. true) ≡ o .hands  -- a reply exactly where due
-  pub queue : unreadIn (t .outcome .world) ≡ drop (o .removes) (unreadIn (t .before)) ++ o .adds  -- the unread bytes afterwards
-  pub bytes : t .outcome .bytes ≡ o .stores  -- all that is stored
-  pub effects : cond (o .all) (t .outcome .effects) (wakesIn (t .outcome .effects)) ≡ o .makes  -- all, or of a write the wakes
-  pub scheme : schemeOf (t .outcome .world) ≡ schemeOf (t .before)  -- the scheme number stays
 
 -- adds up, over all that happened, a of each accepted reply entry (by its call before it) and p of each hand-over
 abbrev pub sum : (Call → ℕ) → ℕ → List Fact → ℕ
 sum a p [] = 0
 sum a p (to n x ∷ h) = onReply x (a (book h n)) p 0 + sum a p h
 sum a p (end c ∷ h) = sum a p h
+
+-- reply entries accepted; replies handed over; reply entries accepted when their call's caller had already ended
+abbrev pub accepted : List Fact → ℕ
+accepted h = sum (λ k. 1) 0 h
+
+abbrev pub handedOver : List Fact → ℕ
+handedOver h = sum (λ k. 0) 1 h
+
+abbrev pub droppedFor : List Fact → ℕ
+droppedFor h = sum (λ k. cond (k .ended) 1 0) 0 h
 
 -- still held: the count of ones in the status word Responded, one bit a slot; read from the state
 abbrev pub held : World → ℕ
@@ -151,8 +133,8 @@ pub record Demanded (r : Run) : Type 0 where
   pub entries : Every (λ h f. Every (apart h f) h) (r .facts)  -- any two accepted reply entries are apart
   pub replies : Every sourced (r .facts)  -- each reply handed over has its entry
   pub turn : (e : Event) → Right (turnOf r e) (owes (turnOf r e) (viewOf e))  -- whatever event comes next; so every event of a run, as each beginning of a run is a run
-  -- "Accepted reply entries = replies handed over + still held + dropped for ended callers" [who had ended when it was accepted]
-  pub balance : sum (λ k. 1) 0 (r .facts) ≡ sum (λ k. 0) 1 (r .facts) + (held (r .world) + sum (λ k. cond (k .ended) 1 0) 0 (r .facts))
+  -- "Accepted reply entries = replies handed over + still held + dropped for ended callers"
+  pub balance : accepted (r .facts) ≡ handedOver (r .facts) + (held (r .world) + droppedFor (r .facts))
 
 -- of every run: any scheme number, any 1,024 words lent for the queue, any events, each on the state that the last step returned
 abbrev pub Demand3 : Type 0

@@ -18,8 +18,9 @@ use Rattle.table.specs.Table.{rising}
 use Rattle.events.specs.World.{World, holdsOf, handlesOf, slotIn, unreadIn}
 use Rattle.events.specs.Outcome.{Answer, ok, no, wait, blocked, reply, Row, row}
 use Rattle.events.specs.Event.{DriverEvent, hostPut, reserve, submit, call, generic, stdfs, fmap, close, detach, wake, read, write, move, obtain, supply, Event, hostOpen, hostCopy, hostDrop, hostEnded, on, step}
-use Rattle.events.specs.History.{What, Fact, to, end, gave, took, serve, block, break, pass, filled, Stage, free, reserved, waits, replied, mapping, book, entryAt, afterEntries, poured}
-use Rattle.events.specs.Run.{Run, Steps}
+use Rattle.events.specs.History.{What, Fact, to, end, gave, took, serve, block, interrupt, pass, filled, Stage, free, reserved, waits, replied, mapping, book, viewOf, entryAt, afterEntries, poured}
+use Rattle.events.specs.Run.{Run, turnOf, Steps}
+use Rattle.events.specs.Effects.{Rest}
 
 -- the number of the first row that is due; where none is, the answer
 abbrev pub ruled : List Row → Answer → Answer
@@ -47,7 +48,7 @@ relisted (gave m c) n ended l = drop 1 l
 relisted took n ended l = l
 relisted (serve i j r) n ended l = cond ended (n ∷ l) l
 relisted block n ended l = l
-relisted break n ended l = l
+relisted interrupt n ended l = l
 relisted (pass r) n ended l = n ∷ l
 relisted filled n ended l = n ∷ l
 
@@ -191,7 +192,7 @@ driverAnswer r (wake n c killed base count) =
     ∷ row 77 (not (inState 2 (r .facts) n || inState 3 (r .facts) n))
     ∷ row 201 (not (eqb (book (r .facts) n .caller) c) || (book (r .facts) n .ended || book (r .facts) n .returned))
     ∷ row 4 (inState 2 (r .facts) n && eqb killed 1)
-    ∷ row 203 (inState 2 (r .facts) n && (not (book (r .facts) n .waited) && all128Unread (r .world)))
+    ∷ row 203 (inState 2 (r .facts) n && (not (book (r .facts) n .wasBlocked) && all128Unread (r .world)))
     ∷ [])
     (woken (book (r .facts) n .stage))
 driverAnswer r (read len flags) =
@@ -218,9 +219,10 @@ answerTo r (hostDrop d) = ruled (row 205 (lacks (r .world) 1 d) ∷ []) (ok 0)
 answerTo r (hostEnded c) = ok 0
 answerTo r (on e) = driverAnswer r e
 
--- the answer to whatever event comes next; a write's effects, 18 an entry at most, and in the words that it is lent
+-- of whatever event comes next the answer, and stored bytes, effects and scheme number; a write's effects, 18 an entry at most, and in the words that it is lent
 pub record ExactAt (r : Run) : Type 0 where
   pub answer : (e : Event) → step (r .world) e .answer ≡ answerTo r e
+  pub rest : (e : Event) → Rest (turnOf r e) (viewOf e)
   pub most : (words : ℕ) (bs : List ℕ) → length (step (r .world) (on (write words bs)) .effects) ≤ 54 * (length bs / 16)
   pub room : (words : ℕ) (bs : List ℕ) → length (step (r .world) (on (write words bs)) .effects) ≤ words
 

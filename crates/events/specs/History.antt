@@ -14,7 +14,7 @@ use Rattle.schemev2.specs.declared.Sqe.{Sqe}
 use Rattle.schemev2.specs.Entry.{kindOf, cqeOpcodeOf}
 use Rattle.slot.specs.declared.PageSpan.{PageSpan}
 use Rattle.events.specs.World.{World, handlesOf, slotIn}
-use Rattle.events.specs.Outcome.{Response, Answer, onAnswer, onOk}
+use Rattle.events.specs.Outcome.{Response, Answer, ok, no, wait, blocked, reply, onOk}
 use Rattle.events.specs.Submit.{submitEntry, callEntry, genericEntry, stdMeta, fmapEntry, closeEntry, detachEntry}
 use Rattle.events.specs.Entry.{Offer, result, one, listed, responseTo, inHandle}
 use Rattle.events.specs.Complete.{worldOf, entryOf}
@@ -25,7 +25,7 @@ pub data Stage : Type 0 where
   free : Stage  -- none yet; or handed its reply, served when its caller had already ended, or supplied
   reserved : Stage  -- a call, not submitted yet
   waits : Stage  -- from its accepted submit or `call` until a reply entry to it is accepted
-  replied : Response → Stage  -- served by an entry that reads this, not handed it yet; returned with EINTR, or its caller ended since: so for good
+  replied : Response → Stage  -- served by an entry that reads this, not handed it yet; for good, if it had returned with EINTR or its caller ended after that
   mapping : Stage  -- a map request, not supplied yet
 
 -- what happens to a tag
@@ -34,7 +34,7 @@ pub data What : Type 0 where
   took : What  -- a submit of it, or the `call` that gave it out, was accepted
   serve : (i j : ℕ) (r : Response) → What  -- a reply entry to it, entry j of event i (both from 0), was accepted and reads r
   block : What  -- a wake of it, whoever asked, was answered still blocked
-  break : What  -- a wake of it, whoever asked, was refused with EINTR
+  interrupt : What  -- a wake of it, whoever asked, was refused with EINTR
   pass : (r : Response) → What  -- a wake of it handed r over
   filled : What  -- map supply vacated it: a success or ESRCH
 
@@ -45,45 +45,45 @@ pub data Fact : Type 0 where
 pub record Call : Type 0 where  -- what is known of the call or map request that a tag was last given out for
   pub stage : Stage
   pub caller : ℕ  -- whose it is
-  pub waited : Bool  -- a wake of it was answered still blocked
+  pub wasBlocked : Bool  -- a wake of it was answered still blocked
   pub returned : Bool  -- a wake of it was refused with EINTR
   pub ended : Bool  -- its caller was reported ended since it was given out
   pub lap : ℕ  -- how often the tag had been given out, this time included; counted here alone, no tag carries it
 
--- given out once more; in another stage; with these marks set (waited, returned, ended) and the others as they were
-abbrev pub given : Stage → ℕ → Call → Call
-given s c k = record { stage = s; caller = c; waited = false; returned = false; ended = false; lap = suc (k .lap) }
+abbrev pub given : Stage → ℕ → Call → Call  -- given out once more, to caller c
+given s c k = record { stage = s; caller = c; wasBlocked = false; returned = false; ended = false; lap = suc (k .lap) }
 
-abbrev pub onto : Stage → Call → Call
-onto s k = record { stage = s; caller = k .caller; waited = k .waited; returned = k .returned; ended = k .ended; lap = k .lap }
+abbrev pub onto : Stage → Call → Call  -- in another stage
+onto s k = record { stage = s; caller = k .caller; wasBlocked = k .wasBlocked; returned = k .returned; ended = k .ended; lap = k .lap }
 
+-- with those of the three marks set that are true here (wasBlocked, returned, ended), the others as they were
 abbrev pub marked : Bool → Bool → Bool → Call → Call
 marked w r e k =
-    record { stage = k .stage; caller = k .caller; waited = w || k .waited; returned = r || k .returned; ended = e || k .ended; lap = k .lap }
+    record { stage = k .stage; caller = k .caller; wasBlocked = w || k .wasBlocked; returned = r || k .returned; ended = e || k .ended; lap = k .lap }
 
 abbrev pub change : What → Call → Call
 change (gave m c) k = given (cond m mapping reserved) c k
 change took k = onto waits k
 change (serve i j r) k = onto (cond (k .ended) free (replied r)) k  -- an ended caller's reply is dropped
 change block k = marked true false false k
-change break k = marked false true false k
+change interrupt k = marked false true false k
 change (pass r) k = onto free k
 change filled k = onto free k
 
 -- tag n's call, after what happened
 abbrev pub book : List Fact → ℕ → Call
-book [] n = record { stage = free; caller = 0; waited = false; returned = false; ended = false; lap = 0 }
+book [] n = record { stage = free; caller = 0; wasBlocked = false; returned = false; ended = false; lap = 0 }
 book (to t x ∷ h) n = cond (eqb t n) (change x (book h n)) (book h n)
 book (end c ∷ h) n = marked false false (eqb (book h n .caller) c) (book h n)  -- `given` clears it: ended since it was given out
 
--- what an event is for the claims
+-- what an event is for the claims; flags, words, span and descriptions are for Effects and Refusals, Demand3 does not look at them
 pub data View : Type 0 where
-  tells : (ℕ → List Fact) → View  -- accepted with a value v: the facts of v, newest first; else none (v is the tag of reserve, `call`, map request)
-  sends : (ℕ → List Fact) → (ℕ → Sqe) → (flags : ℕ) → View  -- the same; accepted, its entry is queued and effect 5 (the root is told) made with these flags
-  wakes : (n c killed : ℕ) (span : PageSpan) → View  -- caller c asks for tag n, killed (1) or not (0); the span is for what EINTR leaves (Refusals)
+  tells : (ℕ → List Fact) → View  -- answered ok v, the facts of v, newest first, happened; else none (v is the new tag of reserve, `call`, map request)
+  sends : (ℕ → List Fact) → (ℕ → Sqe) → (flags : ℕ) → View  -- the same; answered ok v, the entry of v is queued
+  wakes : (n c killed : ℕ) (span : PageSpan) → View  -- caller c asks for tag n, killed (1) or not (0)
   reads : View  -- the driver reads
-  writes : (words : ℕ) (bs : List ℕ) → View  -- the driver writes these bytes; words are lent for effects (Refusals)
-  moves : (ds : List ℕ) → View  -- a move that brings these descriptions (Refusals); it tells nothing
+  writes : (words : ℕ) (bs : List ℕ) → View  -- the driver writes these bytes
+  moves : (ds : List ℕ) → View  -- a move that brings these descriptions; it tells nothing
   supplies : (n : ℕ) → View  -- a map supply to tag n
 
 abbrev pub plain : View
@@ -117,7 +117,8 @@ viewOf (hostDrop d) = plain
 viewOf (hostEnded c) = tells (λ v. end c ∷ [])
 viewOf (on e) = driverView e
 
--- entry j of a write stands at byte 16 j: flags at its byte 0, extra at 1 to 3, tag at 4 to 7, result at 8 to 15, little-endian
+-- A write that is answered ok v accepted its first v / 16 entries, and each reply entry among them is a `serve` of its tag's call.
+-- Entry j stands at byte 16 j: flags at its byte 0, extra at 1 to 3, tag at 4 to 7, result at 8 to 15, little-endian
 abbrev pub entryAt : List ℕ → ℕ → Cqe
 entryAt bs j =
     record {
@@ -142,7 +143,7 @@ offers RespondWithMultipleFds w e = listed ∷ []  -- the call's own list
 offers RespondAndNotifyOnDetach w e = result (demuxOf (e .result)) (e .«extra_raw» .0) true ∷ []
 offers Unknown w e = []
 
--- what happens by entry j of event i on state w: its reading is the reply that demand 2's definition stores for it
+-- what happens by entry j of event i on state w: its reading is the reply that demand 2's definition (`responseTo`) stores for it
 abbrev pub served : ℕ → ℕ → World → Cqe → List Fact
 served i j w e = map (λ o. to (e .tag) (serve i j (responseTo (slotIn w (e .tag)) o))) (offers (cqeOpcodeOf (kindOf e)) w e)
 
@@ -150,12 +151,28 @@ abbrev pub poured : ℕ → List ℕ → World → ℕ → List Fact  -- the fir
 poured i bs w zero = []
 poured i bs w (suc j) = served i j (afterEntries bs w j) (entryAt bs j) ++ poured i bs w j
 
--- what event i on state w tells by its answer (ok, no, wait, blocked, reply); EINTR is 4, ESRCH 3; of a write the entries that it counts
+-- what happened to tag n, by the answer to a wake of it
+abbrev pub woke : ℕ → Answer → List Fact
+woke n (ok v) = []
+woke n (no k) = cond (eqb k 4) (to n interrupt ∷ []) []  -- refused with EINTR
+woke n wait = []
+woke n blocked = to n block ∷ []
+woke n (reply r) = to n (pass r) ∷ []
+
+-- by the answer to a map supply to it
+abbrev pub supplied : ℕ → Answer → List Fact
+supplied n (ok v) = to n filled ∷ []
+supplied n (no k) = cond (eqb k 3) (to n filled ∷ []) []  -- refused with ESRCH
+supplied n wait = []
+supplied n blocked = []
+supplied n (reply r) = []
+
+-- what event i on state w tells, by its answer
 abbrev pub news : ℕ → World → View → Answer → List Fact
 news i w (tells f) a = onOk a f []
 news i w (sends f e flags) a = onOk a f []
-news i w (wakes n c killed span) a = onAnswer a (λ v. []) (λ k. cond (eqb k 4) (to n break ∷ []) []) [] (to n block ∷ []) (λ r. to n (pass r) ∷ [])
+news i w (wakes n c killed span) a = woke n a
 news i w reads a = []
-news i w (writes words bs) a = poured i bs w (onOk a (λ v. v / 16) 0)
+news i w (writes words bs) a = poured i bs w (onOk a (λ v. v / 16) 0)  -- the entries that it counts
 news i w (moves ds) a = []
-news i w (supplies n) a = onAnswer a (λ v. to n filled ∷ []) (λ k. cond (eqb k 3) (to n filled ∷ []) []) [] [] (λ r. [])
+news i w (supplies n) a = supplied n a

@@ -13,6 +13,7 @@ pub mod Event
 pub mod History
 pub mod Run
 pub mod Demand3
+pub mod Effects
 pub mod WellFormed
 pub mod Refusals
 pub mod Exactly

@@ -1,7 +1,7 @@
 -- What an event answers and leaves: its answer, effects, the bytes that it stored and the state; and how refusals are
 -- written down, as rows in 01's order.
 use Prim.Native.Nat.{ℕ}
-use mathlib.Core.Bool.{Bool, cond}
+use mathlib.Core.Bool.{Bool, true, false, cond}
 use mathlib.Core.List.{List, [], _∷_}
 use Rattle.answer.specs.Answer as numbered
 use Rattle.flag.specs.Flags.{eventRead}
@@ -33,6 +33,13 @@ onAnswer (reply r) f g x y z = z r
 
 abbrev pub onOk : {A : Type 0} → Answer → (ℕ → A) → A → A
 onOk a f x = onAnswer a f (λ k. x) x x (λ r. x)
+
+-- a reply is handed over; a wake is still blocked
+abbrev pub isReply : Answer → Bool
+isReply a = onAnswer a (λ v. false) (λ k. false) false false (λ r. true)
+
+abbrev pub isBlocked : Answer → Bool
+isBlocked a = onAnswer a (λ v. false) (λ k. false) false true (λ r. false)
 
 -- effects are three words each: those of `write` go to lent words, in order from the first; any other event has at most one,
 -- in its reply. `bytes` are those that a read stored, from the first of the lent ones on.
