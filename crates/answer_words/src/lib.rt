@@ -1,35 +1,49 @@
-// An event's answer as numbers, for hosts in other languages and for the run: an enum cannot cross to them.
+// An answer's words, for hosts in other languages and for the run: an enum cannot cross to them. What an answer does not use is 0.
+use answer::Answer;
 use effect::Effect;
+use fd_list::List;
 use part::Part;
+use slot::Reply;
 use state::State;
 ghost use mathlib.Core.Path.{_≡_};
-ghost use Rattle.events.specs.Outcome.{ok, no, wait};
-ghost use Rattle.answer_words.specs.Words.{answerOf};
+ghost use Rattle.effect.specs.Effect.{effectWords};
+ghost use Rattle.events.specs.Outcome.{Response, reply as replied, saidWith, said};
+ghost use Rattle.events.specs.Wake.{responseFrom};
+ghost use Rattle.answer_words.specs.Words.{wordsOf, replyOf, fdsOf, effectOf};
 
-// `kind` 0 done, with a value; 1 refused, with its number; 2 would wait; 3 still blocked; 4 a reply.
+// `kind` 0 done, with a value; 1 refused, with its number; 2 would wait; 3 still blocked; 4 a reply, which stands beside it.
 #[repr(C)]
 pub struct AnswerWords {
     pub kind: u64,
     pub value: u64,
 }
 
+// What an event leaves of the part that it looked at, before it is told.
+pub struct PartStep {
+    pub answer: Answer,
+    pub effect: Effect,
+    pub part: Part,
+}
+
 // What an event leaves: answer, at most one effect, state.
 #[repr(C)]
-pub struct Step {
+pub struct StepWords {
     pub answer: AnswerWords,
     pub effect: Effect,
     pub state: State,
 }
 
-// The same of the part that an event looked at.
-pub struct PartStep {
+#[repr(C)]
+pub struct WakeWords {
     pub answer: AnswerWords,
+    pub reply: Reply,
+    pub fds: List,
     pub effect: Effect,
-    pub part: Part,
+    pub state: State,
 }
 
 pub fn done(value: u64) -> AnswerWords
-    ensures { λ r. ⌜ answerOf r ≡ ok value ⌝ }
+    ensures { λ r. ⌜ r ≡ record { kind = 0; value = value } ⌝ }
 {
     AnswerWords {
         kind: 0,
@@ -38,7 +52,7 @@ pub fn done(value: u64) -> AnswerWords
 }
 
 pub fn refused(number: u64) -> AnswerWords
-    ensures { λ r. ⌜ answerOf r ≡ no number ⌝ }
+    ensures { λ r. ⌜ r ≡ record { kind = 1; value = number } ⌝ }
 {
     AnswerWords {
         kind: 1,
@@ -46,8 +60,131 @@ pub fn refused(number: u64) -> AnswerWords
     }
 }
 
-pub fn waits() -> AnswerWords
-    ensures { λ r. ⌜ answerOf r ≡ wait ⌝ }
+pub fn words(a: Answer) -> AnswerWords
+    ensures { λ o. ⌜ ((r : Response) → o ≡ wordsOf (saidWith r a)) ⌝ }
 {
-    AnswerWords { kind: 2, value: 0 }
+    match a {
+        Answer::Done => done(0),
+        Answer::Given(tag) => done(tag.0),
+        Answer::Submitted(tag) => done(tag.0),
+        Answer::Bytes(n) => done(n),
+        Answer::Descriptions(n) => done(n),
+        Answer::WouldWait => AnswerWords { kind: 2, value: 0 },
+        Answer::Blocked => AnswerWords { kind: 3, value: 0 },
+        Answer::Replied => AnswerWords { kind: 4, value: 0 },
+        Answer::NotFound => refused(2),
+        Answer::NoCaller => refused(3),
+        Answer::Interrupted => refused(4),
+        Answer::Again => refused(11),
+        Answer::Invalid => refused(22),
+        Answer::BadDescriptor => refused(77),
+        Answer::NotSupported => refused(95),
+        Answer::NotYours => refused(201),
+        Answer::Full => refused(202),
+        Answer::QueueFull => refused(203),
+        Answer::ShortWords => refused(204),
+        Answer::BadArgument => refused(205),
+        Answer::TooManyFds => refused(206),
+        Answer::TooManyHolds => refused(207),
+    }
+}
+
+// A reply's own words: beside a descriptor and beside many there is nothing else.
+fn reply_words(r: Reply, fds: List) -> Reply
+    ensures { λ o. ⌜ o ≡ replyOf (replied (responseFrom r fds)) ⌝ }
+{
+    let kind = r.kind;
+    match kind {
+        0 => Reply {
+            kind: 0,
+            extra0: r.extra0,
+            notice: r.notice,
+            word: r.word,
+        },
+        1 => Reply {
+            kind: 1,
+            extra0: r.extra0,
+            notice: r.notice,
+            word: r.word,
+        },
+        2 => Reply {
+            kind: 2,
+            extra0: 0,
+            notice: false,
+            word: r.word,
+        },
+        _ => Reply {
+            kind: 3,
+            extra0: 0,
+            notice: false,
+            word: 0,
+        },
+    }
+}
+
+// Its list: only many descriptors have one, of at most 16.
+fn list_words(r: Reply, fds: List) -> List
+    ensures { λ o. ⌜ o ≡ fdsOf (replied (responseFrom r fds)) ⌝ }
+{
+    if r.kind < 3 {
+        return fd_list::empty();
+    }
+    fd_list::without(fds, 0)
+}
+
+fn effect_words(e: Effect) -> Effect
+    ensures { λ o. ⌜ o ≡ effectOf (effectWords e) ⌝ }
+{
+    if e.kind == 0 {
+        return Effect {
+            kind: 0,
+            a: 0,
+            b: 0,
+        };
+    }
+    e
+}
+
+pub fn step_words(a: Answer, e: Effect, s: State) -> StepWords
+    ensures { λ o. ⌜ (o .answer ≡ wordsOf (said a)) × ((o .effect ≡ effectOf (effectWords e)) × (o .state ≡ s)) ⌝ }
+{
+    let answer = words(a);
+    let fx = effect_words(e);
+    StepWords {
+        answer: answer,
+        effect: fx,
+        state: s,
+    }
+}
+
+// The reply and its list count where one was handed over.
+pub fn wake_words(a: Answer, r: Reply, fds: List, e: Effect, s: State) -> WakeWords
+    ensures { λ o. ⌜ (o .answer ≡ wordsOf (saidWith (responseFrom r fds) a)) × ((o .reply ≡ replyOf (saidWith (responseFrom r fds) a)) × ((o .fds ≡ fdsOf (saidWith (responseFrom r fds) a)) × ((o .effect ≡ effectOf (effectWords e)) × (o .state ≡ s)))) ⌝ }
+{
+    let answer = words(a);
+    let fx = effect_words(e);
+    if answer.kind == 4 {
+        let said = reply_words(r, fds);
+        let list = list_words(r, fds);
+        return WakeWords {
+            answer: answer,
+            reply: said,
+            fds: list,
+            effect: fx,
+            state: s,
+        };
+    }
+    let none = fd_list::empty();
+    WakeWords {
+        answer: answer,
+        reply: Reply {
+            kind: 0,
+            extra0: 0,
+            notice: false,
+            word: 0,
+        },
+        fds: none,
+        effect: fx,
+        state: s,
+    }
 }

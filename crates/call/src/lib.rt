@@ -1,5 +1,6 @@
 // `UserInner::call` (src/scheme/user.rs, lines 195 to 254): a slot is given out and its entry queued; argument 5 is
 // overwritten with uid and gid.
+use answer::Answer;
 use effect::Effect;
 use holds::Holds;
 use ids::Tag;
@@ -14,20 +15,11 @@ ghost use Rattle.effect.specs.Effect.{effectWords};
 ghost use Rattle.state.specs.declared.State.{State};
 ghost use Rattle.part.specs.Part.{Stands, found, leaves};
 ghost use Rattle.events.specs.World.{world};
-ghost use Rattle.events.specs.Outcome.{outcome};
+ghost use Rattle.events.specs.Outcome.{outcome, said};
 ghost use Rattle.events.specs.Submit.{callOf};
-ghost use Rattle.call.specs.Call.{callAnswer};
-
-pub enum CallAnswer {
-    Called(Tag),
-    BadArgument,
-    TooManyFds,
-    Full,
-    QueueFull,
-}
 
 pub struct CallStep {
-    pub answer: CallAnswer,
+    pub answer: Answer,
     pub effect: Effect,
     pub part: Part,
     pub holds: Holds,
@@ -45,14 +37,14 @@ pub fn call(
     pid: u64,
     fds: &[u64],
 ) -> CallStep
-    ensures { λ r. ⌜ ((s : State) → Stands s (p .head % 64) p → outcome (callAnswer (r .answer)) (effectWords (r .effect)) (world (leaves s (p .head % 64) (r .part) (r .holds)) (now (words .exit))) ≡ callOf (world (found s p h) (now (words .entry))) caller opcode args uid gid pid (now (fds .entry))) ⌝ }
+    ensures { λ r. ⌜ ((s : State) → Stands s (p .head % 64) p → outcome (said (r .answer)) (effectWords (r .effect)) (world (leaves s (p .head % 64) (r .part) (r .holds)) (now (words .exit))) ≡ callOf (world (found s p h) (now (words .entry))) caller opcode args uid gid pid (now (fds .entry))) ⌝ }
 {
     let none = effect::none();
     let raw = opcode::try_from_raw(opcode);
     match raw {
         RawOpcode::Unknown => {
             return CallStep {
-                answer: CallAnswer::BadArgument,
+                answer: Answer::BadArgument,
                 effect: none,
                 part: p,
                 holds: h,
@@ -64,7 +56,7 @@ pub fn call(
             match took {
                 TakeAnswer::BadArgument => {
                     return CallStep {
-                        answer: CallAnswer::BadArgument,
+                        answer: Answer::BadArgument,
                         effect: none,
                         part: p,
                         holds: h,
@@ -72,7 +64,7 @@ pub fn call(
                 }
                 TakeAnswer::TooMany => {
                     return CallStep {
-                        answer: CallAnswer::TooManyFds,
+                        answer: Answer::TooManyFds,
                         effect: none,
                         part: p,
                         holds: h,
@@ -82,7 +74,7 @@ pub fn call(
                     let n = p.head;
                     if 64 <= n {
                         return CallStep {
-                            answer: CallAnswer::Full,
+                            answer: Answer::Full,
                             effect: none,
                             part: p,
                             holds: h,
@@ -91,7 +83,7 @@ pub fn call(
                     let q = p.queue;
                     if 128 <= q.len {
                         return CallStep {
-                            answer: CallAnswer::QueueFull,
+                            answer: Answer::QueueFull,
                             effect: none,
                             part: p,
                             holds: h,
@@ -115,7 +107,7 @@ pub fn call(
                     let flags = flag::event_read();
                     let fx = effect::root(p.scheme, flags);
                     return CallStep {
-                        answer: CallAnswer::Called(Tag(n as u64)),
+                        answer: Answer::Given(Tag(n as u64)),
                         effect: fx,
                         part: after,
                         holds: holds,

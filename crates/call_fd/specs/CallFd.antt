@@ -1,4 +1,4 @@
--- 01's numbers and values of the descriptor calls' answers, and the request that metadata name.
+-- The request that metadata name.
 use Prim.Native.Nat.{ℕ}
 use mathlib.Core.Bool.{cond}
 use mathlib.Core.List.{List}
@@ -7,14 +7,9 @@ use Rattle.slot.specs.declared.Phase.the-variants.{Vacant, Placeholder, Waiting
 use Rattle.slot.specs.Slots.{phaseOf}
 use Rattle.table.specs.declared.Table.{Table}
 use Rattle.table.specs.Table.{slotAt}
-use Rattle.events.specs.Outcome.{Answer, ok, no}
 use Rattle.events.specs.Descriptors.{requestOf, wrongWords}
 use Rattle.call_fd.specs.declared.Request.{Request}
 use Rattle.call_fd.specs.declared.Request.the-variants as request
-use Rattle.call_fd.specs.declared.CallFdwriteAnswer.{CallFdwriteAnswer}
-use Rattle.call_fd.specs.declared.CallFdwriteAnswer.the-variants as write
-use Rattle.call_fd.specs.declared.CallFdreadAnswer.{CallFdreadAnswer}
-use Rattle.call_fd.specs.declared.CallFdreadAnswer.the-variants as read
 
 -- by the phase of its slot
 abbrev pub requestIn : Phase → Request
@@ -26,15 +21,3 @@ requestIn Fmap = request.NotWaiting
 
 abbrev pub findOf : Table → ℕ → List ℕ → Request
 findOf t verb ms = cond (wrongWords verb ms) request.Invalid (requestIn (phaseOf (slotAt t (requestOf ms))))
-
-abbrev pub callFdwriteAnswer : CallFdwriteAnswer → Answer
-callFdwriteAnswer (write.Moved n) = ok n
-callFdwriteAnswer write.BadArgument = no 205
-callFdwriteAnswer write.TooMany = no 206
-callFdwriteAnswer write.Invalid = no 22
-callFdwriteAnswer write.NotWaiting = no 2
-
-abbrev pub callFdreadAnswer : CallFdreadAnswer → Answer
-callFdreadAnswer (read.Obtained n) = ok n
-callFdreadAnswer read.Invalid = no 22
-callFdreadAnswer read.NotWaiting = no 2

@@ -1,5 +1,6 @@
 // The driver's descriptor calls (01, "Descriptor calls"; src/scheme/user.rs, lines 1153 to 1265): a list moved into a
 // waiting call, and its list obtained.
+use answer::Answer;
 use holds::Holds;
 use ids::Tag;
 use part::Part;
@@ -15,9 +16,9 @@ ghost use Rattle.table.specs.declared.Table.{Table};
 ghost use Rattle.table.specs.Table.{noSlot};
 ghost use Rattle.part.specs.Part.{Stands, found, leaves};
 ghost use Rattle.events.specs.World.{world};
-ghost use Rattle.events.specs.Outcome.{outcome};
+ghost use Rattle.events.specs.Outcome.{outcome, said};
 ghost use Rattle.events.specs.Descriptors.{requestOf, moveOf, obtainCallOf};
-ghost use Rattle.call_fd.specs.CallFd.{findOf, callFdwriteAnswer, callFdreadAnswer};
+ghost use Rattle.call_fd.specs.CallFd.{findOf};
 
 // The request that the metadata names, where it waits.
 enum Request {
@@ -26,28 +27,14 @@ enum Request {
     NotWaiting,
 }
 
-pub enum CallFdwriteAnswer {
-    Moved(u64),
-    BadArgument,
-    TooMany,
-    Invalid,
-    NotWaiting,
-}
-
 pub struct CallFdwrite {
-    pub answer: CallFdwriteAnswer,
+    pub answer: Answer,
     pub part: Part,
     pub holds: Holds,
 }
 
-pub enum CallFdreadAnswer {
-    Obtained(u64),
-    Invalid,
-    NotWaiting,
-}
-
 pub struct CallFdread {
-    pub answer: CallFdreadAnswer,
+    pub answer: Answer,
     pub part: Part,
     pub holds: Holds,
 }
@@ -80,18 +67,18 @@ fn find_request(v: Slot, metadata: &[u64], verb: u64) -> Request
 // `MoveFd`, verb 1: the list replaces the call's, whose holds are dropped with no close. Refused by the request it drops
 // what it brought.
 pub fn call_fdwrite(p: Part, h: Holds, metadata: &[u64], fds: &[u64]) -> CallFdwrite
-    ensures { λ r. ⌜ ((s : State) (ws : Words ℕ) → Stands s (requestOf (now (metadata .entry)) % 64) p → outcome (callFdwriteAnswer (r .answer)) [] (world (leaves s (requestOf (now (metadata .entry)) % 64) (r .part) (r .holds)) ws) ≡ moveOf (world (found s p h) ws) (now (metadata .entry)) (now (fds .entry))) ⌝ }
+    ensures { λ r. ⌜ ((s : State) (ws : Words ℕ) → Stands s (requestOf (now (metadata .entry)) % 64) p → outcome (said (r .answer)) [] (world (leaves s (requestOf (now (metadata .entry)) % 64) (r .part) (r .holds)) ws) ≡ moveOf (world (found s p h) ws) (now (metadata .entry)) (now (fds .entry))) ⌝ }
 {
     let taken = take_holds::take_list(h, fds);
     let answer = taken.answer;
     match answer {
         TakeAnswer::BadArgument => CallFdwrite {
-            answer: CallFdwriteAnswer::BadArgument,
+            answer: Answer::BadArgument,
             part: p,
             holds: h,
         },
         TakeAnswer::TooMany => CallFdwrite {
-            answer: CallFdwriteAnswer::TooMany,
+            answer: Answer::TooManyFds,
             part: p,
             holds: h,
         },
@@ -102,12 +89,12 @@ pub fn call_fdwrite(p: Part, h: Holds, metadata: &[u64], fds: &[u64]) -> CallFdw
             let found = find_request(v, metadata, 1);
             match found {
                 Request::Invalid => CallFdwrite {
-                    answer: CallFdwriteAnswer::Invalid,
+                    answer: Answer::Invalid,
                     part: p,
                     holds: holds::discard_list(inside, list),
                 },
                 Request::NotWaiting => CallFdwrite {
-                    answer: CallFdwriteAnswer::NotWaiting,
+                    answer: Answer::NotFound,
                     part: p,
                     holds: holds::discard_list(inside, list),
                 },
@@ -118,7 +105,7 @@ pub fn call_fdwrite(p: Part, h: Holds, metadata: &[u64], fds: &[u64]) -> CallFdw
                     let q = p.queue;
                     let after = part::stored(p, w, q);
                     CallFdwrite {
-                        answer: CallFdwriteAnswer::Moved(fds.len() as u64),
+                        answer: Answer::Descriptions(fds.len() as u64),
                         part: after,
                         holds: left,
                     }
@@ -130,18 +117,18 @@ pub fn call_fdwrite(p: Part, h: Holds, metadata: &[u64], fds: &[u64]) -> CallFdw
 
 // `ObtainFd`, verb 0: the call's list becomes outside holds.
 pub fn call_fdread(p: Part, h: Holds, metadata: &[u64]) -> CallFdread
-    ensures { λ r. ⌜ ((s : State) (ws : Words ℕ) → Stands s (requestOf (now (metadata .entry)) % 64) p → outcome (callFdreadAnswer (r .answer)) [] (world (leaves s (requestOf (now (metadata .entry)) % 64) (r .part) (r .holds)) ws) ≡ obtainCallOf (world (found s p h) ws) (now (metadata .entry))) ⌝ }
+    ensures { λ r. ⌜ ((s : State) (ws : Words ℕ) → Stands s (requestOf (now (metadata .entry)) % 64) p → outcome (said (r .answer)) [] (world (leaves s (requestOf (now (metadata .entry)) % 64) (r .part) (r .holds)) ws) ≡ obtainCallOf (world (found s p h) ws) (now (metadata .entry))) ⌝ }
 {
     let v = p.slot;
     let found = find_request(v, metadata, 0);
     match found {
         Request::Invalid => CallFdread {
-            answer: CallFdreadAnswer::Invalid,
+            answer: Answer::Invalid,
             part: p,
             holds: h,
         },
         Request::NotWaiting => CallFdread {
-            answer: CallFdreadAnswer::NotWaiting,
+            answer: Answer::NotFound,
             part: p,
             holds: h,
         },
@@ -154,7 +141,7 @@ pub fn call_fdread(p: Part, h: Holds, metadata: &[u64]) -> CallFdread
             let q = p.queue;
             let after = part::stored(p, w, q);
             CallFdread {
-                answer: CallFdreadAnswer::Obtained(n as u64),
+                answer: Answer::Descriptions(n as u64),
                 part: after,
                 holds: outside,
             }

@@ -10,12 +10,13 @@ use borrow.Author.Tests.{eq-eqb, ne-eqb, lt-ltb, le-ltb}
 use Rattle.fd_list.specs.declared.List.{List as Fds}
 use Rattle.fd_list.specs.Lists.{listOf}
 use Rattle.flag.specs.Flags.{sqeMultipleIds}
+use Rattle.opcode.specs.Opcodes.{call, stdFsCall}
 use Rattle.slot.specs.declared.Slot.{Slot}
 use Rattle.slot.specs.Slots.{waitingOf}
 use Rattle.state.specs.declared.State.{State}
 use Rattle.events.specs.World.{World, world, holdsOf, queueFull}
-use Rattle.events.specs.Outcome.{Outcome, Answer, outcome, ok, no}
-use Rattle.events.specs.Submit.{args6, sqe, wrongKind, kindByte, stdMeta, tableFull, begun, genericEntry, stdfsOf}
+use Rattle.events.specs.Outcome.{Outcome, outcome, ok, no}
+use Rattle.events.specs.Submit.{args6, sqe, wrongKind, kindByte, stdMeta, tableFull, begun, genericEntry, genericOf, stdfsOf}
 use Rattle.events.proofs.Conditions.{kind-same}
 use Rattle.call_generic.specs.Generic.{genericWith}
 
@@ -44,6 +45,9 @@ module _ (s : State) (ws : List ℕ) (op c pid : ℕ) (fds : List ℕ) (base len
   called q r f g o e = e ∙ rw (ne-eqb (length fds) 0 q, le-ltb 2 (length fds) r, f, g) refl
 
 module _ (s : State) (ws : List ℕ) (c pid : ℕ) (fds : List ℕ) (base len : ℕ) (ms : List ℕ) where
+  pub as-call : (op : ℕ) (o : Outcome) → op ≡ call → o ≡ genericWith op (world s ws) c pid fds base len ms → o ≡ genericOf (world s ws) c pid fds base len ms
+  as-call op o q e = e ∙ rw q refl
+
   abbrev Is : Outcome → Type 0
   Is o = o ≡ stdfsOf (world s ws) c pid fds base len ms
 
@@ -54,9 +58,6 @@ module _ (s : State) (ws : List ℕ) (c pid : ℕ) (fds : List ℕ) (base len : 
   no-kind fx none q r = rw (le-ltb (length ms) 3 q, r, none) refl
 
   pub translated :
-      (o : Outcome) → 3 ≤ length ms → wrongKind (kindByte ms) ≡ false → o ≡ genericWith 33 (world s ws) c pid fds base len (stdMeta ms) → Is o
-  translated o q r e = e ∙ rw (le-ltb (length ms) 3 q, r) refl
-
--- an answer of the one is one of the other
-pub again : (x y : Answer) (fx : List ℕ) (w : World) (o : Outcome) → y ≡ x → outcome x fx w ≡ o → outcome y fx w ≡ o
-again x y fx w o e q = ap (λ (z : Answer). outcome z fx w) e ∙ q
+      (op : ℕ) (o : Outcome) → op ≡ stdFsCall → 3 ≤ length ms → wrongKind (kindByte ms) ≡ false
+      → o ≡ genericWith op (world s ws) c pid fds base len (stdMeta ms) → Is o
+  translated op o p q r e = e ∙ rw (p, le-ltb (length ms) 3 q, r) refl

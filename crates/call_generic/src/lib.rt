@@ -1,5 +1,6 @@
 // `call_generic` (src/scheme/user.rs, lines 1384 to 1429) with opcode Call, and `translate_std_fs_call` (line 2048), which
 // comes to it with opcode StdFsCall.
+use answer::Answer;
 use effect::Effect;
 use ids::Tag;
 use part::Part;
@@ -10,33 +11,12 @@ ghost use Rattle.holds.specs.declared.Holds.{Holds};
 ghost use Rattle.state.specs.declared.State.{State};
 ghost use Rattle.part.specs.Part.{Stands, found, leaves};
 ghost use Rattle.events.specs.World.{world};
-ghost use Rattle.events.specs.Outcome.{outcome};
+ghost use Rattle.events.specs.Outcome.{outcome, said};
 ghost use Rattle.events.specs.Submit.{genericOf, stdfsOf};
-ghost use Rattle.call_generic.specs.Generic.{genericAnswer, stdfsAnswer, genericWith};
-
-pub enum GenericAnswer {
-    Called(Tag),
-    Invalid,
-    Full,
-    QueueFull,
-}
+ghost use Rattle.call_generic.specs.Generic.{genericWith};
 
 pub struct GenericStep {
-    pub answer: GenericAnswer,
-    pub effect: Effect,
-    pub part: Part,
-}
-
-pub enum StdFsAnswer {
-    Called(Tag),
-    Invalid,
-    NotSupported,
-    Full,
-    QueueFull,
-}
-
-pub struct StdFsStep {
-    pub answer: StdFsAnswer,
+    pub answer: Answer,
     pub effect: Effect,
     pub part: Part,
 }
@@ -52,19 +32,19 @@ fn call_with(
     len: u64,
     metadata: &[u64],
 ) -> GenericStep
-    ensures { λ r. ⌜ ((s : State) (h : Holds) → Stands s (p .head % 64) p → outcome (genericAnswer (r .answer)) (effectWords (r .effect)) (world (leaves s (p .head % 64) (r .part) h) (now (words .exit))) ≡ genericWith op (world (found s p h) (now (words .entry))) caller pid (now (fds .entry)) base len (now (metadata .entry))) ⌝ }
+    ensures { λ r. ⌜ ((s : State) (h : Holds) → Stands s (p .head % 64) p → outcome (said (r .answer)) (effectWords (r .effect)) (world (leaves s (p .head % 64) (r .part) h) (now (words .exit))) ≡ genericWith op (world (found s p h) (now (words .entry))) caller pid (now (fds .entry)) base len (now (metadata .entry))) ⌝ }
 {
     let none = effect::none();
     if fds.len() == 0 {
         return GenericStep {
-            answer: GenericAnswer::Invalid,
+            answer: Answer::Invalid,
             effect: none,
             part: p,
         };
     }
     if 2 < fds.len() {
         return GenericStep {
-            answer: GenericAnswer::Invalid,
+            answer: Answer::Invalid,
             effect: none,
             part: p,
         };
@@ -72,7 +52,7 @@ fn call_with(
     let n = p.head;
     if 64 <= n {
         return GenericStep {
-            answer: GenericAnswer::Full,
+            answer: Answer::Full,
             effect: none,
             part: p,
         };
@@ -80,7 +60,7 @@ fn call_with(
     let q = p.queue;
     if 128 <= q.len {
         return GenericStep {
-            answer: GenericAnswer::QueueFull,
+            answer: Answer::QueueFull,
             effect: none,
             part: p,
         };
@@ -94,7 +74,7 @@ fn call_with(
     let bits = flag::event_read();
     let fx = effect::root(p.scheme, bits);
     GenericStep {
-        answer: GenericAnswer::Called(Tag(n as u64)),
+        answer: Answer::Given(Tag(n as u64)),
         effect: fx,
         part: after,
     }
@@ -110,20 +90,19 @@ pub fn call_generic(
     len: u64,
     metadata: &[u64],
 ) -> GenericStep
-    ensures { λ r. ⌜ ((s : State) (h : Holds) → Stands s (p .head % 64) p → outcome (genericAnswer (r .answer)) (effectWords (r .effect)) (world (leaves s (p .head % 64) (r .part) h) (now (words .exit))) ≡ genericOf (world (found s p h) (now (words .entry))) caller pid (now (fds .entry)) base len (now (metadata .entry))) ⌝ }
+    ensures { λ r. ⌜ ((s : State) (h : Holds) → Stands s (p .head % 64) p → outcome (said (r .answer)) (effectWords (r .effect)) (world (leaves s (p .head % 64) (r .part) h) (now (words .exit))) ≡ genericOf (world (found s p h) (now (words .entry))) caller pid (now (fds .entry)) base len (now (metadata .entry))) ⌝ }
 {
-    call_with(p, words, 28, caller, pid, fds, base, len, metadata)
-}
-
-fn std_fs_answer(a: GenericAnswer) -> StdFsAnswer
-    ensures { λ r. ⌜ stdfsAnswer r ≡ genericAnswer a ⌝ }
-{
-    match a {
-        GenericAnswer::Called(tag) => StdFsAnswer::Called(tag),
-        GenericAnswer::Invalid => StdFsAnswer::Invalid,
-        GenericAnswer::Full => StdFsAnswer::Full,
-        GenericAnswer::QueueFull => StdFsAnswer::QueueFull,
-    }
+    call_with(
+        p,
+        words,
+        opcode::call(),
+        caller,
+        pid,
+        fds,
+        base,
+        len,
+        metadata,
+    )
 }
 
 pub fn translate_std_fs_call(
@@ -135,13 +114,13 @@ pub fn translate_std_fs_call(
     base: u64,
     len: u64,
     metadata: &[u64],
-) -> StdFsStep
-    ensures { λ r. ⌜ ((s : State) (h : Holds) → Stands s (p .head % 64) p → outcome (stdfsAnswer (r .answer)) (effectWords (r .effect)) (world (leaves s (p .head % 64) (r .part) h) (now (words .exit))) ≡ stdfsOf (world (found s p h) (now (words .entry))) caller pid (now (fds .entry)) base len (now (metadata .entry))) ⌝ }
+) -> GenericStep
+    ensures { λ r. ⌜ ((s : State) (h : Holds) → Stands s (p .head % 64) p → outcome (said (r .answer)) (effectWords (r .effect)) (world (leaves s (p .head % 64) (r .part) h) (now (words .exit))) ≡ stdfsOf (world (found s p h) (now (words .entry))) caller pid (now (fds .entry)) base len (now (metadata .entry))) ⌝ }
 {
     if metadata.len() < 3 {
         let none = effect::none();
-        return StdFsStep {
-            answer: StdFsAnswer::Invalid,
+        return GenericStep {
+            answer: Answer::Invalid,
             effect: none,
             part: p,
         };
@@ -149,21 +128,22 @@ pub fn translate_std_fs_call(
     let kind = metadata[0] % 256;
     if generic_entry::is_wrong_kind(kind) {
         let none = effect::none();
-        return StdFsStep {
-            answer: StdFsAnswer::NotSupported,
+        return GenericStep {
+            answer: Answer::NotSupported,
             effect: none,
             part: p,
         };
     }
     let three = [kind, metadata[1], metadata[2]];
-    let r = call_with(p, words, 33, caller, pid, fds, base, len, &three);
-    let answer = r.answer;
-    let fx = r.effect;
-    let after = r.part;
-    let said = std_fs_answer(answer);
-    StdFsStep {
-        answer: said,
-        effect: fx,
-        part: after,
-    }
+    call_with(
+        p,
+        words,
+        opcode::std_fs_call(),
+        caller,
+        pid,
+        fds,
+        base,
+        len,
+        &three,
+    )
 }

@@ -7,7 +7,7 @@ use native.Mathlib.Omega.{arith}
 use lib.Dec.{eqb}
 use lib.ListN.{set, getD}
 use borrow.Author.Tests.{lt-ltb, le-ltb}
-use Rattle.fd_list.specs.declared.List.{List as Fds}
+use Rattle.answer.specs.declared.Answer.{Answer as Case}
 use Rattle.holds.specs.declared.Holds.{Holds}
 use Rattle.holds.specs.Holds.{outsideOf}
 use Rattle.ids.specs.declared.SlotNo.{SlotNo}
@@ -17,9 +17,8 @@ use Rattle.schemev2.specs.declared.Sqe.{Sqe}
 use Rattle.slot.specs.declared.PageSpan.{PageSpan}
 use Rattle.slot.specs.declared.Phase.{Phase}
 use Rattle.slot.specs.declared.Phase.the-variants.{Vacant, Placeholder, Waiting, Responded, Fmap}
-use Rattle.slot.specs.declared.Reply.{Reply}
 use Rattle.slot.specs.declared.Slot.{Slot}
-use Rattle.slot.specs.Slots.{phaseOf, noReply, noFds, vacantSlot, canceledOf, interruptedOf}
+use Rattle.slot.specs.Slots.{phaseOf, vacantSlot, canceledOf, interruptedOf}
 use Rattle.state.specs.declared.State.{State}
 use Rattle.table.specs.declared.Table.{Table}
 use Rattle.table.specs.Table.{noSlot, stored, putAt, vacateAt}
@@ -27,20 +26,19 @@ use Rattle.table.proofs.Cases.{slot-out, slot-in, put-in, vacate-in}
 use Rattle.wait_queue.specs.declared.WaitQueue.{WaitQueue}
 use Rattle.wait_queue.specs.Queue.{sentOf, sentWords}
 use Rattle.events.specs.World.{World, world, slotIn, phaseIn, tableWith, queueFull}
-use Rattle.events.specs.Outcome.{Outcome, outcome, no, blocked, reply, refuse, checked, readable}
+use Rattle.events.specs.Outcome.{Response, success, Outcome, outcome, saidWith, no, blocked, reply, refuse, checked, readable}
 use Rattle.events.specs.Wake.{responseOf, heldIn, cancelEntry, handedOver, interrupted, blockedBy, waitedBy, wokenBy, wakeable, wakeRows, wakeOf}
 use Rattle.wake_decision.specs.declared.Decided.{Decided}
 use Rattle.wake_decision.specs.declared.Turn.{Turn}
 use Rattle.wake_decision.specs.declared.Turn.the-variants.{Stay, Interrupt, Cancel, HandOver}
-use Rattle.wake_decision.specs.declared.WakeAnswer.{WakeAnswer}
-use Rattle.wake_decision.specs.Wake.{wakeAnswer, decidedOf}
+use Rattle.wake_decision.specs.Wake.{decidedOf}
 
 -- what each turn comes to
-abbrev carried : Turn → WakeAnswer → World → ℕ → PageSpan → Reply → Fds → Outcome
-carried Stay a w n span r l = outcome (wakeAnswer a r l) [] w
-carried Interrupt a w n span r l = interrupted w n span
-carried Cancel a w n span r l = blockedBy false false w n
-carried HandOver a w n span r l = handedOver w n
+abbrev carried : Turn → Case → World → ℕ → PageSpan → Response → Outcome
+carried Stay a w n span r = outcome (saidWith r a) [] w
+carried Interrupt a w n span r = interrupted w n span
+carried Cancel a w n span r = blockedBy false false w n
+carried HandOver a w n span r = handedOver w n
 
 -- the definition, by the tests that the decision makes
 abbrev waitedAs : Bool → Bool → Bool → World → ℕ → PageSpan → Outcome
@@ -57,9 +55,9 @@ wokenAs Fmap k c f w n span = refuse w 77
 abbrev wakeAs : Phase → Bool → Bool → Bool → Bool → World → ℕ → PageSpan → Outcome
 wakeAs p y k c f w n span = checked (refuse w) (wakeRows false p y) (wokenAs p k c f w n span)
 
-module _ (w : World) (n : ℕ) (span : PageSpan) (r : Reply) (l : Fds) where
+module _ (w : World) (n : ℕ) (span : PageSpan) (r : Response) where
   abbrev By : Phase → Bool → Bool → Bool → Bool → Type 0
-  By p y k c f = carried (decidedOf p y k c f .turn) (decidedOf p y k c f .answer) w n span r l ≡ wakeAs p y k c f w n span
+  By p y k c f = carried (decidedOf p y k c f .turn) (decidedOf p y k c f .answer) w n span r ≡ wakeAs p y k c f w n span
 
   decided-is : (p : Phase) (y k c f : Bool) → By p y k c f
   decided-is Vacant y k c f = refl
@@ -114,16 +112,16 @@ module _ (s : State) (ws : List ℕ) (n : Tag) (c killed base count : ℕ) where
             ∙ ap₂ (λ (b : Bool) (o : Outcome). checked (refuse w) (wakeRows b (phaseIn w (n .0)) (wakeable (slotIn w (n .0)) c)) o) (sym (le-ltb 1 killed x)) (woken-is w (n .0) killed span (phaseIn w (n .0)))
 
         module _ (d : Decided) (ed : d ≡ decidedOf (phaseOf v) (wakeable v c) (eqb killed 1) (v .canceling) (queueFull w)) where
-          turned : (t : Turn) (o : Outcome) (r : Reply) (l : Fds) → d .turn ≡ t → o ≡ carried t (d .answer) w (n .0) span r l → Is o
-          turned t o r l et eo =
+          turned : (t : Turn) (o : Outcome) (r : Response) → d .turn ≡ t → o ≡ carried t (d .answer) w (n .0) span r → Is o
+          turned t o r et eo =
               eo
-              ∙ ap (λ (u : Turn). carried u (d .answer) w (n .0) span r l) (sym et)
-              ∙ ap (λ (e : Decided). carried (e .turn) (e .answer) w (n .0) span r l) ed
-              ∙ decided-is w (n .0) span r l (phaseOf v) (wakeable v c) (eqb killed 1) (v .canceling) (queueFull w)
+              ∙ ap (λ (u : Turn). carried u (d .answer) w (n .0) span r) (sym et)
+              ∙ ap (λ (e : Decided). carried (e .turn) (e .answer) w (n .0) span r) ed
+              ∙ decided-is w (n .0) span r (phaseOf v) (wakeable v c) (eqb killed 1) (v .canceling) (queueFull w)
               ∙ whole
 
-          pub stays : (r : Reply) (l : Fds) → d .turn ≡ Stay → Is (outcome (wakeAnswer (d .answer) r l) fx w)
-          stays r l et = turned Stay _ r l et (ap (λ (z : List ℕ). outcome (wakeAnswer (d .answer) r l) z w) none)
+          pub stays : (r : Response) → d .turn ≡ Stay → Is (outcome (saidWith r (d .answer)) fx w)
+          stays r et = turned Stay _ r et (ap (λ (z : List ℕ). outcome (saidWith r (d .answer)) z w) none)
 
           pub killed-now :
               (u : Slot) → d .turn ≡ Interrupt → u ≡ interruptedOf v span
@@ -131,7 +129,7 @@ module _ (s : State) (ws : List ℕ) (n : Tag) (c killed base count : ℕ) where
           killed-now u et eu =
               let p : stored (s .table) (k .0) u ≡ putAt (s .table) (n .0) (interruptedOf (slotIn w (n .0)) span) =
               put-in (s .table) n k is u h ∙ ap (putAt (s .table) (n .0)) (eu ∙ ap (λ (z : Slot). interruptedOf z span) here) in
-              turned Interrupt _ noReply noFds et (λ i. outcome (no 4) (none i) (world (record { driver = s .driver; table = p i }) ws))
+              turned Interrupt _ (success 0 0 false) et (λ i. outcome (no 4) (none i) (world (record { driver = s .driver; table = p i }) ws))
 
           pub blocked-now :
               (u : Slot) (e : Sqe) (q : WaitQueue) (xs gx : List ℕ) → d .turn ≡ Cancel → u ≡ canceledOf v → e ≡ cancelEntry (k .0)
@@ -143,7 +141,7 @@ module _ (s : State) (ws : List ℕ) (n : Tag) (c killed base count : ℕ) where
               put-in (s .table) n k is u h ∙ ap (putAt (s .table) (n .0)) (eu ∙ ap canceledOf here) in
               let ew : xs ≡ sentWords (s .driver .queue) ws (cancelEntry (n .0)) =
               ex ∙ ap (sentWords (s .driver .queue) ws) (ee ∙ ap cancelEntry m) in
-              turned Cancel _ noReply noFds et
+              turned Cancel _ (success 0 0 false) et
               (λ i. outcome blocked (eg i) (world (record { driver = record { scheme = s .driver .scheme; handles = s .driver .handles; queue = eq i }; table = p i }) (ew i)))
 
           pub handed :
@@ -154,4 +152,4 @@ module _ (s : State) (ws : List ℕ) (n : Tag) (c killed base count : ℕ) where
               let p = vacate-in (s .table) n k is u eu h in
               let eh : g ≡ outsideOf (s .table .holds) (heldIn (responseOf (slotIn w (n .0)))) = eg ∙ ap (λ (z : Slot). outsideOf (s .table .holds) (heldIn (responseOf z))) here in
               let er : responseOf v ≡ responseOf (slotIn w (n .0)) = ap responseOf here in
-              turned HandOver _ noReply noFds et (λ i. outcome (reply (er i)) (none i) (world (record { driver = s .driver; table = tableWith (p i) (eh i) }) ws))
+              turned HandOver _ (success 0 0 false) et (λ i. outcome (reply (er i)) (none i) (world (record { driver = s .driver; table = tableWith (p i) (eh i) }) ws))

@@ -1,4 +1,5 @@
 // One turn of `call_inner`'s loop, a wake (src/scheme/user.rs, lines 256 to 392).
+use answer::Answer;
 use effect::Effect;
 use fd_list::List;
 use ids::Tag;
@@ -6,7 +7,6 @@ use part::Part;
 use slot::PageSpan;
 use slot::Reply;
 use wake_decision::Turn;
-use wake_decision::WakeAnswer;
 ghost use mathlib.Core.Path.{_≡_};
 ghost use Prim.Native.Nat.{_%_};
 ghost use lib.ListN.{length};
@@ -18,13 +18,12 @@ ghost use Rattle.part.specs.Part.{Stands, found, leaves};
 ghost use Rattle.effect.specs.Effect.{effectWords};
 ghost use Rattle.slot.specs.Slots.{noReply};
 ghost use Rattle.events.specs.World.{world};
-ghost use Rattle.events.specs.Outcome.{outcome};
-ghost use Rattle.events.specs.Wake.{wakeOf};
-ghost use Rattle.wake_decision.specs.Wake.{wakeAnswer};
+ghost use Rattle.events.specs.Outcome.{outcome, saidWith};
+ghost use Rattle.events.specs.Wake.{responseFrom, wakeOf};
 
 // A reply handed over stands beside the answer, with its list. The holds in `out` become outside holds.
 pub struct WakeStep {
-    pub answer: WakeAnswer,
+    pub answer: Answer,
     pub reply: Reply,
     pub fds: List,
     pub effect: Effect,
@@ -52,14 +51,14 @@ pub fn wake(
     base: u64,
     count: u64,
 ) -> WakeStep
-    ensures { λ r. ⌜ ((s : State) (h : Holds) → length (h .outside) ≡ 64 → Stands s (tag .0 % 64) p → outcome (wakeAnswer (r .answer) (r .reply) (r .fds)) (effectWords (r .effect)) (world (leaves s (tag .0 % 64) (r .part) (outsideOf h (numbers (r .out)))) (now (words .exit))) ≡ wakeOf (world (found s p h) (now (words .entry))) (tag .0) caller killed base count) ⌝ }
+    ensures { λ r. ⌜ ((s : State) (h : Holds) → length (h .outside) ≡ 64 → Stands s (tag .0 % 64) p → outcome (saidWith (responseFrom (r .reply) (r .fds)) (r .answer)) (effectWords (r .effect)) (world (leaves s (tag .0 % 64) (r .part) (outsideOf h (numbers (r .out)))) (now (words .exit))) ≡ wakeOf (world (found s p h) (now (words .entry))) (tag .0) caller killed base count) ⌝ }
 {
     let none = effect::none();
     let blank = no_reply();
     let empty = fd_list::empty();
     if 1 < killed {
         return WakeStep {
-            answer: WakeAnswer::BadArgument,
+            answer: Answer::BadArgument,
             reply: blank,
             fds: empty,
             effect: none,
@@ -70,7 +69,7 @@ pub fn wake(
     let n = ids::slot_of(tag);
     if 64 <= n.0 {
         return WakeStep {
-            answer: WakeAnswer::BadDescriptor,
+            answer: Answer::BadDescriptor,
             reply: blank,
             fds: empty,
             effect: none,
@@ -102,7 +101,7 @@ pub fn wake(
             let w = slot::interrupted(v, span);
             let after = part::stored(p, w, q);
             return WakeStep {
-                answer: WakeAnswer::Interrupted,
+                answer: Answer::Interrupted,
                 reply: blank,
                 fds: empty,
                 effect: none,
@@ -119,7 +118,7 @@ pub fn wake(
             let bits = flag::event_read();
             let fx = effect::root(p.scheme, bits);
             return WakeStep {
-                answer: WakeAnswer::Blocked,
+                answer: Answer::Blocked,
                 reply: blank,
                 fds: empty,
                 effect: fx,
@@ -133,7 +132,7 @@ pub fn wake(
             let out = wake_decision::holds_in(reply, fds);
             let after = part::vacated(p, n.0);
             return WakeStep {
-                answer: WakeAnswer::Replied,
+                answer: Answer::Replied,
                 reply: reply,
                 fds: fds,
                 effect: none,

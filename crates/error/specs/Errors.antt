@@ -4,7 +4,7 @@ use mathlib.Core.List.{[], _∷_}
 use Prim.Native.Nat.{ℕ}
 use lib.IntN.{ℤ, pos}
 use lib.Signed.{leZ, ltZ}
-use Rattle.answer.specs.Answer.{Answer, success, refused}
+use Rattle.answer.specs.Numbered.{Numbered, success, refused}
 use Rattle.error.specs.Reference.{asI32, asUsize, negI32}
 use Rattle.error.specs.declared.Error.{Error}
 use Rattle.error.specs.declared.Result.{Result}
@@ -27,6 +27,6 @@ muxOf (Ok w) = w
 muxOf (Err e) = asUsize (negI32 (e .errno))
 
 -- 01's number and values: a success has its word, an error its errno
-abbrev pub resultAnswer : Result → Answer
+abbrev pub resultAnswer : Result → Numbered
 resultAnswer (Ok w) = success (w ∷ [])
 resultAnswer (Err e) = refused (asUsize (e .errno))

@@ -1,7 +1,7 @@
 // Error words: `Error::mux` and `Error::demux` (syscall/src/error.rs, lines 15 to 29).
 ghost use mathlib.Core.Path.{_≡_};
 ghost use Prim.Native.Nat.{_%_};
-ghost use Rattle.answer.specs.Answer.{numberOf};
+ghost use Rattle.answer.specs.Numbered.{numberOf};
 ghost use Rattle.error.specs.Reference.{asI32, asUsize, negI32};
 ghost use Rattle.error.specs.Errors.{demuxOf, muxOf, resultAnswer};
 

@@ -7,6 +7,7 @@ use native.Mathlib.Omega.{arith}
 use lib.Dec.{ltb, eqb}
 use lib.ListN.{length, length-append, drop}
 use borrow.Author.Tests.{lt-ltb, ltb-false, eqb-true}
+use Rattle.answer.specs.declared.Answer.the-variants.{Done, BadArgument, TooManyHolds}
 use Rattle.counts.specs.Counts.{lasts}
 use Rattle.closes.specs.declared.Reason.the-variants.{Replied, Ended, Unusable}
 use Rattle.closes.specs.Closes.{closing, only, closes}
@@ -18,12 +19,8 @@ use Rattle.handles.specs.declared.Handles.{Handles}
 use Rattle.handles.specs.Handles.{isFree, obtainLasts, obtainCloses}
 use Rattle.holds.specs.declared.Holds.{Holds}
 use Rattle.holds.specs.Holds.{discardedOf, unheld}
-use Rattle.host_holds.specs.declared.OpenAnswer.the-variants as opening
-use Rattle.host_holds.specs.declared.CopyAnswer.the-variants as copying
-use Rattle.host_holds.specs.declared.DropAnswer.the-variants as dropping
-use Rattle.host_holds.specs.Host.{openedAs, copiedAs, droppedAs, openAnswer, copyAnswer, dropAnswer}
-use Rattle.host_put.specs.declared.PutAnswer.the-variants as putting
-use Rattle.host_put.specs.Put.{put, putAnswer}
+use Rattle.host_holds.specs.Host.{openedAs, copiedAs, droppedAs}
+use Rattle.host_put.specs.Put.{put}
 use Rattle.parse_cqe.specs.Parsed.{parsedOf}
 use Rattle.parse_cqe.specs.declared.ParsedCqe.{ParsedCqe}
 use Rattle.parse_cqe.specs.declared.ParsedCqe.the-variants as parsed
@@ -33,9 +30,9 @@ use Rattle.slot.specs.declared.Phase.{Phase}
 use Rattle.slot.specs.Slots.{noFds}
 use Rattle.slot.specs.declared.Phase.the-variants.{Vacant, Placeholder, Waiting, Responded, Fmap}
 use Rattle.wait_queue.specs.declared.WaitQueue.{WaitQueue}
-use Rattle.wait_queue_receive.specs.Receive.{receiveAnswer, emptyBy, receivedIf}
+use Rattle.wait_queue_receive.specs.Receive.{emptyBy, receivedIf}
 use Rattle.events.specs.World.{World, tableOf, queueOf, holdsOf, handlesOf, slotIn, phaseIn, queueFull}
-use Rattle.events.specs.Outcome.{Answer, ok, no, wait, answered, Outcome, outcome, Row, row, checked, refuse}
+use Rattle.events.specs.Outcome.{Answer, ok, no, wait, said, Outcome, outcome, Row, row, checked, refuse}
 use Rattle.events.specs.Submit.{reserveRows, submitRows, callRows, genericRows, stdfsRows, fmapRows, queueRows, longList, kindByte, isPlaceholder, tableFull}
 use Rattle.events.specs.Wake.{responseOf, wakeable, wakeRows, waitedBy, wokenBy}
 use Rattle.events.specs.Descriptors.{requestOf, requestRows, listRows}
@@ -193,25 +190,25 @@ row-same k {b} {c} {x} {y} e f = ap (λ (z : Bool). cond z (no k) x) e ∙ go c 
     go false f = f refl
 
 -- the host's events
-open-answer : (b : Bool) (h k : Holds) → answered (openAnswer (cond b (openedAs opening.BadArgument h) (openedAs opening.Opened k) .answer)) ≡ ruled (row 205 b ∷ []) (ok 0)
+open-answer : (b : Bool) (h k : Holds) → said (cond b (openedAs BadArgument h) (openedAs Done k) .answer) ≡ ruled (row 205 b ∷ []) (ok 0)
 open-answer true h k = refl
 open-answer false h k = refl
 
 copy-answer :
     (b c : Bool) (h k l : Holds)
-    → answered (copyAnswer (cond b (copiedAs copying.BadArgument h) (cond c (copiedAs copying.TooManyHolds k) (copiedAs copying.Copied l)) .answer))
+    → said (cond b (copiedAs BadArgument h) (cond c (copiedAs TooManyHolds k) (copiedAs Done l)) .answer)
     ≡ ruled (row 205 b ∷ row 207 c ∷ []) (ok 0)
 copy-answer true c h k l = refl
 copy-answer false true h k l = refl
 copy-answer false false h k l = refl
 
-drop-answer : (b : Bool) (h k : Holds) → answered (dropAnswer (cond b (droppedAs dropping.BadArgument h) (droppedAs dropping.Dropped k) .answer)) ≡ ruled (row 205 b ∷ []) (ok 0)
+drop-answer : (b : Bool) (h k : Holds) → said (cond b (droppedAs BadArgument h) (droppedAs Done k) .answer) ≡ ruled (row 205 b ∷ []) (ok 0)
 drop-answer true h k = refl
 drop-answer false h k = refl
 
 put-answer :
     (b : Bool) (n m : Handles) (h k : Holds)
-    → answered (putAnswer (cond b (put putting.BadArgument n h) (put putting.Put m k) .answer)) ≡ ruled (row 205 b ∷ []) (ok 0)
+    → said (cond b (put BadArgument n h) (put Done m k) .answer) ≡ ruled (row 205 b ∷ []) (ok 0)
 put-answer true n m h k = refl
 put-answer false n m h k = refl
 
@@ -232,7 +229,7 @@ supplied-answer w n Fmap = go (slotIn w n .ended)
 -- a read: by whether the queue is empty, the read blocks, no byte is lent, and fewer than 64 are
 empty-answer :
     (x none short : Bool) (n : ℕ) → n ≡ 0 → (none ≡ true → short ≡ true)
-    → answered (receiveAnswer (emptyBy x none short)) ≡ ruled (row 22 (not x && (not none && short)) ∷ row 11 (not x && not short) ∷ []) (cond x wait (ok n))
+    → said (emptyBy x none short) ≡ ruled (row 22 (not x && (not none && short)) ∷ row 11 (not x && not short) ∷ []) (cond x wait (ok n))
 empty-answer true none short n z h = refl
 empty-answer false true true n z h = ap ok (sym z)
 empty-answer false true false n z h = absurd (false≢true (h refl))
@@ -241,7 +238,7 @@ empty-answer false false false n z h = refl
 
 read-answer :
     (q : WaitQueue) (n flags : ℕ) (b x : Bool) → eqb (q .len) 0 ≡ b → eqb (flags / 0x4_0000 % 2) 0 ≡ x
-    → answered (receiveAnswer (receivedIf b q n flags .answer))
+    → said (receivedIf b q n flags .answer)
     ≡ ruled (row 22 ((b && not x) && (not (eqb n 0) && ltb n 64)) ∷ row 11 ((b && not x) && not (ltb n 64)) ∷ []) (cond (b && x) wait (ok (min n (q .len * 64))))
 read-answer q n flags true x z e =
     rw e (empty-answer x (eqb n 0) (ltb n 64) (min n (q .len * 64)) (omega (arith, eqb-true (q .len) 0 z)) (λ y. lt-ltb n 64 (omega (arith, eqb-true n 0 y))))

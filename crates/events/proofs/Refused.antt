@@ -8,8 +8,8 @@ use native.Mathlib.Omega.{arith}
 use lib.Dec.{ltb, eqb}
 use lib.ListN.{getD, take, length, drop}
 use borrow.Author.Tests.{eqb-true, lt-ltb, le-ltb}
-use Rattle.answer.specs.Answer as numbered
 use Rattle.error.specs.Errors.{demuxOf}
+use Rattle.answer.specs.declared.Answer.{Answer as Case}
 use Rattle.fd_list.specs.Lists.{numbers}
 use Rattle.flag.specs.Flags.{within, eventFlags, fobtainFdFlags}
 use Rattle.handles.specs.declared.Handles.{Handles}
@@ -19,9 +19,9 @@ use Rattle.holds.specs.Holds.{unheld}
 use Rattle.host_holds.specs.declared.HoldOpened.{HoldOpened}
 use Rattle.host_holds.specs.declared.HoldCopied.{HoldCopied}
 use Rattle.host_holds.specs.declared.HoldDropped.{HoldDropped}
-use Rattle.host_holds.specs.Host.{openOf, copyOf, dropOf, openAnswer, copyAnswer, dropAnswer}
+use Rattle.host_holds.specs.Host.{openOf, copyOf, dropOf}
 use Rattle.host_put.specs.declared.HoldPut.{HoldPut}
-use Rattle.host_put.specs.Put.{putOf, putAnswer}
+use Rattle.host_put.specs.Put.{putOf}
 use Rattle.parse_cqe.specs.Parsed.{eventIf, obtainIf, parsedBy}
 use Rattle.schemev2.specs.declared.Cqe.{Cqe}
 use Rattle.schemev2.specs.declared.CqeOpcode.{CqeOpcode}
@@ -33,9 +33,9 @@ use Rattle.slot.specs.declared.Phase.the-variants.{Vacant, Placeholder, Waiting
 use Rattle.slot.specs.Slots.{interruptedOf}
 use Rattle.table.specs.Table.{putAt, vacateAt}
 use Rattle.wait_queue.specs.Queue.{unread}
-use Rattle.wait_queue_receive.specs.Receive.{copied, receivedIf, receiveAnswer}
+use Rattle.wait_queue_receive.specs.Receive.{copied, receivedIf}
 use Rattle.events.specs.World.{World, tableOf, holdsOf, handlesOf, queueOf, slotIn, phaseIn, withTable, withHolds, withHandles, withQueue, queueFull}
-use Rattle.events.specs.Outcome.{Answer, ok, no, wait, onAnswer, answered, Outcome, outcome, Row, checked, refuse}
+use Rattle.events.specs.Outcome.{Answer, ok, no, wait, onAnswer, said, Outcome, outcome, Row, checked, refuse}
 use Rattle.events.specs.Submit.{reserveRows, submitRows, callRows, genericRows, stdfsRows, fmapRows, queueRows}
 use Rattle.events.specs.Wake.{wakeable, wakeRows, blockedBy, waitedBy, wokenBy}
 use Rattle.events.specs.Entry.{Decision, dropped, Offer, result, one, listed, namedOf, servedBy, respondBy, inHandle, takenOut, byDescriptor, isVacant, isWaiting, obtainRows, obtained}
@@ -273,7 +273,7 @@ move-spares w ms ds false false = went refl
 abbrev readBy : Bool → World → ℕ → ℕ → Outcome
 readBy b w n flags =
     record {
-      answer = answered (receiveAnswer (receivedIf b (queueOf w) n flags .answer));
+      answer = said (receivedIf b (queueOf w) n flags .answer);
       effects = [];
       bytes = take (copied (queueOf w) n) (unread (queueOf w) (w .words));
       world = withQueue w (receivedIf b (queueOf w) n flags .queue) (w .words);
@@ -287,28 +287,28 @@ module _ (w : World) where
   read-spares n flags false e = went refl
 
   -- the host's events
-  abbrev Leaves : numbered.Answer → Holds → Handles → Type 0
-  Leaves a h k = Spares w (λ k. w) (outcome (answered a) [] (withHandles (withHolds w h) k))
+  abbrev Leaves : Case → Holds → Handles → Type 0
+  Leaves a h k = Spares w (λ k. w) (outcome (said a) [] (withHandles (withHolds w h) k))
 
-  open-spares : (d : ℕ) → Leaves (openAnswer (openOf (holdsOf w) d .answer)) (openOf (holdsOf w) d .holds) (handlesOf w)
+  open-spares : (d : ℕ) → Leaves (openOf (holdsOf w) d .answer) (openOf (holdsOf w) d .holds) (handlesOf w)
   open-spares d =
-      either (λ (o : HoldOpened). Leaves (openAnswer (o .answer)) (o .holds) (handlesOf w))
+      either (λ (o : HoldOpened). Leaves (o .answer) (o .holds) (handlesOf w))
       (ltb 63 d || not (eqb (getD (holdsOf w .holds) d 0) 0)) (same (λ k. refl) refl refl refl) (went refl)
 
-  copy-spares : (d : ℕ) → Leaves (copyAnswer (copyOf (holdsOf w) d .answer)) (copyOf (holdsOf w) d .holds) (handlesOf w)
+  copy-spares : (d : ℕ) → Leaves (copyOf (holdsOf w) d .answer) (copyOf (holdsOf w) d .holds) (handlesOf w)
   copy-spares d =
-      let P : HoldCopied → Type 0 = λ o. Leaves (copyAnswer (o .answer)) (o .holds) (handlesOf w) in
+      let P : HoldCopied → Type 0 = λ o. Leaves (o .answer) (o .holds) (handlesOf w) in
       either P (unheld (holdsOf w .holds) (holdsOf w .outside) d) (same (λ k. refl) refl refl refl)
       (either P (eqb (getD (holdsOf w .holds) d 0) 65535) (same (λ k. refl) refl refl refl) (went refl))
 
-  drop-spares : (d : ℕ) → Leaves (dropAnswer (dropOf (holdsOf w) d .answer)) (dropOf (holdsOf w) d .holds) (handlesOf w)
+  drop-spares : (d : ℕ) → Leaves (dropOf (holdsOf w) d .answer) (dropOf (holdsOf w) d .holds) (handlesOf w)
   drop-spares d =
-      either (λ (o : HoldDropped). Leaves (dropAnswer (o .answer)) (o .holds) (handlesOf w))
+      either (λ (o : HoldDropped). Leaves (o .answer) (o .holds) (handlesOf w))
       (unheld (holdsOf w .holds) (holdsOf w .outside) d) (same (λ k. refl) refl refl refl) (went refl)
 
-  put-spares : (d k : ℕ) → let o = putOf (holdsOf w) (handlesOf w) d k in Leaves (putAnswer (o .answer)) (o .holds) (o .handles)
+  put-spares : (d k : ℕ) → let o = putOf (holdsOf w) (handlesOf w) d k in Leaves (o .answer) (o .holds) (o .handles)
   put-spares d k =
-      either (λ (o : HoldPut). Leaves (putAnswer (o .answer)) (o .holds) (o .handles))
+      either (λ (o : HoldPut). Leaves (o .answer) (o .holds) (o .handles))
       (unheld (holdsOf w .holds) (holdsOf w .outside) d || not (isFree (handlesOf w) k)) (same (λ k. refl) refl refl refl) (went refl)
 
 driver-spares : (w : World) (e : DriverEvent) → Spares w (left w (viewOf (on e))) (driverStep w e)

@@ -5,16 +5,19 @@ use mathlib.Core.Bool.{Bool, true, false, not, cond, _||_, _&&_}
 use mathlib.Core.List.{List, [], _∷_, _++_, append-nil}
 use native.Mathlib.Omega.{arith}
 use lib.Dec.{eqb, leb, ltb}
-use lib.ListN.{take, length}
+use lib.ListN.{take, length, getD}
 use lib.Seq.{sets}
 use borrow.Author.Tests.{eqb-true, leb-false, ltb-true, ltb-false, lt-leb, le-leb, not-true, not-false}
-use Rattle.answer.specs.Answer as numbered
+use Rattle.answer.specs.declared.Answer.the-variants.{Done, BadArgument, TooManyHolds}
 use Rattle.fd_list.specs.declared.List.{List as Fds}
 use Rattle.fd_list.specs.Lists.{listOf}
 use Rattle.flag.specs.Flags.{eventRead, eventHup, sqeOneway}
+use Rattle.handles.specs.declared.Handles.{Handles}
+use Rattle.handles.specs.Handles.{isFree, into}
 use Rattle.holds.specs.declared.Holds.{Holds}
-use Rattle.host_holds.specs.Host.{openOf, openAnswer, copyOf, copyAnswer, dropOf, dropAnswer}
-use Rattle.host_put.specs.Put.{putOf, putAnswer}
+use Rattle.holds.specs.Holds.{unheld}
+use Rattle.host_holds.specs.Host.{oneMore, oneFewer, openedAs, openOf, copiedAs, copyOf, droppedAs, dropOf}
+use Rattle.host_put.specs.Put.{inside as taken-in, put, putOf}
 use Rattle.le.specs.Le.{bytesOf}
 use Rattle.schemev2.specs.declared.Args.{Args}
 use Rattle.schemev2.specs.declared.Sqe.{Sqe}
@@ -29,9 +32,9 @@ use Rattle.table.specs.Table.{putAt, givenOut, vacateAt}
 use Rattle.table.proofs.Chain.{head-vacant}
 use Rattle.wait_queue.specs.Queue.{unread, sentIf, placeOf}
 use Rattle.wait_queue.proofs.Unread.{unread-more, unread-sent, unread-removed}
-use Rattle.wait_queue_receive.specs.Receive.{copied, emptyBy, receivedIf, receiveAnswer}
+use Rattle.wait_queue_receive.specs.Receive.{copied, emptyBy, receivedIf}
 use Rattle.events.specs.World.{World, tableOf, holdsOf, handlesOf, queueOf, slotIn, phaseIn, withTable, withQueue, queueFull, queued, unreadIn}
-use Rattle.events.specs.Outcome.{Answer, ok, no, isReply, onOk, Outcome, outcome, reply, valued, answered, refuse, checked}
+use Rattle.events.specs.Outcome.{Answer, ok, no, wait, blocked, reply, isReply, onOk, Outcome, outcome, said, refuse, checked}
 use Rattle.events.specs.Submit.{badOpcode, badList, longList, isPlaceholder, submittable, tableFull, reserveRows, reserved, takenHolds, begun, callRows, genericRows, stdfsRows, fmapRows, queueRows, notified, submitEntry, callEntry, genericEntry, stdMeta, fmapEntry, closeEntry, detachEntry}
 use Rattle.events.specs.Wake.{responseOf, cancelEntry, blockedBy, waitedBy, wokenBy, wakeable, wakeRows}
 use Rattle.events.specs.Entry.{isWaiting}
@@ -52,21 +55,44 @@ use Rattle.events.proofs.Stage.{Core, StageIn, clash, callerIs, canceli
 use Rattle.events.proofs.Stored.{Shape, shape, holding, stored-over, put-stored, vacate-stored, give-stored}
 use Rattle.events.proofs.Writes.{write-ok}
 
-valued-hands : (vs : List ℕ) → isReply (valued vs) ≡ false
-valued-hands [] = refl
-valued-hands (v ∷ vs) = refl
+-- the host's events hand nothing over
+module _ (h : Holds) (d : ℕ) where
+  open-quiet : isReply (said (openOf h d .answer)) ≡ false
+  open-quiet = go (ltb 63 d || not (eqb (getD (h .holds) d 0) 0))
+    where
+      go : (b : Bool) → isReply (said (cond b (openedAs BadArgument h) (openedAs Done (oneMore h d)) .answer)) ≡ false
+      go true = refl
+      go false = refl
 
-answered-hands : (a : numbered.Answer) → isReply (answered a) ≡ false
-answered-hands (numbered.success vs) = valued-hands vs
-answered-hands (numbered.refused n) = refl
-answered-hands numbered.waits = refl
+  copy-quiet : isReply (said (copyOf h d .answer)) ≡ false
+  copy-quiet = go (unheld (h .holds) (h .outside) d) (eqb (getD (h .holds) d 0) 65535)
+    where
+      go : (b c : Bool) → isReply (said (cond b (copiedAs BadArgument h) (cond c (copiedAs TooManyHolds h) (copiedAs Done (oneMore h d))) .answer)) ≡ false
+      go true c = refl
+      go false true = refl
+      go false false = refl
+
+  drop-quiet : isReply (said (dropOf h d .answer)) ≡ false
+  drop-quiet = go (unheld (h .holds) (h .outside) d)
+    where
+      go : (b : Bool) → isReply (said (cond b (droppedAs BadArgument h) (droppedAs Done (oneFewer h d)) .answer)) ≡ false
+      go true = refl
+      go false = refl
+
+  put-quiet : (n : Handles) (k : ℕ) → isReply (said (putOf h n d k .answer)) ≡ false
+  put-quiet n k = go (unheld (h .holds) (h .outside) d || not (isFree n k))
+    where
+      go : (b : Bool) → isReply (said (cond b (put BadArgument n h) (put Done (into n k d) (taken-in h d)) .answer)) ≡ false
+      go true = refl
+      go false = refl
 
 -- an event that tells nothing, whatever its answer
-none-told : (a : numbered.Answer) (h : List Fact) → onOk (answered a) (λ v. []) [] ++ h ≡ h
-none-told (numbered.success []) h = refl
-none-told (numbered.success (v ∷ vs)) h = refl
-none-told (numbered.refused n) h = refl
-none-told numbered.waits h = refl
+none-told : (a : Answer) (h : List Fact) → onOk a (λ v. []) [] ++ h ≡ h
+none-told (ok v) h = refl
+none-told (no k) h = refl
+none-told wait h = refl
+none-told blocked h = refl
+none-told (reply r) h = refl
 
 both : (a b : Bool) → a && b ≡ true → (a ≡ true) × (b ≡ true)
 both true b e = (refl, e)
@@ -131,8 +157,8 @@ module _ (r : Run) (whole : WellFormed (r .world)) (i : InvOf (r .world) (r .fac
       record { inv = j; right = record { hand = b; queue = s .queue ∙ still }; rest = record { bytes = refl; effects = refl; scheme = s .scheme } }
 
   -- the host's events
-  host-ok : (e : Event) (a : numbered.Answer) (u : World) → InvOf u h → Same w u → Ok r e (tells (λ v. [])) (outcome (answered a) [] u)
-  host-ok e a u j s = plain-ok e (λ v. []) (answered a) u (subst (InvOf u) (sym (none-told a h)) j) (answered-hands a) s
+  host-ok : (e : Event) (a : Answer) (u : World) → isReply a ≡ false → InvOf u h → Same w u → Ok r e (tells (λ v. [])) (outcome a [] u)
+  host-ok e a u b j s = plain-ok e (λ v. []) a u (subst (InvOf u) (sym (none-told a h)) j) b s
 
   turned-down : (e : Event) (f : ℕ → List Fact) (k : ℕ) → Ok r e (tells f) (refuse w k)
   turned-down e f k = plain-ok e f (no k) w i refl (record { queue = refl; scheme = refl })
@@ -341,13 +367,13 @@ module _ (r : Run) (whole : WellFormed (r .world)) (i : InvOf (r .world) (r .fac
       readBy : Bool → Outcome
       readBy b =
           record {
-            answer = answered (receiveAnswer (receivedIf b (queueOf w) len flags .answer));
+            answer = said (receivedIf b (queueOf w) len flags .answer);
             effects = [];
             bytes = take (copied (queueOf w) len) (unreadIn w);
             world = withQueue w (receivedIf b (queueOf w) len flags .queue) (w .words);
           }
 
-      empty : (x y z : Bool) → copied (queueOf w) len ≡ 0 → Ok r (on (read len flags)) reads (record { answer = answered (receiveAnswer (emptyBy x y z)); effects = []; bytes = take (copied (queueOf w) len) (unreadIn w); world = w })
+      empty : (x y z : Bool) → copied (queueOf w) len ≡ 0 → Ok r (on (read len flags)) reads (record { answer = said (emptyBy x y z); effects = []; bytes = take (copied (queueOf w) len) (unreadIn w); world = w })
       empty true y z q = record { inv = i; right = record { hand = refl; queue = still }; rest = record { bytes = ap (λ (m : ℕ). take m (unreadIn w)) q; effects = refl; scheme = refl } }
       empty false true z q = record { inv = i; right = record { hand = refl; queue = still }; rest = record { bytes = ap (λ (m : ℕ). take m (unreadIn w)) q; effects = refl; scheme = refl } }
       empty false false true q = record { inv = i; right = record { hand = refl; queue = still }; rest = record { bytes = ap (λ (m : ℕ). take m (unreadIn w)) q; effects = refl; scheme = refl } }
@@ -436,7 +462,7 @@ module _ (r : Run) (whole : WellFormed (r .world)) (i : InvOf (r .world) (r .fac
         go false = supply-go (phaseIn w n) refl
 
   driver-ok : (e : DriverEvent) → Ok r (on e) (viewOf (on e)) (step w (on e))
-  driver-ok (hostPut d k) = host-ok _ (putAnswer (putOf (holdsOf w) (handlesOf w) d k .answer)) _ i (record { queue = refl; scheme = refl })
+  driver-ok (hostPut d k) = host-ok _ _ _ (put-quiet (holdsOf w) d (handlesOf w) k) i (record { queue = refl; scheme = refl })
   driver-ok (reserve c) = reserve-ok c
   driver-ok (submit n c op fl args pid ds) = submit-ok n c op fl args pid ds
   driver-ok (call c op args uid gid pid ds) =
@@ -459,8 +485,8 @@ module _ (r : Run) (whole : WellFormed (r .world)) (i : InvOf (r .world) (r .fac
   driver-ok (supply n offset base count) = supply-ok n offset base count
 
   pub event-ok : (e : Event) → Ok r e (viewOf e) (step w e)
-  event-ok (hostOpen d) = host-ok _ (openAnswer (openOf (holdsOf w) d .answer)) _ i (record { queue = refl; scheme = refl })
-  event-ok (hostCopy d) = host-ok _ (copyAnswer (copyOf (holdsOf w) d .answer)) _ i (record { queue = refl; scheme = refl })
-  event-ok (hostDrop d) = host-ok _ (dropAnswer (dropOf (holdsOf w) d .answer)) _ i (record { queue = refl; scheme = refl })
+  event-ok (hostOpen d) = host-ok _ _ _ (open-quiet (holdsOf w) d) i (record { queue = refl; scheme = refl })
+  event-ok (hostCopy d) = host-ok _ _ _ (copy-quiet (holdsOf w) d) i (record { queue = refl; scheme = refl })
+  event-ok (hostDrop d) = host-ok _ _ _ (drop-quiet (holdsOf w) d) i (record { queue = refl; scheme = refl })
   event-ok (hostEnded c) = plain-ok _ (λ v. end c ∷ []) (ok 0) _ (inv-end c (tableOf w) h i) refl (record { queue = refl; scheme = refl })
   event-ok (on e) = driver-ok e

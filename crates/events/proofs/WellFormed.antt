@@ -16,7 +16,7 @@ use Rattle.handles.specs.declared.Handles.{Handles}
 use Rattle.handles.specs.Handles.{into, isFree, obtainBy, obtainIn, obtainOf}
 use Rattle.holds.specs.declared.Holds.{Holds}
 use Rattle.holds.specs.Holds.{unheld}
-use Rattle.host_put.specs.declared.PutAnswer.the-variants as putting
+use Rattle.answer.specs.declared.Answer.the-variants.{Done, BadArgument}
 use Rattle.host_put.specs.Put.{inside, put, putOf}
 use Rattle.host_ended.specs.Ended.{markedBy, markedOf, endedTable}
 use Rattle.parse_cqe.specs.declared.ParsedCqe.{ParsedCqe}
@@ -191,7 +191,7 @@ obtained-handles h n l k = go (numbers l)
 put-handles : (h : Holds) (n : Handles) (d k : ℕ) → length (putOf h n d k .handles .at) ≡ length (n .at)
 put-handles h n d k = go (unheld (h .holds) (h .outside) d || not (isFree n k))
   where
-    go : (b : Bool) → length (cond b (put putting.BadArgument n h) (put putting.Put (into n k d) (inside h d)) .handles .at) ≡ length (n .at)
+    go : (b : Bool) → length (cond b (put BadArgument n h) (put Done (into n k d) (inside h d)) .handles .at) ≡ length (n .at)
     go true = refl
     go false = length-set (n .at) k (suc d)
 

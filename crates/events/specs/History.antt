@@ -7,6 +7,7 @@ use lib.Dec.{eqb}
 use Rattle.error.specs.Errors.{demuxOf}
 use Rattle.flag.specs.Flags.{eventRead, eventHup}
 use Rattle.le.specs.Le.{byte, half, word}
+use Rattle.opcode.specs.Opcodes as opcode
 use Rattle.schemev2.specs.declared.Cqe.{Cqe}
 use Rattle.schemev2.specs.declared.CqeOpcode.{CqeOpcode}
 use Rattle.schemev2.specs.declared.CqeOpcode.the-variants.{RespondRegular, RespondWithFd, SendFevent, ObtainFd, RespondWithMultipleFds, RespondAndNotifyOnDetach, Unknown}
@@ -98,8 +99,8 @@ driverView (hostPut d k) = plain  -- the host's fifth event
 driverView (reserve c) = tells (λ n. to n (gave false c) ∷ [])  -- "a call from the start, submitted or not"
 driverView (submit n c op fl args pid ds) = sends (λ v. to n took ∷ []) (λ v. submitEntry n op fl args pid) eventRead
 driverView (call c op args uid gid pid ds) = begins c (callEntry op args uid gid pid)
-driverView (generic c pid fds base len ms) = begins c (genericEntry 28 pid fds base len ms)  -- opcode Call
-driverView (stdfs c pid fds base len ms) = begins c (genericEntry 33 pid fds base len (stdMeta ms))  -- opcode StdFsCall
+driverView (generic c pid fds base len ms) = begins c (genericEntry opcode.call pid fds base len ms)
+driverView (stdfs c pid fds base len ms) = begins c (genericEntry opcode.stdFsCall pid fds base len (stdMeta ms))
 driverView (fmap c id pages flags uid gid pid) = sends (λ n. to n (gave true c) ∷ []) (fmapEntry id pages flags uid gid pid) eventRead
 driverView (close id) = sends (λ v. []) (λ v. closeEntry id) (eventRead + eventHup)
 driverView (detach id pid) = sends (λ v. []) (λ v. detachEntry id pid) eventRead

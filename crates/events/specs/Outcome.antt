@@ -3,7 +3,8 @@
 use Prim.Native.Nat.{ℕ}
 use mathlib.Core.Bool.{Bool, true, false, cond}
 use mathlib.Core.List.{List, [], _∷_}
-use Rattle.answer.specs.Answer as numbered
+use Rattle.answer.specs.declared.Answer.{Answer as Case}
+use Rattle.answer.specs.declared.Answer.the-variants.{Done, Given, Submitted, Bytes, Descriptions, WouldWait, Blocked, Replied, NotFound, NoCaller, Interrupted, Again, Invalid, BadDescriptor, NotSupported, NotYours, Full, QueueFull, ShortWords, BadArgument, TooManyFds, TooManyHolds}
 use Rattle.flag.specs.Flags.{eventRead}
 use Rattle.events.specs.World.{World, schemeOf}
 
@@ -52,15 +53,34 @@ pub record Outcome : Type 0 where
 abbrev pub outcome : Answer → List ℕ → World → Outcome
 outcome a fx w = record { answer = a; effects = fx; bytes = []; world = w }
 
--- the number and values of a lower layer's answer: its first value, or 0
-abbrev pub valued : List ℕ → Answer
-valued [] = ok 0
-valued (v ∷ vs) = ok v
+-- 01's number and value of each case of the code's answer; a reply handed over stands beside it
+abbrev pub saidWith : Response → Case → Answer
+saidWith r Done = ok 0
+saidWith r (Given t) = ok (t .0)
+saidWith r (Submitted t) = ok (t .0)
+saidWith r (Bytes n) = ok n
+saidWith r (Descriptions n) = ok n
+saidWith r WouldWait = wait
+saidWith r Blocked = blocked
+saidWith r Replied = reply r
+saidWith r NotFound = no 2
+saidWith r NoCaller = no 3
+saidWith r Interrupted = no 4
+saidWith r Again = no 11
+saidWith r Invalid = no 22
+saidWith r BadDescriptor = no 77
+saidWith r NotSupported = no 95
+saidWith r NotYours = no 201
+saidWith r Full = no 202
+saidWith r QueueFull = no 203
+saidWith r ShortWords = no 204
+saidWith r BadArgument = no 205
+saidWith r TooManyFds = no 206
+saidWith r TooManyHolds = no 207
 
-abbrev pub answered : numbered.Answer → Answer
-answered (numbered.success vs) = valued vs
-answered (numbered.refused n) = no n
-answered numbered.waits = wait
+-- of an event that hands nothing over
+abbrev pub said : Case → Answer
+said a = saidWith (success 0 0 false) a
 
 -- refused: nothing changes
 abbrev pub refuse : World → ℕ → Outcome

@@ -9,6 +9,7 @@ use Rattle.counts.specs.Counts.{any}
 use Rattle.fd_list.specs.Lists.{listOf}
 use Rattle.flag.specs.Flags.{eventRead, eventHup, sqeMultipleIds}
 use Rattle.holds.specs.declared.Holds.{Holds}
+use Rattle.opcode.specs.Opcodes as opcode
 use Rattle.schemev2.specs.declared.Args.{Args}
 use Rattle.schemev2.specs.declared.Sqe.{Sqe}
 use Rattle.slot.specs.declared.Phase.{Phase}
@@ -120,7 +121,7 @@ genericRows w fds = row 22 (wrongFds fds) ∷ row 202 (tableFull w) ∷ row 203 
 
 abbrev pub genericOf : World → ℕ → ℕ → List ℕ → ℕ → ℕ → List ℕ → Outcome
 genericOf w c pid fds base len ms =
-    checked (refuse w) (genericRows w fds) (begun w (waitingOf c (listOf [])) (holdsOf w) (genericEntry 28 pid fds base len ms))
+    checked (refuse w) (genericRows w fds) (begun w (waitingOf c (listOf [])) (holdsOf w) (genericEntry opcode.call pid fds base len ms))
 
 -- `StdFsCallKind`: 1 to 8 and 10 to 16 (syscall/src/flag.rs, lines 515 to 533)
 abbrev pub wrongKind : ℕ → Bool
@@ -139,11 +140,11 @@ stdfsRows w fds ms = row 22 (ltb (length ms) 3) ∷ row 95 (wrongKind (kindByte 
 
 abbrev pub stdfsOf : World → ℕ → ℕ → List ℕ → ℕ → ℕ → List ℕ → Outcome
 stdfsOf w c pid fds base len ms =
-    checked (refuse w) (stdfsRows w fds ms) (begun w (waitingOf c (listOf [])) (holdsOf w) (genericEntry 33 pid fds base len (stdMeta ms)))
+    checked (refuse w) (stdfsRows w fds ms) (begun w (waitingOf c (listOf [])) (holdsOf w) (genericEntry opcode.stdFsCall pid fds base len (stdMeta ms)))
 
 -- `request_fmap`: an Fmap slot, which is no call; the offset is left out of the entry
 abbrev pub fmapEntry : ℕ → ℕ → ℕ → ℕ → ℕ → ℕ → ℕ → Sqe
-fmapEntry id pages flags uid gid pid n = sqe 21 0 n (args6 id flags pages 0 0 (mergeOf uid gid)) pid
+fmapEntry id pages flags uid gid pid n = sqe opcode.requestMmap 0 n (args6 id flags pages 0 0 (mergeOf uid gid)) pid
 
 abbrev pub fmapRows : World → List Row
 fmapRows w = row 202 (tableFull w) ∷ row 203 (queueFull w) ∷ []
@@ -154,7 +155,7 @@ fmapOf w c id pages flags uid gid pid =
 
 -- `close`: pid 0, tag 0, and its effect has READ and HUP
 abbrev pub closeEntry : ℕ → Sqe
-closeEntry id = sqe 27 0 0 (args6 id 0 0 0 0 0) 0
+closeEntry id = sqe opcode.closeMsg 0 0 (args6 id 0 0 0 0 0) 0
 
 abbrev pub queueRows : World → List Row
 queueRows w = row 203 (queueFull w) ∷ []
@@ -168,7 +169,7 @@ closeOf w id = checked (refuse w) (queueRows w) (notified w (eventRead + eventHu
 
 -- `detach`: the pid, tag 0
 abbrev pub detachEntry : ℕ → ℕ → Sqe
-detachEntry id pid = sqe 34 0 0 (args6 id 0 0 0 0 0) pid
+detachEntry id pid = sqe opcode.detach 0 0 (args6 id 0 0 0 0 0) pid
 
 abbrev pub detachOf : World → ℕ → ℕ → Outcome
 detachOf w id pid = checked (refuse w) (queueRows w) (notified w eventRead (detachEntry id pid))

@@ -7,6 +7,7 @@ use Rattle.fd_list.specs.declared.List.{List as Fds}
 use Rattle.fd_list.specs.Lists.{numbers}
 use Rattle.flag.specs.Flags.{sqeOneway}
 use Rattle.holds.specs.Holds.{outsideOf}
+use Rattle.opcode.specs.Opcodes as opcode
 use Rattle.schemev2.specs.declared.Sqe.{Sqe}
 use Rattle.slot.specs.declared.PageSpan.{PageSpan}
 use Rattle.slot.specs.declared.Phase.{Phase}
@@ -42,7 +43,7 @@ heldIn (many ds) = ds
 
 -- Cancel: ONEWAY, the call's tag, all else 0
 abbrev pub cancelEntry : ℕ → Sqe
-cancelEntry n = sqe 25 sqeOneway n (args6 0 0 0 0 0 0) 0
+cancelEntry n = sqe opcode.cancel sqeOneway n (args6 0 0 0 0 0 0) 0
 
 -- the reply leaves with its holds, which become outside ones, and its slot is vacated
 abbrev pub handedOver : World → ℕ → Outcome

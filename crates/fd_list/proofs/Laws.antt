@@ -1,6 +1,6 @@
 -- A list by its places, and as the numbers that it names. Assumes nothing.
 use Prim.Native.Nat.{ℕ, suc, _+_, _-_, _≤_, _<_, min}
-use mathlib.Core.Path.{_≡_, refl, sym, ap, _∙_}
+use mathlib.Core.Path.{_≡_, refl, sym, ap, ap₂, _∙_}
 use mathlib.Core.List.{List, [], _∷_, map}
 use native.Mathlib.Omega.{arith}
 use native.Mathlib.Numerals.{add-one}
@@ -8,7 +8,7 @@ use lib.ListN.{getD, set, length, take, drop, length-map, length-take, length-dr
 use lib.Seq.{sets, set-out, drop-cons, getD-take, length-sets, sets-eq, take-at}
 use Rattle.ids.specs.declared.Description.{Description}
 use Rattle.fd_list.specs.declared.List.{List as Sent}
-use Rattle.fd_list.specs.Lists.{desc, num, named, numbers, blank, listOf, withOf, restOf}
+use Rattle.fd_list.specs.Lists.{desc, num, named, numbers, blank, listOf, withOf, withoutOf, restOf}
 
 -- an array of structs: the relation that a need is handed speaks of the elements mapped
 pub length-mapped : (X Y : Type 0) (f : X → Y) (l : List X) (n : ℕ) → length (map f l) ≡ n → length l ≡ n
@@ -42,25 +42,29 @@ picked l i d q = ap num q ∙ sym (List·getD-map num (named l) i (desc 0))
 pub with-out : (l : Sent) (i : ℕ) (d : Description) → length (l .at) ≡ 16 → 16 ≤ i → l ≡ withOf l i d
 with-out l i d e b = sym (ap (λ (x : List Description). let r : Sent = record { at = x; len = l .len } in r) (set-out (l .at) i d (rw e b)))
 
--- a list without its first
-module _ (l : Sent) (at : List Description) (i : ℕ) (W : List Description) (w : sets at i (map desc (drop (i + 1) (numbers l))) ≡ W) where
-  pub rest-more : (d : Description) (m : Sent) (v : Sent) → i + 1 < length (numbers l) → d ≡ getD (named l) (i + 1) (desc 0) → m ≡ withOf (record { at = at; len = v .len }) i d →
-      sets (m .at) (i + 1) (map desc (drop ((i + 1) + 1) (numbers l))) ≡ W
-  rest-more d m v b q e =
-      let g : desc (getD (numbers l) (i + 1) 0) ≡ d = ap desc (List·getD-map num (named l) (i + 1) (desc 0)) ∙ sym q in
-      let c : drop (i + 1) (numbers l) ≡ getD (numbers l) (i + 1) 0 ∷ drop (suc (i + 1)) (numbers l) = drop-cons (numbers l) (i + 1) 0 b in
-      let s : set at i (desc (getD (numbers l) (i + 1) 0)) ≡ m .at = ap (λ (x : Description). set at i x) g ∙ sym (ap (λ (x : Sent). x .at) e) in
-      ap (λ (x : List Description). sets x (i + 1) (map desc (drop ((i + 1) + 1) (numbers l)))) (sym s)
-      ∙ (rw (add-one (i + 1)) (rw (add-one i) (sym (ap (λ (ds : List ℕ). sets at i (map desc ds)) (rw add-one at c)) ∙ rw add-one at w)))
+-- a list without its first k
+module _ (l : Sent) (k : ℕ) (at : List Description) (i : ℕ) (W : List Description) (w : sets at i (map desc (drop (i + k) (numbers l))) ≡ W) where
+  pub more :
+      (d : Description) (m : Sent) (v : Sent) → i + k < length (numbers l) → d ≡ getD (named l) (i + k) (desc 0)
+      → m ≡ withOf (record { at = at; len = v .len }) i d → sets (m .at) (i + 1) (map desc (drop ((i + 1) + k) (numbers l))) ≡ W
+  more d m v b q e =
+      let ns : List ℕ = numbers l in
+      let g : desc (getD ns (i + k) 0) ≡ d = ap desc (List·getD-map num (named l) (i + k) (desc 0)) ∙ sym q in
+      let s : set at i (desc (getD ns (i + k) 0)) ≡ m .at = ap (λ (x : Description). set at i x) g ∙ sym (ap (λ (x : Sent). x .at) e) in
+      let n : (i + 1) + k ≡ suc (i + k) = omega arith in
+      ap₂ (λ (x : List Description) (j : ℕ). sets x (i + 1) (map desc (drop j ns))) (sym s) n
+      ∙ ap (λ (j : ℕ). sets (set at i (desc (getD ns (i + k) 0))) j (map desc (drop (suc (i + k)) ns))) (add-one i)
+      ∙ ap (λ (ds : List ℕ). sets at i (map desc ds)) (sym (drop-cons ns (i + k) 0 b))
+      ∙ w
 
-  pub rest-end : length (numbers l) ≤ i + 1 → at ≡ W
-  rest-end b = ap (λ (ds : List ℕ). sets at i (map desc ds)) (sym (drop-of-length-le (numbers l) b)) ∙ w
+  pub end : length (numbers l) ≤ i + k → at ≡ W
+  end b = ap (λ (ds : List ℕ). sets at i (map desc ds)) (sym (drop-of-length-le (numbers l) b)) ∙ w
 
-pub rest-is : (l m : Sent) (i : ℕ) → (m .at) ≡ sets blank 0 (map desc (drop 1 (numbers l))) → i ≡ length (drop 1 (numbers l)) → record { at = m .at; len = i } ≡ restOf l
-rest-is l m i q e = rw (q, e) refl
+pub without-is : (l m : Sent) (k i : ℕ) → (m .at) ≡ sets blank 0 (map desc (drop k (numbers l))) → i ≡ length (drop k (numbers l)) → record { at = m .at; len = i } ≡ withoutOf l k
+without-is l m k i q e = rw (q, e) refl
 
-pub rest-size : (l : Sent) (i : ℕ) → length (numbers l) ≤ i + 1 → i ≤ length (numbers l) - 1 → i ≡ length (drop 1 (numbers l))
-rest-size l i b d = omega (arith, b, d, length-drop 1 (numbers l))
+pub without-size : (l : Sent) (k i : ℕ) → length (numbers l) ≤ i + k → i ≤ length (numbers l) - k → i ≡ length (drop k (numbers l))
+without-size l k i b d = omega (arith, b, d, length-drop k (numbers l))
 
 -- the numbers of a list made of at most 16 numbers are those numbers
 num-desc : (ds : List ℕ) → map num (map desc ds) ≡ ds

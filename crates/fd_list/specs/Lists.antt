@@ -29,5 +29,8 @@ listOf ds = record { at = sets blank 0 (map desc ds); len = length ds }
 abbrev pub withOf : Sent → ℕ → Description → Sent
 withOf l i d = record { at = set (l .at) i d; len = l .len }
 
+abbrev pub withoutOf : Sent → ℕ → Sent
+withoutOf l k = listOf (drop k (numbers l))
+
 abbrev pub restOf : Sent → Sent
-restOf l = listOf (drop 1 (numbers l))
+restOf l = withoutOf l 1

@@ -4,7 +4,7 @@ ghost use mathlib.Core.Path.{_≡_};
 ghost use mathlib.Core.List.{_∷_, []};
 ghost use Prim.Native.Nat.{_≤_};
 ghost use lib.ListN.{getD, length};
-ghost use Rattle.fd_list.specs.Lists.{desc, named, numbers, listOf, withOf, restOf};
+ghost use Rattle.fd_list.specs.Lists.{desc, named, numbers, listOf, withOf, withoutOf, restOf};
 
 // The first `len` of `at`.
 #[repr(C)]
@@ -80,23 +80,31 @@ pub fn with(l: List, i: usize, d: Description) -> List
     m
 }
 
-// A list without its first.
-pub fn rest(l: List) -> List
-    ensures { λ r. ⌜ r ≡ restOf l ⌝ }
+// A list without its first k; what stands behind its end is 0.
+pub fn without(l: List, k: u8) -> List
+    ensures { λ r. ⌜ r ≡ withoutOf l k ⌝ }
 {
     let n = size(l);
+    let first = wide(k);
     let zero = Description(0);
     let mut list = List {
         at: [zero; 16],
         len: 0,
     };
     let mut i = 0;
-    while i + 1 < n {
-        let d = pick(l, i + 1);
+    while i + first < n {
+        let d = pick(l, i + first);
         let longer = with(list, i, d);
         list = longer;
         i += 1;
     }
     list.len = i as u8;
     list
+}
+
+// A list without its first.
+pub fn rest(l: List) -> List
+    ensures { λ r. ⌜ r ≡ restOf l ⌝ }
+{
+    without(l, 1)
 }

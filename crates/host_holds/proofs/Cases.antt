@@ -15,9 +15,7 @@ use Rattle.counts.specs.Counts.{less, more}
 use Rattle.holds.specs.declared.Holds.{Holds}
 use Rattle.holds.specs.Holds.{holdsWith, unheld, heldOf}
 use Rattle.holds.proofs.Laws.{held-not, held-is, held-named, over-named}
-use Rattle.host_holds.specs.declared.OpenAnswer.the-variants as opening
-use Rattle.host_holds.specs.declared.CopyAnswer.the-variants as copying
-use Rattle.host_holds.specs.declared.DropAnswer.the-variants as dropping
+use Rattle.answer.specs.declared.Answer.the-variants.{Done, BadArgument, TooManyHolds}
 use Rattle.host_holds.specs.Host.{oneMore, oneFewer, openedAs, openOf, copiedAs, copyOf, droppedAs, dropOf}
 
 module _ (h : Holds) (d : ℕ) where
@@ -33,17 +31,17 @@ at-word a d w r e q = q ∙ ap (λ (x : Description). getD a (x .0) 0) e
 
 module _ (h : Holds) (w : ℕ) (f : DescriptionFound) where
   module _ (q : f ≡ descriptionOf w) where
-    pub open-over : f ≡ found.Outside → openedAs opening.BadArgument h ≡ openOf h w
+    pub open-over : f ≡ found.Outside → openedAs BadArgument h ≡ openOf h w
     open-over e = rw (lt-ltb 63 w (over-named (h .holds) (h .outside) w f q e)) refl
 
     module _ (d : Description) (e : f ≡ found.At d) (r : ℕ) (c : r ≡ getD (h .holds) (d .0) 0) where
       named : (w < 64) × (d ≡ desc w)
       named = held-named (h .holds) (h .outside) w f q d e
 
-      pub open-shut : (r ≡ 0 → ⊥) → openedAs opening.BadArgument h ≡ openOf h w
+      pub open-shut : (r ≡ 0 → ⊥) → openedAs BadArgument h ≡ openOf h w
       open-shut z = rw (le-ltb 63 w (omega (arith, named .0)), ne-eqb (getD (h .holds) w 0) 0 (λ y. z (at-word (h .holds) d w r (named .1) c ∙ y))) refl
 
-      pub open-in : r ≡ 0 → (t : Holds) → t ≡ oneMore h (d .0) → openedAs opening.Opened t ≡ openOf h w
+      pub open-in : r ≡ 0 → (t : Holds) → t ≡ oneMore h (d .0) → openedAs Done t ≡ openOf h w
       open-in z t p = rw (le-ltb 63 w (omega (arith, named .0)), eq-eqb (getD (h .holds) w 0) 0 (sym (at-word (h .holds) d w r (named .1) c) ∙ z), p, named .1) refl
 
   module _ (q : f ≡ heldOf (h .holds) (h .outside) w) where
@@ -51,21 +49,21 @@ module _ (h : Holds) (w : ℕ) (f : DescriptionFound) where
       bad : unheld (h .holds) (h .outside) w ≡ true
       bad = held-not (h .holds) (h .outside) w f q e
 
-      pub copy-bad : copiedAs copying.BadArgument h ≡ copyOf h w
+      pub copy-bad : copiedAs BadArgument h ≡ copyOf h w
       copy-bad = rw bad refl
 
-      pub drop-bad : droppedAs dropping.BadArgument h ≡ dropOf h w
+      pub drop-bad : droppedAs BadArgument h ≡ dropOf h w
       drop-bad = rw bad refl
 
     module _ (d : Description) (e : f ≡ found.At d) where
       good : (unheld (h .holds) (h .outside) w ≡ false) × (d ≡ desc w)
       good = held-is (h .holds) (h .outside) w f q d e
 
-      pub copy-full : (r : ℕ) → r ≡ getD (h .holds) (d .0) 0 → r ≡ 65535 → copiedAs copying.TooManyHolds h ≡ copyOf h w
+      pub copy-full : (r : ℕ) → r ≡ getD (h .holds) (d .0) 0 → r ≡ 65535 → copiedAs TooManyHolds h ≡ copyOf h w
       copy-full r c z = rw (good .0, eq-eqb (getD (h .holds) w 0) 65535 (sym (at-word (h .holds) d w r (good .1) c) ∙ z)) refl
 
-      pub copy-in : (r : ℕ) → r ≡ getD (h .holds) (d .0) 0 → (r ≡ 65535 → ⊥) → (t : Holds) → t ≡ oneMore h (d .0) → copiedAs copying.Copied t ≡ copyOf h w
+      pub copy-in : (r : ℕ) → r ≡ getD (h .holds) (d .0) 0 → (r ≡ 65535 → ⊥) → (t : Holds) → t ≡ oneMore h (d .0) → copiedAs Done t ≡ copyOf h w
       copy-in r c z t p = rw (good .0, ne-eqb (getD (h .holds) w 0) 65535 (λ y. z (at-word (h .holds) d w r (good .1) c ∙ y)), p, good .1) refl
 
-      pub drop-in : (t : Holds) → t ≡ oneFewer h (d .0) → droppedAs dropping.Dropped t ≡ dropOf h w
+      pub drop-in : (t : Holds) → t ≡ oneFewer h (d .0) → droppedAs Done t ≡ dropOf h w
       drop-in t p = rw (good .0, p, good .1) refl

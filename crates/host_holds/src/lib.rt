@@ -1,75 +1,24 @@
 // The host's events on holds: open, copy and drop. A refusal changes nothing.
+use answer::Answer;
 use holds::Holds;
 use ids::Description;
 use ids::DescriptionFound;
 ghost use mathlib.Core.Path.{_≡_};
-ghost use Rattle.answer.specs.Answer.{numberOf};
-ghost use Rattle.host_holds.specs.Host.{oneMore, oneFewer, openOf, openAnswer, copyOf, copyAnswer, dropOf, dropAnswer};
-
-pub enum OpenAnswer {
-    Opened,
-    BadArgument,
-}
+ghost use Rattle.host_holds.specs.Host.{oneMore, oneFewer, openOf, copyOf, dropOf};
 
 pub struct HoldOpened {
-    pub answer: OpenAnswer,
+    pub answer: Answer,
     pub holds: Holds,
-}
-
-pub enum CopyAnswer {
-    Copied,
-    BadArgument,
-    TooManyHolds,
 }
 
 pub struct HoldCopied {
-    pub answer: CopyAnswer,
+    pub answer: Answer,
     pub holds: Holds,
-}
-
-pub enum DropAnswer {
-    Dropped,
-    BadArgument,
 }
 
 pub struct HoldDropped {
-    pub answer: DropAnswer,
+    pub answer: Answer,
     pub holds: Holds,
-}
-
-impl OpenAnswer {
-    // 01's number: 0, or the refusal's.
-    pub fn number(self) -> u64
-        ensures { λ r. ⌜ r ≡ numberOf (openAnswer self) ⌝ }
-    {
-        match self {
-            OpenAnswer::Opened => 0,
-            OpenAnswer::BadArgument => 205,
-        }
-    }
-}
-
-impl CopyAnswer {
-    pub fn number(self) -> u64
-        ensures { λ r. ⌜ r ≡ numberOf (copyAnswer self) ⌝ }
-    {
-        match self {
-            CopyAnswer::Copied => 0,
-            CopyAnswer::BadArgument => 205,
-            CopyAnswer::TooManyHolds => 207,
-        }
-    }
-}
-
-impl DropAnswer {
-    pub fn number(self) -> u64
-        ensures { λ r. ⌜ r ≡ numberOf (dropAnswer self) ⌝ }
-    {
-        match self {
-            DropAnswer::Dropped => 0,
-            DropAnswer::BadArgument => 205,
-        }
-    }
 }
 
 // One hold more, an outside one.
@@ -107,18 +56,18 @@ pub fn open_hold(h: Holds, word: u64) -> HoldOpened
     let found = ids::description_of(word);
     match found {
         DescriptionFound::Outside => HoldOpened {
-            answer: OpenAnswer::BadArgument,
+            answer: Answer::BadArgument,
             holds: h,
         },
         DescriptionFound::At(d) => {
             if holds::count_of(h, d) != 0 {
                 return HoldOpened {
-                    answer: OpenAnswer::BadArgument,
+                    answer: Answer::BadArgument,
                     holds: h,
                 };
             }
             HoldOpened {
-                answer: OpenAnswer::Opened,
+                answer: Answer::Done,
                 holds: one_more(h, d),
             }
         }
@@ -132,18 +81,18 @@ pub fn copy_hold(h: Holds, word: u64) -> HoldCopied
     let found = holds::held_of(h, word);
     match found {
         DescriptionFound::Outside => HoldCopied {
-            answer: CopyAnswer::BadArgument,
+            answer: Answer::BadArgument,
             holds: h,
         },
         DescriptionFound::At(d) => {
             if holds::count_of(h, d) == 65535 {
                 return HoldCopied {
-                    answer: CopyAnswer::TooManyHolds,
+                    answer: Answer::TooManyHolds,
                     holds: h,
                 };
             }
             HoldCopied {
-                answer: CopyAnswer::Copied,
+                answer: Answer::Done,
                 holds: one_more(h, d),
             }
         }
@@ -157,11 +106,11 @@ pub fn drop_hold(h: Holds, word: u64) -> HoldDropped
     let found = holds::held_of(h, word);
     match found {
         DescriptionFound::Outside => HoldDropped {
-            answer: DropAnswer::BadArgument,
+            answer: Answer::BadArgument,
             holds: h,
         },
         DescriptionFound::At(d) => HoldDropped {
-            answer: DropAnswer::Dropped,
+            answer: Answer::Done,
             holds: one_fewer(h, d),
         },
     }

@@ -13,22 +13,22 @@ use Rattle.holds.specs.Holds.{holdsWith, unheld, heldOf}
 use Rattle.holds.proofs.Laws.{held-not, held-is}
 use Rattle.handles.specs.declared.Handles.{Handles}
 use Rattle.handles.specs.Handles.{isFree, into}
-use Rattle.host_put.specs.declared.PutAnswer.the-variants as putting
+use Rattle.answer.specs.declared.Answer.the-variants.{Done, BadArgument}
 use Rattle.host_put.specs.Put.{inside, put, putOf}
 
 pub inside-is : (h : Holds) (d : ℕ) (o : List ℕ) → o ≡ less (h .outside) d → holdsWith (h .holds) o ≡ inside h d
 inside-is h d o q = rw q refl
 
 module _ (h : Holds) (w : ℕ) (f : DescriptionFound) (q : f ≡ heldOf (h .holds) (h .outside) w) where
-  pub put-bad : f ≡ found.Outside → (n : Handles) (k : ℕ) → put putting.BadArgument n h ≡ putOf h n w k
+  pub put-bad : f ≡ found.Outside → (n : Handles) (k : ℕ) → put BadArgument n h ≡ putOf h n w k
   put-bad e n k = rw (held-not (h .holds) (h .outside) w f q e) refl
 
   module _ (d : Description) (e : f ≡ found.At d) (n : Handles) (k : ℕ) (b : Bool) (u : b ≡ isFree n k) where
     good : (unheld (h .holds) (h .outside) w ≡ false) × (d ≡ desc w)
     good = held-is (h .holds) (h .outside) w f q d e
 
-    pub put-full : b ≡ false → put putting.BadArgument n h ≡ putOf h n w k
+    pub put-full : b ≡ false → put BadArgument n h ≡ putOf h n w k
     put-full z = rw (good .0, sym u ∙ z) refl
 
-    pub put-in : b ≡ true → (m : Handles) (t : Holds) → m ≡ into n k (d .0) → t ≡ inside h (d .0) → put putting.Put m t ≡ putOf h n w k
+    pub put-in : b ≡ true → (m : Handles) (t : Holds) → m ≡ into n k (d .0) → t ≡ inside h (d .0) → put Done m t ≡ putOf h n w k
     put-in z m t p s = rw (good .0, sym u ∙ z, p, s, good .1) refl

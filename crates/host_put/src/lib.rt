@@ -1,34 +1,17 @@
 // The host's event that moves an outside hold into a handle. A refusal changes nothing.
+use answer::Answer;
 use handles::Handles;
 use holds::Holds;
 use ids::Description;
 use ids::DescriptionFound;
 use ids::Handle;
 ghost use mathlib.Core.Path.{_≡_};
-ghost use Rattle.answer.specs.Answer.{numberOf};
-ghost use Rattle.host_put.specs.Put.{inside, putOf, putAnswer};
-
-pub enum PutAnswer {
-    Put,
-    BadArgument,
-}
+ghost use Rattle.host_put.specs.Put.{inside, putOf};
 
 pub struct HoldPut {
-    pub answer: PutAnswer,
+    pub answer: Answer,
     pub handles: Handles,
     pub holds: Holds,
-}
-
-impl PutAnswer {
-    // 01's number: 0, or the refusal's.
-    pub fn number(self) -> u64
-        ensures { λ r. ⌜ r ≡ numberOf (putAnswer self) ⌝ }
-    {
-        match self {
-            PutAnswer::Put => 0,
-            PutAnswer::BadArgument => 205,
-        }
-    }
 }
 
 // One outside hold is outside no more.
@@ -51,20 +34,20 @@ pub fn put_hold(h: Holds, n: Handles, word: u64, k: Handle) -> HoldPut
     let found = holds::held_of(h, word);
     match found {
         DescriptionFound::Outside => HoldPut {
-            answer: PutAnswer::BadArgument,
+            answer: Answer::BadArgument,
             handles: n,
             holds: h,
         },
         DescriptionFound::At(d) => {
             if !handles::is_free(n, k) {
                 return HoldPut {
-                    answer: PutAnswer::BadArgument,
+                    answer: Answer::BadArgument,
                     handles: n,
                     holds: h,
                 };
             }
             HoldPut {
-                answer: PutAnswer::Put,
+                answer: Answer::Done,
                 handles: handles::put_into(n, k, d),
                 holds: moved_inside(h, d),
             }

@@ -1,13 +1,13 @@
 // What a run writes of a read, with the bytes that it stored, and of a write, with the words of its effects, into bytes that are
 // lent. What lies past the end is not stored.
-use answer_words::AnswerWords;
+use answer::Answer;
 ghost use mathlib.Core.Path.{_≡_};
 ghost use mathlib.Core.List.{[]};
 ghost use Prim.Native.Nat.{_≤_, _+_, _*_};
 ghost use lib.ListN.{length};
 ghost use lib.Seq.{sets};
 ghost use Rattle.le.specs.Le.{bytesOf};
-ghost use Rattle.answer_words.specs.Words.{answerOf};
+ghost use Rattle.events.specs.Outcome.{said};
 ghost use Rattle.outcome_bytes.specs.Output.{told};
 
 fn put_words(out: &mut [u8], at: usize, ws: &[u64])
@@ -60,29 +60,27 @@ fn put_bytes(out: &mut [u8], at: usize, bs: &[u8])
 }
 
 // A read, with the bytes that it stored.
-pub fn put_received(out: &mut [u8], a: AnswerWords, bytes: &[u8]) -> usize
-    ensures { λ r. ⌜ now (out .exit) ≡ sets (now (out .entry)) 0 (told (answerOf a) [] (now (bytes .entry))) ⌝ }
-    ensures { λ r. ⌜ r ≡ length (told (answerOf a) [] (now (bytes .entry))) ⌝ }
-    ensures { λ r. ⌜ r ≡ 32 + length (now (bytes .entry)) ⌝ }
+pub fn put_received(out: &mut [u8], a: Answer, bytes: &[u8]) -> usize
+    ensures { λ r. ⌜ now (out .exit) ≡ sets (now (out .entry)) 0 (told (said a) [] (now (bytes .entry))) ⌝ }
+    ensures { λ r. ⌜ r ≡ length (told (said a) [] (now (bytes .entry))) ⌝ }
+    ensures { λ r. ⌜ r ≤ 48 + length (now (bytes .entry)) ⌝ }
 {
-    let b = outcome_bytes::plain(a);
-    le_put::put_two(out, 0, b.kind, b.value);
-    le_put::put_two(out, 16, 0, bytes.len() as u64);
-    put_bytes(out, 32, bytes);
-    32 + bytes.len()
+    let k = outcome_bytes::put_answer(out, a);
+    le_put::put_two(out, k, 0, bytes.len() as u64);
+    put_bytes(out, k + 16, bytes);
+    k + 16 + bytes.len()
 }
 
 // A write, with the words of its effects.
-pub fn put_completed(out: &mut [u8], a: AnswerWords, fx: &[u64]) -> usize
-    ensures { λ r. ⌜ now (out .exit) ≡ sets (now (out .entry)) 0 (told (answerOf a) (now (fx .entry)) []) ⌝ }
-    ensures { λ r. ⌜ r ≡ length (told (answerOf a) (now (fx .entry)) []) ⌝ }
-    ensures { λ r. ⌜ r ≡ 32 + 8 * length (now (fx .entry)) ⌝ }
+pub fn put_completed(out: &mut [u8], a: Answer, fx: &[u64]) -> usize
+    ensures { λ r. ⌜ now (out .exit) ≡ sets (now (out .entry)) 0 (told (said a) (now (fx .entry)) []) ⌝ }
+    ensures { λ r. ⌜ r ≡ length (told (said a) (now (fx .entry)) []) ⌝ }
+    ensures { λ r. ⌜ r ≤ 48 + 8 * length (now (fx .entry)) ⌝ }
 {
-    let b = outcome_bytes::plain(a);
+    let k = outcome_bytes::put_answer(out, a);
     let n = fx.len();
-    le_put::put_two(out, 0, b.kind, b.value);
-    le_put::put8(out, 16, n as u64);
-    put_words(out, 24, fx);
-    le_put::put8(out, 24 + 8 * n, 0);
-    32 + 8 * n
+    le_put::put8(out, k, n as u64);
+    put_words(out, k + 8, fx);
+    le_put::put8(out, k + 8 + 8 * n, 0);
+    k + 16 + 8 * n
 }

@@ -1,7 +1,7 @@
 -- Each way through the code gives the definition's case. Assumes nothing.
 use mathlib.Core.Path.{_≡_, sym, ap, _∙_}
 use Prim.Native.Nat.{ℕ}
-use Rattle.answer.specs.Answer.{numberOf}
+use Rattle.answer.specs.Numbered.{numberOf}
 use Rattle.error.specs.declared.Error.{Error}
 use Rattle.error.specs.declared.Result.{Result}
 use Rattle.error.specs.declared.Result.the-variants as result

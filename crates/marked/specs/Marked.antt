@@ -2,7 +2,7 @@
 use mathlib.Core.List.{List, [], _∷_}
 use Prim.Native.Nat.{ℕ}
 use lib.ListN.{replicate}
-use Rattle.answer.specs.Answer.{Answer, success, refused}
+use Rattle.answer.specs.Numbered.{Numbered, success, refused}
 use Rattle.error.specs.Errors.{demuxOf, resultAnswer}
 use Rattle.schemev2.specs.declared.Cqe.{Cqe}
 use Rattle.schemev2.specs.Entry.{cqeOf, kindOf, extraOf}
@@ -13,7 +13,7 @@ use Rattle.user_args.specs.Args.{mergeOf}
 abbrev kindByte : ℕ → Cqe
 kindByte b = cqeOf (b ∷ replicate 15 0)
 
-unfoldable pub defined : List Answer
+unfoldable pub defined : List Numbered
 defined =
     resultAnswer (demuxOf 0xffff_ffff)
     ∷ resultAnswer (demuxOf 0xffff_ff7c)
@@ -27,7 +27,7 @@ defined =
     ∷ parsedAnswer (parsedOf (kindByte 6))
     ∷ []
 
-unfoldable pub paper : List Answer
+unfoldable pub paper : List Numbered
 paper =
     refused 1
     ∷ refused 132

@@ -1,4 +1,5 @@
 // `next_id` (src/scheme/user.rs, line 185): a reserve, a Placeholder of the caller's.
+use answer::Answer;
 use ids::Tag;
 use part::Part;
 ghost use mathlib.Core.Path.{_≡_};
@@ -8,27 +9,21 @@ ghost use Rattle.holds.specs.declared.Holds.{Holds};
 ghost use Rattle.state.specs.declared.State.{State};
 ghost use Rattle.part.specs.Part.{Stands, found, leaves};
 ghost use Rattle.events.specs.World.{world};
-ghost use Rattle.events.specs.Outcome.{outcome};
+ghost use Rattle.events.specs.Outcome.{outcome, said};
 ghost use Rattle.events.specs.Submit.{reserveOf};
-ghost use Rattle.next_id.specs.NextId.{nextIdAnswer};
-
-pub enum NextIdAnswer {
-    Reserved(Tag),
-    Full,
-}
 
 pub struct NextIdStep {
-    pub answer: NextIdAnswer,
+    pub answer: Answer,
     pub part: Part,
 }
 
 pub fn next_id(p: Part, caller: u32) -> NextIdStep
-    ensures { λ r. ⌜ ((s : State) (h : Holds) (ws : List ℕ) → Stands s (p .head % 64) p → outcome (nextIdAnswer (r .answer)) [] (world (leaves s (p .head % 64) (r .part) h) ws) ≡ reserveOf (world (found s p h) ws) caller) ⌝ }
+    ensures { λ r. ⌜ ((s : State) (h : Holds) (ws : List ℕ) → Stands s (p .head % 64) p → outcome (said (r .answer)) [] (world (leaves s (p .head % 64) (r .part) h) ws) ≡ reserveOf (world (found s p h) ws) caller) ⌝ }
 {
     let n = p.head;
     if 64 <= n {
         return NextIdStep {
-            answer: NextIdAnswer::Full,
+            answer: Answer::Full,
             part: p,
         };
     }
@@ -36,7 +31,7 @@ pub fn next_id(p: Part, caller: u32) -> NextIdStep
     let q = p.queue;
     let u = part::given(p, v, q);
     NextIdStep {
-        answer: NextIdAnswer::Reserved(Tag(n as u64)),
+        answer: Answer::Given(Tag(n as u64)),
         part: u,
     }
 }

@@ -9,7 +9,7 @@ use native.Mathlib.Omega.{arith}
 use lib.Dec.{eqb, leb}
 use lib.ListN.{length, getD}
 use borrow.Author.Tests.{eqb-true, le-leb, lt-leb}
-use Rattle.opcode.specs.Opcodes.{opcodeIf, opcodeOf}
+use Rattle.opcode.specs.Opcodes.{opcodeIf, opcodeOf, opcodes}
 use Rattle.opcode.specs.declared.RawOpcode.{RawOpcode}
 use Rattle.opcode.specs.declared.RawOpcode.the-variants.{Opcode, Unknown}
 
@@ -31,11 +31,7 @@ rising-at (x ∷ xs) k zero t h = eqb-true x k (left (eqb x k) (rising (suc k) x
 rising-at (x ∷ xs) k (suc n) t h =
     rising-at xs (suc k) n (right (eqb x k) (rising (suc k) xs) t) (le-of-suc-le-suc h) ∙ suc-add k n ∙ sym (add-suc k n)
 
-abbrev pub table : List ℕ
-table =
-    3 ∷ 4 ∷ 5 ∷ 6 ∷ 7 ∷ 8 ∷ 9 ∷ 10 ∷ 11 ∷ 12 ∷ 13 ∷ 14 ∷ 15 ∷ 16 ∷ 17 ∷ 18 ∷ 19 ∷ 20 ∷ 21 ∷ 22 ∷ 23 ∷ 24 ∷ 25 ∷ 26 ∷ 27 ∷ 28 ∷ 29 ∷ 30 ∷ 31 ∷ 32 ∷ 33 ∷ 34 ∷ []
-
--- the three ways through `try_from_raw`
+-- the ways through `try_from_raw`
 pub under : (n : ℕ) → n < 3 → Unknown ≡ opcodeOf n
 under n h = sym (ap (λ (b : Bool). opcodeIf (b && leb n 34) n) (lt-leb 3 n h))
 
@@ -43,11 +39,18 @@ module _ (n : ℕ) (low : 3 ≤ n) where
   chosen : (b : Bool) → leb n 34 ≡ b → opcodeIf b n ≡ opcodeOf n
   chosen b e = ap (λ (t : Bool). opcodeIf t n) (sym e) ∙ ap (λ (t : Bool). opcodeIf (t && leb n 34) n) (sym (le-leb 3 n low))
 
-  pub over : 34 < n → Unknown ≡ opcodeOf n
-  over h = chosen false (lt-leb n 34 h)
+  pub over : 32 ≤ n - 3 → Unknown ≡ opcodeOf n
+  over h = chosen false (lt-leb n 34 (omega (arith, low, h)))
 
-  pub inside : n ≤ 34 → Opcode (getD table (n - 3) 0) ≡ opcodeOf n
-  inside h = ap Opcode (rising-at table 3 (n - 3) refl (omega arith) ∙ back) ∙ chosen true (le-leb n 34 h)
-    where
-      back : 3 + (n - 3) ≡ n
-      back = omega arith
+  -- what stands at a number's place is that number
+  named : n - 3 < 32 → getD opcodes (n - 3) 0 ≡ n
+  named h = rising-at opcodes 3 (n - 3) refl h ∙ omega (arith, low)
+
+  pub inside : n - 3 < 32 → Opcode (getD opcodes (n - 3) 0) ≡ opcodeOf n
+  inside h = ap Opcode (named h) ∙ chosen true (le-leb n 34 (omega (arith, h)))
+
+  pub never : n - 3 < 32 → (getD opcodes (n - 3) 0 ≡ n → ⊥) → Unknown ≡ opcodeOf n
+  never h z = absurd (z (named h))
+
+  pub small : n - 3 < 32 → getD opcodes (n - 3) 0 < 0x1_0000_0000_0000_0000
+  small h = let e = named h in omega (arith, e, h)

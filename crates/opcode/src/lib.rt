@@ -1,7 +1,6 @@
 // The opcodes of submission entries: `Opcode::try_from_raw` (syscall/src/schemev2.rs, lines 168 to 212).
 ghost use mathlib.Core.Path.{_≡_};
-ghost use Rattle.answer.specs.Answer.{numberOf};
-ghost use Rattle.opcode.specs.Opcodes.{opcodeOf, opcodeAnswer};
+ghost use Rattle.opcode.specs.Opcodes.{opcodeOf, requestMmap, cancel, closeMsg, call, stdFsCall, detach};
 
 // The Rust's `enum Opcode`, in its order.
 const OPCODES: [u8; 32] = [
@@ -45,27 +44,58 @@ pub enum RawOpcode {
     Unknown,
 }
 
+// The table decides: its opcodes rise one by one, so that a number's place is its distance from the first.
 pub fn try_from_raw(raw: u64) -> RawOpcode
     ensures { λ r. ⌜ r ≡ opcodeOf raw ⌝ }
 {
-    if raw < 3 {
+    let first = OPCODES[0] as u64;
+    if raw < first {
         return RawOpcode::Unknown;
     }
-    if 34 < raw {
+    let n = raw - first;
+    if 32 <= n {
         return RawOpcode::Unknown;
     }
-    let n = (raw - 3) as usize;
-    RawOpcode::Opcode(OPCODES[n])
+    let op = OPCODES[n as usize];
+    if op as u64 != raw {
+        return RawOpcode::Unknown;
+    }
+    RawOpcode::Opcode(op)
 }
 
-impl RawOpcode {
-    // 01's number: 0 for an opcode, 205 for a number that names none.
-    pub fn number(self) -> u64
-        ensures { λ r. ⌜ r ≡ numberOf (opcodeAnswer self) ⌝ }
-    {
-        match self {
-            RawOpcode::Opcode(_) => 0,
-            RawOpcode::Unknown => 205,
-        }
-    }
+// The opcodes of the layer's own entries.
+pub fn request_mmap() -> u8
+    ensures { λ r. ⌜ r ≡ requestMmap ⌝ }
+{
+    OPCODES[18]
+}
+
+pub fn cancel() -> u8
+    ensures { λ r. ⌜ r ≡ cancel ⌝ }
+{
+    OPCODES[22]
+}
+
+pub fn close_msg() -> u8
+    ensures { λ r. ⌜ r ≡ closeMsg ⌝ }
+{
+    OPCODES[24]
+}
+
+pub fn call() -> u8
+    ensures { λ r. ⌜ r ≡ call ⌝ }
+{
+    OPCODES[25]
+}
+
+pub fn std_fs_call() -> u8
+    ensures { λ r. ⌜ r ≡ stdFsCall ⌝ }
+{
+    OPCODES[30]
+}
+
+pub fn detach() -> u8
+    ensures { λ r. ⌜ r ≡ detach ⌝ }
+{
+    OPCODES[31]
 }

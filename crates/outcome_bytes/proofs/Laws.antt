@@ -1,12 +1,13 @@
 -- The parts of what is told of an event, one behind the other. Assumes nothing.
 use Prim.Native.Nat.{ℕ, zero, suc, _+_, _*_, _<_, _≤_}
 use mathlib.Core.Path.{_≡_, refl, sym, ap, ap₂, _∙_, subst}
-use mathlib.Core.Bool.{Bool, cond}
+use mathlib.Core.Bool.{Bool, false, cond}
 use mathlib.Core.List.{List, [], _∷_, _++_, append-assoc, append-nil}
 use native.Mathlib.Omega.{arith}
 use lib.ListN.{length, length-append}
 use lib.Seq.{sets}
 use borrow.Author.Tests.{eq-eqb, ne-eqb}
+use Rattle.answer.specs.declared.Answer.{Answer as Case}
 use Rattle.effect.specs.declared.Effect.{Effect}
 use Rattle.effect.specs.Effect.{effectWords}
 use Rattle.fd_list.specs.declared.List.{List as Fds}
@@ -14,8 +15,9 @@ use Rattle.fd_list.specs.Lists.{numbers}
 use Rattle.slot.specs.declared.Reply.{Reply}
 use Rattle.status.specs.Status.{bit}
 use Rattle.answer_words.specs.declared.AnswerWords.{AnswerWords}
-use Rattle.answer_words.specs.Words.{answerOf, repliedOf}
-use Rattle.events.specs.Outcome.{Answer, Response, many, reply}
+use Rattle.answer_words.specs.Words.{wordsOf}
+use Rattle.answer_words.proofs.Laws.{with-reply}
+use Rattle.events.specs.Outcome.{Response, success, many, Answer, ok, no, wait, blocked, reply, saidWith, said}
 use Rattle.events.specs.Wake.{responseBy, responseFrom}
 use Rattle.outcome_bytes.specs.Output.{answerWords, told}
 use Rattle.le.specs.Le.{bytes8, bytesOf}
@@ -129,15 +131,23 @@ module _ (r : Reply) (fds : Fds) (l m n : List ℕ) where
         ),
       )
 
--- a wake's answer, with a reply and without
-pub with-reply : (a : AnswerWords) (r : Reply) (fds : Fds) → a .kind ≡ 4 → repliedOf a r fds ≡ reply (responseFrom r fds)
-with-reply a r fds e = ap (λ (b : Bool). cond b (reply (responseFrom r fds)) (answerOf a)) (eq-eqb (a .kind) 4 e)
+-- an answer that is no reply has two words, one that is has the reply's
+two-words : (x : Answer) → (wordsOf x .kind ≡ 4 → ⊥) → (wordsOf x .kind ∷ wordsOf x .value ∷ []) ≡ answerWords x
+two-words (ok v) z = refl
+two-words (no k) z = refl
+two-words wait z = refl
+two-words blocked z = refl
+two-words (reply r) z = absurd (z refl)
 
-pub without : (a : AnswerWords) (r : Reply) (fds : Fds) → (a .kind ≡ 4 → ⊥) → repliedOf a r fds ≡ answerOf a
-without a r fds e = ap (λ (b : Bool). cond b (reply (responseFrom r fds)) (answerOf a)) (ne-eqb (a .kind) 4 e)
+module _ (w : AnswerWords) (r : Response) (a : Case) (p : w ≡ wordsOf (saidWith r a)) where
+  pub plain-words : (w .kind ≡ 4 → ⊥) → (w .kind ∷ w .value ∷ []) ≡ answerWords (saidWith r a)
+  plain-words z = ap (λ (x : AnswerWords). x .kind ∷ x .value ∷ []) p ∙ two-words (saidWith r a) (λ e. z (ap (λ (x : AnswerWords). x .kind) p ∙ e))
 
-abbrev pub Told : List ℕ → List ℕ → ℕ → Answer → List ℕ → List ℕ → Type 0
-Told l n k a fx bs = (n ≡ sets l 0 (told a fx bs)) × (k ≡ length (told a fx bs))
+  pub reply-words : w .kind ≡ 4 → answerWords (reply r) ≡ answerWords (saidWith r a)
+  reply-words e = ap answerWords (sym (with-reply r a w p e))
 
-pub told-as : (l n : List ℕ) (k : ℕ) (a b : Answer) (fx bs : List ℕ) → a ≡ b → Told l n k b fx bs → Told l n k a fx bs
-told-as l n k a b fx bs e p = subst (λ (x : Answer). Told l n k x fx bs) (sym e) p
+-- a reply handed over by an event that has none
+pub blank-words : (w : AnswerWords) (a : Case) → w ≡ wordsOf (said a) → w .kind ≡ 4 → (w .kind ∷ w .value ∷ 0 ∷ 0 ∷ []) ≡ answerWords (said a)
+blank-words w a p e =
+    let h : said a ≡ reply (success 0 0 false) = with-reply (success 0 0 false) a w p e in
+    ap (λ (x : AnswerWords). x .kind ∷ x .value ∷ 0 ∷ 0 ∷ []) (p ∙ ap wordsOf h) ∙ ap answerWords (sym h)

@@ -1,6 +1,6 @@
 // What a run writes of an event with at most one effect, a wake among them: its answer and effect, into bytes that are lent.
 // What lies past the end is not stored.
-use answer_words::AnswerWords;
+use answer::Answer;
 use effect::Effect;
 use fd_list::List;
 use slot::Reply;
@@ -11,9 +11,8 @@ ghost use lib.ListN.{length};
 ghost use lib.Seq.{sets};
 ghost use Rattle.fd_list.specs.Lists.{numbers};
 ghost use Rattle.le.specs.Le.{bytesOf};
-ghost use Rattle.answer_words.specs.Words.{answerOf, repliedOf};
 ghost use Rattle.effect.specs.Effect.{effectWords};
-ghost use Rattle.events.specs.Outcome.{reply as replied};
+ghost use Rattle.events.specs.Outcome.{reply as replied, saidWith, said};
 ghost use Rattle.events.specs.Wake.{responseFrom};
 ghost use Rattle.status.specs.Status.{bit};
 ghost use Rattle.outcome_bytes.specs.Output.{answerWords, told};
@@ -29,23 +28,6 @@ fn put_fds(out: &mut [u8], at: usize, l: List)
         le_put::put8(out, at + 8 * i, d.0 as u64);
         i += 1;
     }
-}
-
-// Would wait and still blocked have no value.
-pub fn plain(a: AnswerWords) -> AnswerWords
-    ensures { λ r. ⌜ (r .kind ∷ r .value ∷ []) ≡ answerWords (answerOf a) ⌝ }
-{
-    let kind = a.kind;
-    if kind == 0 {
-        return a;
-    }
-    if kind == 1 {
-        return a;
-    }
-    if kind == 2 {
-        return AnswerWords { kind: 2, value: 0 };
-    }
-    AnswerWords { kind: 3, value: 0 }
 }
 
 fn mark(b: bool) -> u64
@@ -108,26 +90,42 @@ fn put_rest(out: &mut [u8], at: usize, e: Effect) -> usize
     at + k + 8
 }
 
+// The answer of an event that hands nothing over; says how many bytes.
+pub fn put_answer(out: &mut [u8], a: Answer) -> usize
+    ensures { λ r. ⌜ now (out .exit) ≡ sets (now (out .entry)) 0 (bytesOf (answerWords (said a))) ⌝ }
+    ensures { λ r. ⌜ r ≡ length (bytesOf (answerWords (said a))) ⌝ }
+    ensures { λ r. ⌜ r ≤ 32 ⌝ }
+{
+    let w = answer_words::words(a);
+    le_put::put_two(out, 0, w.kind, w.value);
+    if w.kind == 4 {
+        le_put::put_two(out, 16, 0, 0);
+        return 32;
+    }
+    16
+}
+
 // An event with at most one effect.
-pub fn put_step(out: &mut [u8], a: AnswerWords, e: Effect) -> usize
-    ensures { λ r. ⌜ now (out .exit) ≡ sets (now (out .entry)) 0 (told (answerOf a) (effectWords e) []) ⌝ }
-    ensures { λ r. ⌜ r ≡ length (told (answerOf a) (effectWords e) []) ⌝ }
+pub fn put_step(out: &mut [u8], a: Answer, e: Effect) -> usize
+    ensures { λ r. ⌜ now (out .exit) ≡ sets (now (out .entry)) 0 (told (said a) (effectWords e) []) ⌝ }
+    ensures { λ r. ⌜ r ≡ length (told (said a) (effectWords e) []) ⌝ }
     ensures { λ r. ⌜ r ≤ 192 ⌝ }
 {
-    let b = plain(a);
-    le_put::put_two(out, 0, b.kind, b.value);
-    put_rest(out, 16, e)
+    let k = put_answer(out, a);
+    put_rest(out, k, e)
 }
 
 // A wake: its reply, where one was handed over.
-pub fn put_woken(out: &mut [u8], a: AnswerWords, r: Reply, fds: List, e: Effect) -> usize
-    ensures { λ o. ⌜ now (out .exit) ≡ sets (now (out .entry)) 0 (told (repliedOf a r fds) (effectWords e) []) ⌝ }
-    ensures { λ o. ⌜ o ≡ length (told (repliedOf a r fds) (effectWords e) []) ⌝ }
+pub fn put_woken(out: &mut [u8], a: Answer, r: Reply, fds: List, e: Effect) -> usize
+    ensures { λ o. ⌜ now (out .exit) ≡ sets (now (out .entry)) 0 (told (saidWith (responseFrom r fds) a) (effectWords e) []) ⌝ }
+    ensures { λ o. ⌜ o ≡ length (told (saidWith (responseFrom r fds) a) (effectWords e) []) ⌝ }
     ensures { λ o. ⌜ o ≤ 192 ⌝ }
 {
-    if a.kind == 4 {
+    let w = answer_words::words(a);
+    if w.kind == 4 {
         let k = put_reply(out, r, fds);
         return put_rest(out, k, e);
     }
-    put_step(out, a, e)
+    le_put::put_two(out, 0, w.kind, w.value);
+    put_rest(out, 16, e)
 }

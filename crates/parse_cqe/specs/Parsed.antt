@@ -3,7 +3,7 @@
 use mathlib.Core.Bool.{Bool, true, false}
 use mathlib.Core.List.{List, [], _∷_, _++_}
 use Prim.Native.Nat.{ℕ}
-use Rattle.answer.specs.Answer.{Answer, success, refused, numberOf, valuesOf}
+use Rattle.answer.specs.Numbered.{Numbered, success, refused, numberOf, valuesOf}
 use Rattle.error.specs.Errors.{demuxOf, resultAnswer}
 use Rattle.flag.specs.Flags.{within, eventFlags, fobtainFdFlags}
 use Rattle.ids.specs.declared.Tag.{Tag}
@@ -50,7 +50,7 @@ abbrev pub parsedOf : Cqe → ParsedCqe
 parsedOf e = parsedBy (cqeOpcodeOf (kindOf e)) e
 
 -- 01's number and values of each case, a result by its own number and values
-abbrev pub parsedAnswer : ParsedCqe → Answer
+abbrev pub parsedAnswer : ParsedCqe → Numbered
 parsedAnswer (parsed.TriggerFevent number flags) = success (number ∷ flags ∷ [])
 parsedAnswer (parsed.RegularResponse t r x) = success (t .0 ∷ numberOf (resultAnswer r) ∷ valuesOf (resultAnswer r) ++ x ∷ [])
 parsedAnswer (parsed.ResponseWithFd t h) = success (t .0 ∷ h .0 ∷ [])

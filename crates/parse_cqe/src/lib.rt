@@ -7,7 +7,7 @@ use ids::Tag;
 use schemev2::Cqe;
 use schemev2::CqeOpcode;
 ghost use mathlib.Core.Path.{_≡_};
-ghost use Rattle.answer.specs.Answer.{numberOf};
+ghost use Rattle.answer.specs.Numbered.{numberOf};
 ghost use Rattle.parse_cqe.specs.Parsed.{parsedOf, eventOf, obtainOf, parsedAnswer};
 
 // What an entry asks for, or why it is refused. No completion kind leads to the Rust's `ProvideMmap`.

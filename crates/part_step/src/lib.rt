@@ -8,13 +8,12 @@ use schemev2::Args;
 ghost use mathlib.Core.Path.{_≡_};
 ghost use Prim.Native.Nat.{_<_};
 ghost use lib.ListN.{getD, length};
-ghost use Rattle.answer_words.specs.Words.{answerOf};
 ghost use Rattle.effect.specs.Effect.{effectWords};
 ghost use Rattle.holds.specs.Holds.{holdsWith};
 ghost use Rattle.state.specs.declared.State.{State};
 ghost use Rattle.part.specs.Part.{Stands, found, leaves};
 ghost use Rattle.events.specs.World.{world};
-ghost use Rattle.events.specs.Outcome.{outcome};
+ghost use Rattle.events.specs.Outcome.{outcome, said};
 ghost use Rattle.events.specs.Event.{step};
 ghost use Rattle.part_step.specs.PartStep.{namedOf, placeOf, partEvent};
 
@@ -68,7 +67,7 @@ pub fn one_effect(
     first: &[u64],
     second: &[u64],
 ) -> PartStep
-    ensures { λ o. ⌜ ((s : State) → Stands s (placeOf (r .kind) r (now (first .entry)) (p .head)) p → outcome (answerOf (o .answer)) (effectWords (o .effect)) (world (leaves s (placeOf (r .kind) r (now (first .entry)) (p .head)) (o .part) (holdsWith (now (all .exit)) (now (outside .exit)))) (now (words .exit))) ≡ step (world (found s p (holdsWith (now (all .entry)) (now (outside .entry)))) (now (words .entry))) (partEvent (r .kind) r (now (first .entry)) (now (second .entry)))) ⌝ }
+    ensures { λ o. ⌜ ((s : State) → Stands s (placeOf (r .kind) r (now (first .entry)) (p .head)) p → outcome (said (o .answer)) (effectWords (o .effect)) (world (leaves s (placeOf (r .kind) r (now (first .entry)) (p .head)) (o .part) (holdsWith (now (all .exit)) (now (outside .exit)))) (now (words .exit))) ≡ step (world (found s p (holdsWith (now (all .entry)) (now (outside .entry)))) (now (words .entry))) (partEvent (r .kind) r (now (first .entry)) (now (second .entry)))) ⌝ }
 {
     let a = r.words;
     let c = r.number;

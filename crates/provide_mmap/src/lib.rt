@@ -1,5 +1,6 @@
 // Map supply (01, "Map supply"; `ProvideMmap` in `handle_parsed`, src/scheme/user.rs, lines 849 to 919): it alone vacates a
 // map request's slot.
+use answer::Answer;
 use ids::Tag;
 use part::Part;
 use slot::Phase;
@@ -10,48 +11,40 @@ ghost use Rattle.holds.specs.declared.Holds.{Holds};
 ghost use Rattle.state.specs.declared.State.{State};
 ghost use Rattle.part.specs.Part.{Stands, found, leaves};
 ghost use Rattle.events.specs.World.{world};
-ghost use Rattle.events.specs.Outcome.{outcome};
+ghost use Rattle.events.specs.Outcome.{outcome, said};
 ghost use Rattle.events.specs.Supply.{supplyOf};
-ghost use Rattle.provide_mmap.specs.ProvideMmap.{provideMmapAnswer};
-
-pub enum ProvideMmapAnswer {
-    Supplied,
-    Invalid,
-    BadDescriptor,
-    NoCaller,
-}
 
 pub struct ProvideMmap {
-    pub answer: ProvideMmapAnswer,
+    pub answer: Answer,
     pub part: Part,
 }
 
 // The slot is vacated also where its caller has ended.
 pub fn provide_mmap(p: Part, tag: Tag, offset: u64, base: u64, count: u64) -> ProvideMmap
-    ensures { λ r. ⌜ ((s : State) (h : Holds) (ws : List ℕ) → Stands s (tag .0 % 64) p → outcome (provideMmapAnswer (r .answer)) [] (world (leaves s (tag .0 % 64) (r .part) h) ws) ≡ supplyOf (world (found s p h) ws) (tag .0) offset base count) ⌝ }
+    ensures { λ r. ⌜ ((s : State) (h : Holds) (ws : List ℕ) → Stands s (tag .0 % 64) p → outcome (said (r .answer)) [] (world (leaves s (tag .0 % 64) (r .part) h) ws) ≡ supplyOf (world (found s p h) ws) (tag .0) offset base count) ⌝ }
 {
     if offset % 4096 != 0 {
         return ProvideMmap {
-            answer: ProvideMmapAnswer::Invalid,
+            answer: Answer::Invalid,
             part: p,
         };
     }
     if base % 4096 != 0 {
         return ProvideMmap {
-            answer: ProvideMmapAnswer::Invalid,
+            answer: Answer::Invalid,
             part: p,
         };
     }
     if count != 1 {
         return ProvideMmap {
-            answer: ProvideMmapAnswer::Invalid,
+            answer: Answer::Invalid,
             part: p,
         };
     }
     let n = ids::slot_of(tag);
     if 64 <= n.0 {
         return ProvideMmap {
-            answer: ProvideMmapAnswer::Invalid,
+            answer: Answer::Invalid,
             part: p,
         };
     }
@@ -59,31 +52,31 @@ pub fn provide_mmap(p: Part, tag: Tag, offset: u64, base: u64, count: u64) -> Pr
     let phase = slot::phase_of(v);
     match phase {
         Phase::Vacant => ProvideMmap {
-            answer: ProvideMmapAnswer::Invalid,
+            answer: Answer::Invalid,
             part: p,
         },
         Phase::Placeholder => ProvideMmap {
-            answer: ProvideMmapAnswer::BadDescriptor,
+            answer: Answer::BadDescriptor,
             part: p,
         },
         Phase::Waiting => ProvideMmap {
-            answer: ProvideMmapAnswer::Invalid,
+            answer: Answer::Invalid,
             part: p,
         },
         Phase::Responded => ProvideMmap {
-            answer: ProvideMmapAnswer::Invalid,
+            answer: Answer::Invalid,
             part: p,
         },
         Phase::Fmap => {
             let after = part::vacated(p, n.0);
             if v.ended {
                 return ProvideMmap {
-                    answer: ProvideMmapAnswer::NoCaller,
+                    answer: Answer::NoCaller,
                     part: after,
                 };
             }
             ProvideMmap {
-                answer: ProvideMmapAnswer::Supplied,
+                answer: Answer::Done,
                 part: after,
             }
         }

@@ -1,4 +1,4 @@
-// The readings of a reply and of an error word, answered in numbers.
+// The readings of a reply and of an error word, told in words.
 use answer_words::AnswerWords;
 use error::Error;
 use error::Result;
@@ -7,13 +7,12 @@ use response::OpenResult;
 use response::RegularAnswer;
 use slot::Reply;
 ghost use mathlib.Core.Path.{_≡_};
-ghost use Rattle.answer_words.specs.Words.{answerOf};
+ghost use Rattle.answer_words.specs.Words.{wordsOf};
 ghost use Rattle.error.specs.Errors.{demuxOf, resultAnswer};
-ghost use Rattle.events.specs.Outcome.{answered};
 ghost use Rattle.events.specs.Replies.{intoRegularOf, callGenericOf, noticeOf, kopenatOf, kdupOf};
 ghost use Rattle.events.specs.Wake.{responseFrom};
 ghost use Rattle.response.specs.Response.{regularAnswer, openedAs};
-ghost use Rattle.reading_step.specs.Opened.{openedOf};
+ghost use Rattle.reading_step.specs.Opened.{openedWords, readAs};
 
 // With the notice of a completion's kind 5.
 #[repr(C)]
@@ -31,7 +30,7 @@ pub struct OpenedWords {
 }
 
 fn regular_words(a: RegularAnswer) -> AnswerWords
-    ensures { λ r. ⌜ answerOf r ≡ regularAnswer a ⌝ }
+    ensures { λ r. ⌜ r ≡ wordsOf (regularAnswer a) ⌝ }
 {
     match a {
         RegularAnswer::Value(w) => answer_words::done(w),
@@ -41,7 +40,7 @@ fn regular_words(a: RegularAnswer) -> AnswerWords
 }
 
 fn opened_words(a: OpenResult) -> OpenedWords
-    ensures { λ r. ⌜ openedOf r ≡ openedAs a ⌝ }
+    ensures { λ r. ⌜ r ≡ openedWords (openedAs a) ⌝ }
 {
     match a {
         OpenResult::SchemeLocal(w, x) => OpenedWords {
@@ -73,14 +72,14 @@ fn opened_words(a: OpenResult) -> OpenedWords
 }
 
 pub fn into_regular(reply: Reply, fds: List) -> AnswerWords
-    ensures { λ r. ⌜ answerOf r ≡ intoRegularOf (responseFrom reply fds) ⌝ }
+    ensures { λ r. ⌜ r ≡ wordsOf (intoRegularOf (responseFrom reply fds)) ⌝ }
 {
     let a = response::into_regular(reply, fds);
     regular_words(a)
 }
 
 pub fn call_generic(reply: Reply, fds: List) -> Regular
-    ensures { λ r. ⌜ (answerOf (r .answer) ≡ callGenericOf (responseFrom reply fds)) × (r .notice ≡ noticeOf (responseFrom reply fds)) ⌝ }
+    ensures { λ r. ⌜ (r .answer ≡ wordsOf (callGenericOf (responseFrom reply fds))) × (r .notice ≡ noticeOf (responseFrom reply fds)) ⌝ }
 {
     let got = response::call_generic(reply, fds);
     let a = got.answer;
@@ -92,14 +91,14 @@ pub fn call_generic(reply: Reply, fds: List) -> Regular
 }
 
 pub fn kopenat(reply: Reply, fds: List) -> OpenedWords
-    ensures { λ r. ⌜ openedOf r ≡ kopenatOf (responseFrom reply fds) ⌝ }
+    ensures { λ r. ⌜ r ≡ openedWords (kopenatOf (responseFrom reply fds)) ⌝ }
 {
     let a = response::kopenat(reply, fds);
     opened_words(a)
 }
 
 pub fn kdup(reply: Reply, fds: List) -> OpenedWords
-    ensures { λ r. ⌜ openedOf r ≡ kdupOf (responseFrom reply fds) ⌝ }
+    ensures { λ r. ⌜ r ≡ openedWords (kdupOf (responseFrom reply fds)) ⌝ }
 {
     let a = response::kdup(reply, fds);
     opened_words(a)
@@ -107,7 +106,7 @@ pub fn kdup(reply: Reply, fds: List) -> OpenedWords
 
 // A result word: its success, or its errno.
 pub fn demux(word: u64) -> AnswerWords
-    ensures { λ r. ⌜ answerOf r ≡ answered (resultAnswer (demuxOf word)) ⌝ }
+    ensures { λ r. ⌜ r ≡ wordsOf (readAs (resultAnswer (demuxOf word))) ⌝ }
 {
     let a = Error::demux(word);
     let n = a.number();

@@ -1,5 +1,5 @@
 -- The loops' laws, and what it means that a run is as recorded. Assumes nothing.
-use Prim.Native.Nat.{ℕ, suc, _+_, _-_, _*_, _%_, _<_, _≤_}
+use Prim.Native.Nat.{ℕ, zero, suc, _+_, _-_, _*_, _%_, _<_, _≤_}
 use mathlib.Core.Path.{_≡_, refl, sym, ap, ap₂, _∙_}
 use mathlib.Core.Bool.{Bool, true, false, cond, true≢false, _&&_}
 use mathlib.Core.List.{List, [], _∷_}
@@ -9,11 +9,11 @@ use lib.Dec.{eqb, leb}
 use lib.ListN.{length, getD, take, drop, length-drop, drop-of-length-le}
 use lib.Seq.{sets, sets-eq, take-all, take-at, length-take-le, drop-cons, drop-drop}
 use borrow.Author.Tests.{eq-eqb, ne-eqb, eqb-true}
-use Rattle.record.specs.Record.{nextOf, eventAt, Decoded, stops, before, decoded}
+use Rattle.record.specs.Record.{nextOf, eventAt, walk, Decoded, stops, before, decoded}
 use Rattle.record.proofs.Laws.{next-there, walk-ends, walk-goes-on}
 use Rattle.run.specs.declared.RunEnd.{RunEnd}
 use Rattle.run.specs.Run.{runOf, outputOf, wholeEnd, endOf, outAfter}
-use Rattle.run_room.specs.Room.{needed}
+use Rattle.run_room.specs.Room.{needed, leftOf}
 use Rattle.recorded.specs.declared.Compared.{Compared}
 use Rattle.recorded.specs.Recorded.{checkOf, sameOf, writtenOf, comparedOf, asRecordedOf, Recorded}
 
@@ -86,17 +86,18 @@ module _ (ev : List ℕ) (n at size : ℕ) (h : at ≤ length ev) (es : size ≡
 written-is :
     (scheme lent : ℕ) (out ev out' : List ℕ) (r : RunEnd) → r ≡ endOf scheme lent (length out) ev → out' ≡ outAfter scheme lent out ev → r .written ≤ length out
     → take (r .written) out' ≡ writtenOf scheme lent (length out) ev
-written-is scheme lent out ev out' r er eo h = go (leb (needed ev) (length out)) er eo
+written-is scheme lent out ev out' r er eo h = go (eqb (leftOf ev) 0) (leb (needed ev) (length out)) er eo
   where
     X : List ℕ
     X = outputOf (runOf scheme lent ev)
 
-    go : (b : Bool) → r ≡ cond b (wholeEnd scheme lent ev) (record { number = 204; place = 0; written = 0 }) → out' ≡ cond b (sets out 0 X) out
-        → take (r .written) out' ≡ cond b X []
-    go true e o =
+    go : (a b : Bool) → r ≡ cond a (cond b (wholeEnd scheme lent ev) (record { number = 204; place = 0; written = 0 })) (record { number = 205; place = length ev - leftOf ev; written = 0 })
+        → out' ≡ cond (a && b) (sets out 0 X) out → take (r .written) out' ≡ cond (a && b) X []
+    go true true e o =
         ap₂ take (ap (λ (x : RunEnd). x .written) e) (o ∙ sets-eq X out 0 (omega (arith, h, ap (λ (x : RunEnd). x .written) e)))
         ∙ take-at X (drop (0 + length X) out) (length X) refl
-    go false e o = ap (λ (n : ℕ). take n out') (ap (λ (x : RunEnd). x .written) e)
+    go true false e o = ap (λ (n : ℕ). take n out') (ap (λ (x : RunEnd). x .written) e)
+    go false b e o = ap (λ (n : ℕ). take n out') (ap (λ (x : RunEnd). x .written) e)
 
 pub compared-is :
     (scheme lent : ℕ) (out ev told out' : List ℕ) (r : RunEnd) (k : ℕ) → r ≡ endOf scheme lent (length out) ev → out' ≡ outAfter scheme lent out ev
@@ -144,10 +145,25 @@ both-true : (a b : Bool) → a && b ≡ true → (a ≡ true) × (b ≡ true)
 both-true true b e = (refl, e)
 both-true false b e = absurd (true≢false (sym e))
 
+-- what is left behind the events, told with them and by itself
+left-same : (lent f : ℕ) (bs : List ℕ) → walk stops (λ rest d. before (eventAt lent rest) d) f bs .left ≡ walk (λ rest. length rest) (λ rest n. n) f bs
+left-same lent zero bs = refl
+left-same lent (suc f) bs = go (eqb (nextOf bs) 0) (left-same lent f (drop (nextOf bs) bs))
+  where
+    go : (b : Bool) → walk stops (λ rest d. before (eventAt lent rest) d) f (drop (nextOf bs) bs) .left ≡ walk (λ rest. length rest) (λ rest n. n) f (drop (nextOf bs) bs)
+        → cond b (stops bs) (before (eventAt lent bs) (walk stops (λ rest d. before (eventAt lent rest) d) f (drop (nextOf bs) bs))) .left ≡ cond b (length bs) (walk (λ rest. length rest) (λ rest n. n) f (drop (nextOf bs) bs))
+    go true e = refl
+    go false e = e
+
+-- a run's own answer by its two tests
+abbrev Ended : ℕ → ℕ → List ℕ → Bool → Bool → RunEnd
+Ended scheme lent ev a b =
+    cond a (cond b (wholeEnd scheme lent ev) (record { number = 204; place = 0; written = 0 })) (record { number = 205; place = length ev - leftOf ev; written = 0 })
+
 -- the run of all that the bytes hold is told as recorded
 recorded-is : (scheme lent most : ℕ) (ev told : List ℕ) → asRecordedOf (comparedOf scheme lent most ev told) (length ev) (length told) ≡ true → Recorded scheme lent ev told
 recorded-is scheme lent most ev told e =
-    go (leb (needed ev) most) (eqb-true (C .number) 0 (p .0)) (eqb-true (C .written) (length told) (q .0)) (eqb-true (C .same) (length told) (q .1))
+    go (eqb (leftOf ev) 0) (leb (needed ev) most) refl (eqb-true (C .number) 0 (p .0)) (eqb-true (C .written) (length told) (q .0)) (eqb-true (C .same) (length told) (q .1))
   where
     C : Compared
     C = comparedOf scheme lent most ev told
@@ -158,18 +174,13 @@ recorded-is scheme lent most ev told e =
     q : (eqb (C .written) (length told) ≡ true) × (eqb (C .same) (length told) ≡ true)
     q = both-true (eqb (C .written) (length told)) (eqb (C .same) (length told)) (both-true (eqb (C .place) (length ev)) (eqb (C .written) (length told) && eqb (C .same) (length told)) (p .1) .1)
 
-    none-left : (b : Bool) → eqb (decoded lent ev .left) 0 ≡ b → _≡_ {A = ℕ} (cond b 0 205) 0 → decoded lent ev .left ≡ 0
-    none-left true x z = eqb-true (decoded lent ev .left) 0 x
-    none-left false x z = absurd (let y : ⊥ = omega (arith, z) in y)
-
     X : List ℕ
     X = outputOf (runOf scheme lent ev)
 
-    go : (b : Bool) → cond b (wholeEnd scheme lent ev) (record { number = 204; place = 0; written = 0 }) .number ≡ 0
-        → cond b (wholeEnd scheme lent ev) (record { number = 204; place = 0; written = 0 }) .written ≡ length told → sameOf (cond b X []) told ≡ length told
-        → Recorded scheme lent ev told
-    go true x y z = (none-left (eqb (decoded lent ev .left) 0) refl x, same-all X told y z)
-    go false x y z = absurd (let w : ⊥ = omega (arith, x) in w)
+    go : (a b : Bool) → eqb (leftOf ev) 0 ≡ a → Ended scheme lent ev a b .number ≡ 0 → Ended scheme lent ev a b .written ≡ length told → sameOf (cond (a && b) X []) told ≡ length told → Recorded scheme lent ev told
+    go true true t x y z = (left-same lent (length ev) ev ∙ eqb-true (leftOf ev) 0 t, same-all X told y z)
+    go true false t x y z = absurd (let w : ⊥ = omega (arith, x) in w)
+    go false b t x y z = absurd (let w : ⊥ = omega (arith, x) in w)
 
 pub as-compared :
     (scheme scheme' lent most : ℕ) (ev told : List ℕ) (c : Compared) (b : Bool) → scheme' ≡ scheme → c ≡ comparedOf scheme' lent most ev told

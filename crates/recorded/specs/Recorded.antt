@@ -3,10 +3,9 @@ use Prim.Native.Nat.{ℕ, suc, _+_, _*_, _%_}
 use mathlib.Core.Path.{_≡_}
 use mathlib.Core.Bool.{Bool, cond, _&&_}
 use mathlib.Core.List.{List, [], _∷_}
-use lib.Dec.{eqb, leb}
+use lib.Dec.{eqb}
 use Rattle.record.specs.Record.{decoded}
-use Rattle.run.specs.Run.{runOf, outputOf, endOf}
-use Rattle.run_room.specs.Room.{needed}
+use Rattle.run.specs.Run.{runOf, outputOf, endOf, isRun}
 use Rattle.recorded.specs.declared.Compared.{Compared}
 
 -- the bytes as digits to the base 256 behind a number, modulo a prime
@@ -20,9 +19,9 @@ sameOf [] ys = 0
 sameOf (x ∷ xs) [] = 0
 sameOf (x ∷ xs) (y ∷ ys) = cond (eqb x y) (suc (sameOf xs ys)) 0
 
--- what a run writes into so many bytes: nothing where it needs more
+-- what a run writes into so many bytes: nothing where it is turned down
 abbrev pub writtenOf : ℕ → ℕ → ℕ → List ℕ → List ℕ
-writtenOf scheme lent most ev = cond (leb (needed ev) most) (outputOf (runOf scheme lent ev)) []
+writtenOf scheme lent most ev = cond (isRun most ev) (outputOf (runOf scheme lent ev)) []
 
 abbrev pub comparedOf : ℕ → ℕ → ℕ → List ℕ → List ℕ → Compared
 comparedOf scheme lent most ev told =

@@ -1,6 +1,7 @@
 // The recorded runs in data/, each run again and compared byte for byte with what was recorded: docs/RECORDED.md.
-use answer_words::Step;
+use answer_words::StepWords;
 use libc::STDOUT_FILENO;
+use state_bytes::STATE_SIZE;
 ghost use mathlib.Core.Path.{_≡_};
 ghost use mathlib.Core.Bool.{true, false};
 ghost use Prim.Native.Nat.{ℕ, _≤_, _%_};
@@ -275,23 +276,23 @@ fn replay_named(name: &[u8]) {
     libc::close(fd);
 }
 
-fn opened() -> Step {
+fn opened() -> StepWords {
     let s = state::fresh(7);
     host_step::open(s, 5)
 }
 
-fn copied(o: Step) -> Step {
+fn copied(o: StepWords) -> StepWords {
     let s = o.state;
     host_step::copy(s, 5)
 }
 
-fn placed(o: Step) -> Step {
+fn placed(o: StepWords) -> StepWords {
     let s = o.state;
     host_step::put(s, 5, 0)
 }
 
 // Copies until one is refused, no more than 65,536.
-fn copied_on(o: Step) -> Step {
+fn copied_on(o: StepWords) -> StepWords {
     let mut p = o;
     let mut i: u64 = 0;
     while i < 65536 {
@@ -314,10 +315,10 @@ fn print_limit(kind: u64, value: u64, told: &[u8]) {
     io::write_all(STDOUT_FILENO, b"\n");
 }
 
-fn print_step(o: Step) {
+fn print_step(o: StepWords) {
     let answer = o.answer;
     let s = o.state;
-    let mut told = [0; 1608];
+    let mut told = [0; STATE_SIZE];
     state_bytes::put_state(&mut told, s);
     print_limit(answer.kind, answer.value, &told);
 }

@@ -5,7 +5,7 @@ use mathlib.Core.Bool.{Bool, true, false, cond}
 use mathlib.Core.List.{[], _∷_}
 use lib.Dec.{eqb}
 use borrow.Author.Tests.{lt-ltb, le-ltb}
-use Rattle.answer.specs.Answer.{numberOf}
+use Rattle.answer.specs.Numbered.{numberOf}
 use Rattle.error.specs.declared.Error.{Error}
 use Rattle.error.specs.declared.Result.{Result}
 use Rattle.error.specs.declared.Result.the-variants.{Ok, Err}

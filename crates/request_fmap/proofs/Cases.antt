@@ -3,6 +3,7 @@ use Prim.Native.Nat.{ℕ}
 use mathlib.Core.Path.{_≡_, refl, _∙_}
 use mathlib.Core.Bool.{true, false}
 use mathlib.Core.List.{List, []}
+use Rattle.opcode.specs.Opcodes.{requestMmap}
 use Rattle.slot.specs.Slots.{mapRequestOf}
 use Rattle.state.specs.declared.State.{State}
 use Rattle.user_args.specs.Args.{mergeOf}
@@ -25,5 +26,5 @@ module _ (s : State) (ws : List ℕ) (c id pages flags uid gid pid : ℕ) where
       → o ≡ begun (world s ws) (mapRequestOf c) (holdsOf (world s ws)) (fmapEntry id pages flags uid gid pid) → Is o
   requested q r o e = e ∙ rw (q, r) refl
 
-  pub entry-is : (who n : ℕ) → who ≡ mergeOf uid gid → sqe 21 0 n (args6 id flags pages 0 0 who) pid ≡ fmapEntry id pages flags uid gid pid n
-  entry-is who n e = rw e refl
+  pub entry-is : (op who n : ℕ) → op ≡ requestMmap → who ≡ mergeOf uid gid → sqe op 0 n (args6 id flags pages 0 0 who) pid ≡ fmapEntry id pages flags uid gid pid n
+  entry-is op who n o e = rw (o, e) refl

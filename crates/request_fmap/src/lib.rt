@@ -1,4 +1,5 @@
 // `request_fmap` (src/scheme/user.rs, lines 756 to 791): a map request. It is no call, and its offset stays out of the entry.
+use answer::Answer;
 use effect::Effect;
 use ids::Tag;
 use part::Part;
@@ -11,18 +12,11 @@ ghost use Rattle.holds.specs.declared.Holds.{Holds};
 ghost use Rattle.state.specs.declared.State.{State};
 ghost use Rattle.part.specs.Part.{Stands, found, leaves};
 ghost use Rattle.events.specs.World.{world};
-ghost use Rattle.events.specs.Outcome.{outcome};
+ghost use Rattle.events.specs.Outcome.{outcome, said};
 ghost use Rattle.events.specs.Submit.{fmapOf};
-ghost use Rattle.request_fmap.specs.Fmap.{fmapAnswer};
-
-pub enum FmapAnswer {
-    Requested(Tag),
-    Full,
-    QueueFull,
-}
 
 pub struct FmapStep {
-    pub answer: FmapAnswer,
+    pub answer: Answer,
     pub effect: Effect,
     pub part: Part,
 }
@@ -38,13 +32,13 @@ pub fn request_fmap(
     gid: u32,
     pid: u64,
 ) -> FmapStep
-    ensures { λ r. ⌜ ((s : State) (h : Holds) → Stands s (p .head % 64) p → outcome (fmapAnswer (r .answer)) (effectWords (r .effect)) (world (leaves s (p .head % 64) (r .part) h) (now (words .exit))) ≡ fmapOf (world (found s p h) (now (words .entry))) caller id pages flags uid gid pid) ⌝ }
+    ensures { λ r. ⌜ ((s : State) (h : Holds) → Stands s (p .head % 64) p → outcome (said (r .answer)) (effectWords (r .effect)) (world (leaves s (p .head % 64) (r .part) h) (now (words .exit))) ≡ fmapOf (world (found s p h) (now (words .entry))) caller id pages flags uid gid pid) ⌝ }
 {
     let none = effect::none();
     let n = p.head;
     if 64 <= n {
         return FmapStep {
-            answer: FmapAnswer::Full,
+            answer: Answer::Full,
             effect: none,
             part: p,
         };
@@ -52,7 +46,7 @@ pub fn request_fmap(
     let q = p.queue;
     if 128 <= q.len {
         return FmapStep {
-            answer: FmapAnswer::QueueFull,
+            answer: Answer::QueueFull,
             effect: none,
             part: p,
         };
@@ -60,8 +54,9 @@ pub fn request_fmap(
     let v = slot::map_request(caller);
     let who = user_args::uid_gid_hack_merge(uid, gid);
     let a = Args(id, flags, pages, 0, 0, who);
+    let op = opcode::request_mmap();
     let e = Sqe {
-        opcode: 21,
+        opcode: op,
         sqe_flags: 0,
         tag: n as u32,
         args: a,
@@ -73,7 +68,7 @@ pub fn request_fmap(
     let bits = flag::event_read();
     let fx = effect::root(p.scheme, bits);
     FmapStep {
-        answer: FmapAnswer::Requested(Tag(n as u64)),
+        answer: Answer::Given(Tag(n as u64)),
         effect: fx,
         part: after,
     }

@@ -1,10 +1,8 @@
 -- The loop of a run: what was done is the run of the first events. Assumes nothing.
 use Prim.Native.Nat.{ℕ, suc, _+_, _-_, _<_, _≤_}
 use mathlib.Core.Path.{_≡_, refl, sym, ap, ap₂, _∙_, subst}
-use mathlib.Core.Bool.{cond}
 use mathlib.Core.List.{List, [], _∷_, _++_, append-assoc, append-nil}
 use native.Mathlib.Omega.{arith}
-use lib.Dec.{eqb}
 use lib.ListN.{length, set, take, drop, replicate, length-replicate, length-append, length-drop, take-append-drop, drop-of-length-le}
 use lib.Seq.{sets, length-sets, length-take-le, drop-drop}
 use Rattle.word_put.proofs.Stores.{sets-then}
@@ -16,7 +14,7 @@ use Rattle.events.specs.Run.{Turn, Run, next, runFrom, run}
 use Rattle.events.specs.WellFormed.{WellFormed}
 use Rattle.events.proofs.WellFormed.{formed-run}
 use Rattle.outcome_bytes.specs.Output.{outcomeBytes}
-use Rattle.state_bytes.specs.StateBytes.{stateBytes}
+use Rattle.state_bytes.specs.StateBytes.{stateBytes, stateSize}
 use Rattle.record.specs.Record.{recordOf, sizeOf, nextOf, eventAt, Decoded, stops, before, decoded}
 use Rattle.handles.specs.declared.Handles.{Handles}
 use Rattle.slot.specs.declared.Slot.{Slot}
@@ -209,10 +207,10 @@ module _ (scheme : ℕ) (ev out₀ fx₀ : List ℕ) (end : ℕ) (out fx words :
     run-is : runOf scheme (length fx₀) ev ≡ R
     run-is = ap (λ (d : Decoded). run scheme zeros (d .events)) all-done
 
-    pub end-room : j + 1608 ≤ length out₀
+    pub end-room : j + stateSize ≤ length out₀
     end-room = omega (arith, g .room, needed-ends (drop at ev) none)
 
-    module _ (out' : List ℕ) (size-is : length (stateBytes (world s words)) ≡ 1608) (eo : out' ≡ sets out j (stateBytes (world s words))) where
+    module _ (out' : List ℕ) (size-is : length (stateBytes (world s words)) ≡ stateSize) (eo : out' ≡ sets out j (stateBytes (world s words))) where
       state-is : stateBytes (world s words) ≡ stateBytes (R .world)
       state-is = ap stateBytes (g .state)
 
@@ -224,17 +222,17 @@ module _ (scheme : ℕ) (ev out₀ fx₀ : List ℕ) (end : ℕ) (out fx words :
           ∙ ap (λ (x : List ℕ). sets out₀ 0 (toldOf (R .turns) ++ x)) state-is
           ∙ sym (ap (λ (r : Run). sets out₀ 0 (outputOf r)) run-is)
 
-      pub end-is : (k : ℕ) → k ≡ cond (eqb (length ev - at) 0) 0 205 → record { number = k; place = at; written = j + 1608 } ≡ wholeEnd scheme (length fx₀) ev
-      end-is k ek =
+      pub end-is : leftOf ev ≡ 0 → record { number = 0; place = at; written = j + stateSize } ≡ wholeEnd scheme (length fx₀) ev
+      end-is all =
           λ i. record {
-            number = (ek ∙ sym (ap (λ (d : Decoded). cond (eqb (d .left) 0) 0 205) all-done)) i;
-            place = ((let z : at ≡ length ev - (length ev - at) = omega (arith, g .place) in z) ∙ sym (ap (λ (d : Decoded). length ev - d .left) all-done)) i;
+            number = 0;
+            place = (let z : at ≡ length ev = omega (arith, g .place, g .ends, stop, all) in z) i;
             written = written-is i;
           }
         where
-          written-is : j + 1608 ≡ length (outputOf (runOf scheme (length fx₀) ev))
+          written-is : j + stateSize ≡ length (outputOf (runOf scheme (length fx₀) ev))
           written-is =
-              (let z : j + 1608 ≡ length (toldOf (R .turns) ++ stateBytes (world s words)) = omega (arith, g .count, size-is, length-append (toldOf (R .turns)) (stateBytes (world s words))) in z)
+              (let z : j + stateSize ≡ length (toldOf (R .turns) ++ stateBytes (world s words)) = omega (arith, g .count, size-is, length-append (toldOf (R .turns)) (stateBytes (world s words))) in z)
               ∙ ap (λ (x : List ℕ). length (toldOf (R .turns) ++ x)) state-is
               ∙ sym (ap (λ (r : Run). length (outputOf r)) run-is)
 

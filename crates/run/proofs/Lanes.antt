@@ -98,7 +98,7 @@ module _ (w : World) (i : WellFormed w) (words n m k : ℕ) (fx front bs : List 
   pub entry-holds : take j (front ++ drop n fx) ≡ writeOf w m bs .effects
   entry-holds = ap (λ (x : ℕ). take x (front ++ drop n fx)) all-there ∙ write-holds w i words n m k fx front bs bs en em ek refl is
 
-  pub entry-most : (used : ℕ) → used ≡ 32 + 8 * length (take j (front ++ drop n fx)) → used ≤ 192 + 27 * length bs
+  pub entry-most : (used : ℕ) → used ≤ 48 + 8 * length (take j (front ++ drop n fx)) → used ≤ 192 + 27 * length bs
   entry-most used e =
       omega (arith, e, write-most w i words n m k fx front bs bs en em ek refl is (length bs) refl, ap length entry-holds, ek)
 

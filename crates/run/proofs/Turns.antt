@@ -10,7 +10,7 @@ use lib.ListN.{length, set, take, drop, take-append-drop, length-take, length-dr
 use lib.Seq.{sets, sets-eq, length-sets, set-append-left, take-at, length-take-le}
 use borrow.Author.Tests.{ne-eqb, lt-ltb, le-ltb}
 use Rattle.events.specs.World.{World, queueOf, withQueue}
-use Rattle.events.specs.Outcome.{Answer, Outcome, outcome, answered, refuse}
+use Rattle.events.specs.Outcome.{Answer, Outcome, outcome, said, refuse}
 use Rattle.events.specs.Complete.{Entered, accepted, rejected, entryOf, entriesOf, stopped, onEntered, shortWords, writeOn, writeOf}
 use Rattle.schemev2.specs.declared.Cqe.{Cqe}
 use Rattle.events.specs.Read.{readOf}
@@ -22,8 +22,8 @@ use Rattle.record.specs.Record.{wordsAt}
 use Rattle.record.proofs.Laws.{each-length}
 use Rattle.wait_queue.specs.Queue.{wordsFrom, unread, removed}
 use Rattle.wait_queue.proofs.Unread.{length-bytes, length-words}
-use Rattle.wait_queue_receive.specs.declared.ReceiveAnswer.the-variants.{Bytes}
-use Rattle.wait_queue_receive.specs.Receive.{copied, emptyBy, receivedIf, receiveAnswer}
+use Rattle.answer.specs.declared.Answer.the-variants.{Bytes}
+use Rattle.wait_queue_receive.specs.Receive.{copied, emptyBy, receivedIf}
 
 -- a front that is there
 pub front-length : (l : List ℕ) (n : ℕ) → n ≤ length l → n ≡ length (take n l)
@@ -80,7 +80,7 @@ few-same len = go (decLt len 64)
 pub same-read : (w : World) (len flags : ℕ) → queueOf w .len ≤ 128 → readOf w (min len 8192) flags ≡ readOf w len flags
 same-read w len flags h =
     λ i. record {
-      answer = answered (receiveAnswer (go (eqb (queueOf w .len) 0) i .answer));
+      answer = said (go (eqb (queueOf w .len) 0) i .answer);
       effects = [];
       bytes = take (few i) (unread (queueOf w) (w .words));
       world = withQueue w (go (eqb (queueOf w .len) 0) i .queue) (w .words);
@@ -149,7 +149,7 @@ module _ (w : World) (i : WellFormed w) (words n m k : ℕ) (fx front bs bs' : L
   write-none = write-bytes w m bs
 
   -- 18 effects an entry have room in 27 bytes for each of its own
-  pub write-most : (tail : ℕ) → length bs' ≡ tail → 32 + 8 * k ≤ 192 + 27 * tail
+  pub write-most : (tail : ℕ) → length bs' ≡ tail → 48 + 8 * k ≤ 192 + 27 * tail
   write-most tail e = omega (arith, ek, effects.write-most w i m bs, ap length eb, e)
 
   pub write-fits : k ≤ length (front ++ drop n fx)

@@ -1,7 +1,7 @@
 -- A run as bytes: decoded to events (crate record), run as `Run` of crate events has it, and told in bytes (crate outcome_bytes).
 use Prim.Native.Nat.{ℕ, _-_, _/_, min}
 use mathlib.Core.Path.{_≡_}
-use mathlib.Core.Bool.{Bool, true, false, cond, _||_}
+use mathlib.Core.Bool.{Bool, true, false, cond, _||_, _&&_}
 use mathlib.Core.List.{List, [], _∷_, _++_}
 use lib.Dec.{eqb, leb, ltb}
 use lib.ListN.{length, take, drop, replicate}
@@ -14,7 +14,7 @@ use Rattle.outcome_bytes.specs.Output.{outcomeBytes}
 use Rattle.state_bytes.specs.StateBytes.{stateBytes}
 use Rattle.record.specs.declared.Record.{Record}
 use Rattle.record.specs.Record.{firstAt, secondAt, tailAt, tailOf, wordsAt, eventNamed, decoded}
-use Rattle.run_room.specs.Room.{needed}
+use Rattle.run_room.specs.Room.{needed, leftOf}
 use Rattle.run.specs.declared.RunEnd.{RunEnd}
 
 -- the run of the events that bytes hold, from a fresh state with its queue's words 0; `lent` words are there for writes
@@ -76,21 +76,23 @@ lentAfter fx (t ∷ ts) = sets (lentAfter fx ts) 0 (storedBy (t .before) (t .eve
 abbrev pub outputOf : Run → List ℕ
 outputOf r = toldOf (r .turns) ++ stateBytes (r .world)
 
--- 205, the record at `place` is no event; 0, all were run
+-- all were run
 abbrev pub wholeEnd : ℕ → ℕ → List ℕ → RunEnd
-wholeEnd scheme lent bs =
-    record {
-      number = cond (eqb (decoded lent bs .left) 0) 0 205;
-      place = length bs - decoded lent bs .left;
-      written = length (outputOf (runOf scheme lent bs));
-    }
+wholeEnd scheme lent bs = record { number = 0; place = length bs; written = length (outputOf (runOf scheme lent bs)) }
 
--- 204, the output is too short, and nothing is run or written
+-- turned down before the first event: 205, the record at `place` is no event; then 204, the output is too short
 abbrev pub endOf : ℕ → ℕ → ℕ → List ℕ → RunEnd
-endOf scheme lent most bs = cond (leb (needed bs) most) (wholeEnd scheme lent bs) (record { number = 204; place = 0; written = 0 })
+endOf scheme lent most bs =
+    cond (eqb (leftOf bs) 0)
+    (cond (leb (needed bs) most) (wholeEnd scheme lent bs) (record { number = 204; place = 0; written = 0 }))
+    (record { number = 205; place = length bs - leftOf bs; written = 0 })
+
+-- neither, and then nothing that is lent changes but by the run
+abbrev pub isRun : ℕ → List ℕ → Bool
+isRun most bs = eqb (leftOf bs) 0 && leb (needed bs) most
 
 abbrev pub outAfter : ℕ → ℕ → List ℕ → List ℕ → List ℕ
-outAfter scheme lent out bs = cond (leb (needed bs) (length out)) (sets out 0 (outputOf (runOf scheme lent bs))) out
+outAfter scheme lent out bs = cond (isRun (length out) bs) (sets out 0 (outputOf (runOf scheme lent bs))) out
 
 abbrev pub fxAfter : ℕ → ℕ → List ℕ → List ℕ → List ℕ
-fxAfter scheme most fx bs = cond (leb (needed bs) most) (lentAfter fx (runOf scheme (length fx) bs .turns)) fx
+fxAfter scheme most fx bs = cond (isRun most bs) (lentAfter fx (runOf scheme (length fx) bs .turns)) fx

@@ -1,24 +1,23 @@
 // A run as one function: events as bytes in, what each answered and the state at the end as bytes out.
 use answer_words::PartStep;
-use answer_words::Step;
 use handles::Handles;
 use holds::Holds;
+use host::HostStep;
 use ids::Tag;
 use part::Part;
 use record::Record;
 use schemev2::Cqe;
 use state::Driver;
 use state::State;
+use state_bytes::STATE_SIZE;
 use table::Table;
 use wait_queue::WaitQueue;
 ghost use mathlib.Core.Path.{_≡_};
-ghost use mathlib.Core.List.{List};
+ghost use mathlib.Core.List.{List, []};
 ghost use Prim.Native.Nat.{ℕ, _+_, _-_, _*_, _/_, _%_, _≤_, _<_, min};
-ghost use mathlib.Core.Bool.{true, false, cond};
-ghost use lib.Dec.{eqb};
+ghost use mathlib.Core.Bool.{true, false};
 ghost use lib.ListN.{length, take, drop};
 ghost use lib.Seq.{sets};
-ghost use Rattle.answer_words.specs.Words.{answerOf};
 ghost use Rattle.effect.specs.Effect.{effectWords};
 ghost use Rattle.holds.specs.declared.Holds.{Holds as Counts};
 ghost use Rattle.holds.specs.Holds.{holdsWith};
@@ -29,7 +28,7 @@ ghost use Rattle.handles.specs.Handles.{handlesWith};
 ghost use Rattle.write.specs.Write.{stateWithHandles};
 ghost use Rattle.part_step.specs.PartStep.{placeOf, partEvent};
 ghost use Rattle.events.specs.World.{world};
-ghost use Rattle.events.specs.Outcome.{outcome};
+ghost use Rattle.events.specs.Outcome.{outcome, said};
 ghost use Rattle.events.specs.Event.{write, on, step};
 ghost use Rattle.events.specs.WellFormed.{WellFormed};
 ghost use Rattle.outcome_bytes.specs.Output.{outcomeBytes};
@@ -37,7 +36,7 @@ ghost use Rattle.record.specs.Record.{recordOf, firstAt, secondAt, tailAt, tail
 ghost use Rattle.run_room.specs.Room.{roomOf, needed, leftOf};
 ghost use Rattle.run.specs.Run.{isOnState, isQueue, isSingle, Told, wakeIn, readIn, writeIn, storedBy, runOf, outputOf, lentAfter, wholeEnd, endOf, outAfter, fxAfter};
 
-// The run's own answer: 0, 204 or 205, the place of the record that is no event, and how many bytes were written.
+// The run's own answer: 0, 204 or 205, where it ended or the record begins that is no event, and how many bytes were written.
 #[repr(C)]
 pub struct RunEnd {
     pub number: u64,
@@ -132,7 +131,7 @@ fn list_turn(
 // What the driver is told: a close, or a detach.
 fn notice(p: Part, words: &mut [u64; 1024], r: Record) -> PartStep
     requires { ⌜ (isQueue (r .kind) ≡ true) × (r .kind ≡ 15 → ⊥) ⌝ }
-    ensures { λ o. ⌜ ((s : AnyState) (n : ℕ) (h : Counts) (xs ys bs : List ℕ) (lent : ℕ) → Stands s n p → outcome (answerOf (o .answer)) (effectWords (o .effect)) (world (leaves s n (o .part) h) (now (words .exit))) ≡ step (world (found s p h) (now (words .entry))) (eventNamed (r .kind) r xs ys bs lent)) ⌝ }
+    ensures { λ o. ⌜ ((s : AnyState) (n : ℕ) (h : Counts) (xs ys bs : List ℕ) (lent : ℕ) → Stands s n p → outcome (said (o .answer)) (effectWords (o .effect)) (world (leaves s n (o .part) h) (now (words .exit))) ≡ step (world (found s p h) (now (words .entry))) (eventNamed (r .kind) r xs ys bs lent)) ⌝ }
 {
     let a = r.words;
     let kind = r.kind;
@@ -204,8 +203,7 @@ fn entry_turn(
     let m = run_room::least(o.words as u64, fx.len());
     let answer = o.answer;
     let after = o.part;
-    let said = driver_step::write_words(answer);
-    let used = lent_bytes::put_completed(out, said, &fx[..m]);
+    let used = lent_bytes::put_completed(out, answer, &fx[..m]);
     Turned {
         part: after,
         used: used,
@@ -237,17 +235,17 @@ fn turn(
 }
 
 // The host's events; a kind that is none is not asked for.
-fn host_event(kind: u8, s: State, r: Record) -> Step
+fn host_event(kind: u8, s: State, r: Record) -> HostStep
     requires { ⌜ (0 < kind) × (kind < 6) ⌝ }
-    ensures { λ o. ⌜ ((xs ys bs ws : List ℕ) (lent : ℕ) → outcome (answerOf (o .answer)) (effectWords (o .effect)) (world (o .state) ws) ≡ step (world s ws) (eventNamed kind r xs ys bs lent)) ⌝ }
+    ensures { λ o. ⌜ ((xs ys bs ws : List ℕ) (lent : ℕ) → outcome (said (o .answer)) [] (world (o .state) ws) ≡ step (world s ws) (eventNamed kind r xs ys bs lent)) ⌝ }
 {
     let a = r.words;
     match kind {
-        1 => host_step::open(s, a.0),
-        2 => host_step::copy(s, a.0),
-        3 => host_step::drop(s, a.0),
-        4 => host_step::put(s, a.0, a.1),
-        _ => host_step::ended(s, r.number),
+        1 => host::open(s, a.0),
+        2 => host::copy(s, a.0),
+        3 => host::drop(s, a.0),
+        4 => host::put(s, a.0, a.1),
+        _ => host::ended(s, r.number),
     }
 }
 
@@ -258,9 +256,9 @@ fn host_turn(kind: u8, s: State, r: Record, out: &mut [u8]) -> WholeTurned
 {
     let o = host_event(kind, s, r);
     let answer = o.answer;
-    let fx = o.effect;
     let after = o.state;
-    let used = outcome_bytes::put_step(out, answer, fx);
+    let none = effect::none();
+    let used = outcome_bytes::put_step(out, answer, none);
     WholeTurned {
         state: after,
         used: used,
@@ -287,7 +285,7 @@ fn write_turn(
     let n = run_room::least(a.0, fx.len());
     let at = record::tail_at(r);
     let k = record::tail(r);
-    let o = driver_step::write(s, &mut fx[..n], &rec[at..at + k]);
+    let o = write::write(s, &mut fx[..n], &rec[at..at + k]);
     let m = o.words;
     let answer = o.answer;
     let after = o.state;
@@ -365,19 +363,9 @@ fn is_single(r: Record) -> bool
     false
 }
 
-// 205 for a record that is no event.
-fn number_at(at: usize, len: usize) -> u64
-    ensures { λ r. ⌜ r ≡ cond (eqb (len - at) 0) 0 205 ⌝ }
-{
-    if at < len {
-        return 205;
-    }
-    0
-}
-
-// The events up to `end`, where the first record begins that is none.
+// All records up to the end are events, and what they write has room.
 fn run_all(scheme: u64, events: &[u8], end: usize, out: &mut [u8], fx: &mut [u64]) -> RunEnd
-    requires { ⌜ (needed (now events) ≤ length (now out)) × (end ≡ length (now events) - leftOf (now events)) ⌝ }
+    requires { ⌜ (needed (now events) ≤ length (now out)) × ((end ≡ length (now events) - leftOf (now events)) × (leftOf (now events) ≡ 0)) ⌝ }
     ensures { λ r. ⌜ r ≡ wholeEnd scheme (length (now (fx .entry))) (now (events .entry)) ⌝ }
     ensures { λ r. ⌜ now (out .exit) ≡ sets (now (out .entry)) 0 (outputOf (runOf scheme (length (now (fx .entry))) (now (events .entry)))) ⌝ }
     ensures { λ r. ⌜ now (fx .exit) ≡ lentAfter (now (fx .entry)) (runOf scheme (length (now (fx .entry))) (now (events .entry)) .turns) ⌝ }
@@ -527,9 +515,9 @@ fn run_all(scheme: u64, events: &[u8], end: usize, out: &mut [u8], fx: &mut [u64
     };
     state_bytes::put_state(&mut out[j..], s);
     RunEnd {
-        number: number_at(at, events.len()),
+        number: 0,
         place: at as u64,
-        written: (j + 1608) as u64,
+        written: (j + STATE_SIZE) as u64,
     }
 }
 
@@ -541,6 +529,13 @@ pub fn run(scheme: u64, events: &[u8], out: &mut [u8], fx: &mut [u64]) -> RunEnd
     ensures { λ r. ⌜ r .written ≤ length (now (out .entry)) ⌝ }
 {
     let w = run_room::walk(events, out.len());
+    if w.end < events.len() {
+        return RunEnd {
+            number: 205,
+            place: w.end as u64,
+            written: 0,
+        };
+    }
     if w.fits {
         return run_all(scheme, events, w.end, out, fx);
     }

@@ -10,6 +10,7 @@ use lib.Seq.{drop-drop}
 use borrow.Author.Tests.{eq-eqb, ne-eqb, le-leb, lt-leb, leb-true, leb-false}
 use Rattle.record.specs.Record.{recordOf, tailBy, nextOf, walk}
 use Rattle.record.proofs.Laws.{next-there, walk-ends, walk-goes-on}
+use Rattle.state_bytes.specs.StateBytes.{stateSize}
 use Rattle.run_room.specs.Room.{roomBy, roomOf, needed, leftOf, walkedOf}
 use Rattle.run_room.specs.declared.Walked.{Walked}
 
@@ -22,37 +23,41 @@ room-is-other kind number word e =
     ∙ ap (λ (b : Bool). 192 + cond b (min word 8192) 0 + 27 * tailBy kind number) (sym (ne-eqb kind 15 e))
 
 -- the state's own bytes are always needed
-least-room : (f : ℕ) (bs : List ℕ) → 1608 ≤ walk (λ rest. 1608) (λ rest n. roomOf (recordOf rest) + n) f bs
+least-room : (f : ℕ) (bs : List ℕ) → stateSize ≤ walk (λ rest. stateSize) (λ rest n. roomOf (recordOf rest) + n) f bs
 least-room zero bs = omega arith
 least-room (suc f) bs = go (eqb (nextOf bs) 0) (least-room f (drop (nextOf bs) bs))
   where
-    go : (b : Bool) → 1608 ≤ walk (λ rest. 1608) (λ rest n. roomOf (recordOf rest) + n) f (drop (nextOf bs) bs)
-        → 1608 ≤ cond b 1608 (roomOf (recordOf bs) + walk (λ rest. 1608) (λ rest n. roomOf (recordOf rest) + n) f (drop (nextOf bs) bs))
+    go : (b : Bool) → stateSize ≤ walk (λ rest. stateSize) (λ rest n. roomOf (recordOf rest) + n) f (drop (nextOf bs) bs)
+        → stateSize ≤ cond b stateSize (roomOf (recordOf bs) + walk (λ rest. stateSize) (λ rest n. roomOf (recordOf rest) + n) f (drop (nextOf bs) bs))
     go true h = omega arith
     go false h = omega (arith, h)
 
-pub needed-least : (bs : List ℕ) → 1608 ≤ needed bs
+pub needed-least : (bs : List ℕ) → stateSize ≤ needed bs
 needed-least bs = least-room (length bs) bs
 
-pub needed-ends : (bs : List ℕ) → nextOf bs ≡ 0 → needed bs ≡ 1608
-needed-ends bs e = walk-ends (λ rest. 1608) (λ rest n. roomOf (recordOf rest) + n) bs e
+pub needed-ends : (bs : List ℕ) → nextOf bs ≡ 0 → needed bs ≡ stateSize
+needed-ends bs e = walk-ends (λ rest. stateSize) (λ rest n. roomOf (recordOf rest) + n) bs e
 
 pub needed-goes-on : (bs : List ℕ) → (nextOf bs ≡ 0 → ⊥) → needed bs ≡ roomOf (recordOf bs) + needed (drop (nextOf bs) bs)
-needed-goes-on bs e = walk-goes-on (λ rest. 1608) (λ rest n. roomOf (recordOf rest) + n) bs e
+needed-goes-on bs e = walk-goes-on (λ rest. stateSize) (λ rest n. roomOf (recordOf rest) + n) bs e
+
+-- the place behind a record
+pub place-on : (bs : List ℕ) (at size : ℕ) → size ≡ nextOf (drop at bs) → at ≤ length bs → at + size ≤ length bs
+place-on bs at size es h = omega (arith, h, es, next-there (drop at bs), length-drop at bs)
 
 -- what is left to spend decides as the whole does
 abbrev pub Spent : List ℕ → ℕ → ℕ → ℕ → Type 0
-Spent bs most left at = leb (needed bs) most ≡ leb (needed (drop at bs)) (left + 1608)
+Spent bs most left at = leb (needed bs) most ≡ leb (needed (drop at bs)) (left + stateSize)
 
-pub spent-start : (bs : List ℕ) (most : ℕ) → 1608 ≤ most → Spent bs most (most - 1608) 0
-spent-start bs most h = ap (leb (needed bs)) (let z : most ≡ most - 1608 + 1608 = omega (arith, h) in z)
+pub spent-start : (bs : List ℕ) (most : ℕ) → stateSize ≤ most → Spent bs most (most - stateSize) 0
+spent-start bs most h = ap (leb (needed bs)) (let z : most ≡ most - stateSize + stateSize = omega (arith, h) in z)
 
-pub too-short : (bs : List ℕ) (most : ℕ) → most < 1608 → false ≡ leb (needed bs) most
+pub too-short : (bs : List ℕ) (most : ℕ) → most < stateSize → false ≡ leb (needed bs) most
 too-short bs most h = sym (lt-leb (needed bs) most (omega (arith, h, needed-least bs)))
 
 module _ (bs : List ℕ) (most left at k size : ℕ) (so : Spent bs most left at) (es : size ≡ nextOf (drop at bs)) where
   pub spent-ends : size ≡ 0 → true ≡ leb (needed bs) most
-  spent-ends z = sym (so ∙ le-leb (needed (drop at bs)) (left + 1608) (omega (arith, needed-ends (drop at bs) (sym es ∙ z))))
+  spent-ends z = sym (so ∙ le-leb (needed (drop at bs)) (left + stateSize) (omega (arith, needed-ends (drop at bs) (sym es ∙ z))))
 
   module _ (more : size ≡ 0 → ⊥) (ek : k ≡ roomOf (recordOf (drop at bs))) where
     on : needed (drop at bs) ≡ k + needed (drop (at + size) bs)
@@ -61,20 +66,20 @@ module _ (bs : List ℕ) (most left at k size : ℕ) (so : Spent bs most left at
         ∙ ap₂ _+_ (sym ek) (ap needed (ap (λ (n : ℕ). drop n (drop at bs)) (sym es) ∙ drop-drop size at bs))
 
     pub spent-short : left < k → false ≡ leb (needed bs) most
-    spent-short h = sym (so ∙ lt-leb (needed (drop at bs)) (left + 1608) (omega (arith, h, on, needed-least (drop (at + size) bs))))
+    spent-short h = sym (so ∙ lt-leb (needed (drop at bs)) (left + stateSize) (omega (arith, h, on, needed-least (drop (at + size) bs))))
 
     pub spent-on : k ≤ left → Spent bs most (left - k) (at + size)
     spent-on h = so ∙ same (needed (drop at bs)) (needed (drop (at + size) bs)) on
       where
-        same : (n m : ℕ) → n ≡ k + m → leb n (left + 1608) ≡ leb m (left - k + 1608)
-        same n m e = by (leb m (left - k + 1608)) refl
+        same : (n m : ℕ) → n ≡ k + m → leb n (left + stateSize) ≡ leb m (left - k + stateSize)
+        same n m e = by (leb m (left - k + stateSize)) refl
           where
-            by : (b : Bool) → leb m (left - k + 1608) ≡ b → leb n (left + 1608) ≡ b
-            by true p = le-leb n (left + 1608) (omega (arith, h, e, leb-true m (left - k + 1608) p))
-            by false p = lt-leb n (left + 1608) (omega (arith, h, e, leb-false m (left - k + 1608) p))
+            by : (b : Bool) → leb m (left - k + stateSize) ≡ b → leb n (left + stateSize) ≡ b
+            by true p = le-leb n (left + stateSize) (omega (arith, h, e, leb-true m (left - k + stateSize) p))
+            by false p = lt-leb n (left + stateSize) (omega (arith, h, e, leb-false m (left - k + stateSize) p))
 
   pub spent-place : at ≤ length bs → at + size ≤ length bs
-  spent-place h = omega (arith, h, es, next-there (drop at bs), length-drop at bs)
+  spent-place h = place-on bs at size es h
 
 -- how many bytes are left where the events end
 left-most : (f : ℕ) (bs : List ℕ) → walk (λ rest. length rest) (λ rest n. n) f bs ≤ length bs
@@ -104,16 +109,13 @@ left-all bs h = go (nextOf bs) refl
     go (suc n) e =
         absurd (let z : ⊥ = omega (arith, h, e, next-there bs, left-goes-on bs (λ q. omega (arith, q, e)), left-there (drop (nextOf bs) bs), length-drop (nextOf bs) bs) in z)
 
--- the walk's answers
-pub walked-short : (bs : List ℕ) (most : ℕ) (w : Walked) → w ≡ record { fits = false; end = 0 } → false ≡ leb (needed bs) most → w ≡ walkedOf bs most
-walked-short bs most w e h = e ∙ ap (λ (b : Bool). record { fits = b; end = cond b (length bs - leftOf bs) 0 }) h
+-- where the events end
+pub end-at : (bs : List ℕ) (at : ℕ) → at ≤ length bs → leftOf (drop at bs) ≡ leftOf bs → nextOf (drop at bs) ≡ 0 → at ≡ length bs - leftOf bs
+end-at bs at p q e = omega (arith, p, q, left-ends (drop at bs) e, length-drop at bs)
 
-pub walked-all :
-    (bs : List ℕ) (most at : ℕ) → true ≡ leb (needed bs) most → at ≤ length bs → leftOf (drop at bs) ≡ leftOf bs → nextOf (drop at bs) ≡ 0
-    → _≡_ {A = Walked} (record { fits = true; end = at }) (walkedOf bs most)
-walked-all bs most at h p q e =
-    ap (λ (n : ℕ). record { fits = true; end = n }) (let z : at ≡ length bs - leftOf bs = omega (arith, p, q, left-ends (drop at bs) e, length-drop at bs) in z)
-    ∙ ap (λ (b : Bool). record { fits = b; end = cond b (length bs - leftOf bs) 0 }) h
+-- the walk's answer
+pub walked : (bs : List ℕ) (most at : ℕ) (b : Bool) → b ≡ leb (needed bs) most → at ≡ length bs - leftOf bs → _≡_ {A = Walked} (record { fits = b; end = at }) (walkedOf bs most)
+walked bs most at b h e = ap₂ (λ (x : Bool) (n : ℕ). record { fits = x; end = n }) h e
 
 pub left-on : (bs : List ℕ) (at size : ℕ) → leftOf (drop at bs) ≡ leftOf bs → size ≡ nextOf (drop at bs) → (size ≡ 0 → ⊥) → leftOf (drop (at + size) bs) ≡ leftOf bs
 left-on bs at size q e more =

@@ -9,8 +9,9 @@ fn fifteen() {
     let s = state::fresh(7);
     let bytes = [9; 15];
     let mut fx = [0; 54];
-    let r = driver_step::write(s, &mut fx, &bytes);
-    let answer = r.answer;
+    let r = write::write(s, &mut fx, &bytes);
+    let said = r.answer;
+    let answer = answer_words::words(said);
     io::write_all(STDOUT_FILENO, b"15 bytes written: ");
     number(answer.value);
     io::write_all(STDOUT_FILENO, b", kind ");
@@ -18,7 +19,7 @@ fn fifteen() {
     io::write_all(STDOUT_FILENO, b"\n");
 }
 
-fn show(events: &[u8], out: &mut [u8], fx: &mut [u64]) {
+fn show(events: &[u8], out: &mut [u8], fx: &mut [u64]) -> usize {
     let end = run::run(7, events, out, fx);
     io::write_all(STDOUT_FILENO, b"number ");
     number(end.number);
@@ -29,6 +30,15 @@ fn show(events: &[u8], out: &mut [u8], fx: &mut [u64]) {
     io::write_all(STDOUT_FILENO, b"\n");
     let n = end.written as usize;
     io::write_all(STDOUT_FILENO, &out[..n]);
+    end.place as usize
+}
+
+// Where a record is no event, those before it by themselves.
+fn show_events(events: &[u8], out: &mut [u8], fx: &mut [u64]) {
+    let place = show(events, out, fx);
+    if place < events.len() {
+        show(&events[..place], out, fx);
+    }
 }
 
 fn main() {
@@ -37,5 +47,5 @@ fn main() {
     let n = io::read_full(0, &mut input);
     let mut out = io::large_buffer();
     let mut fx = [0; 1024];
-    show(&input[..n], &mut out, &mut fx);
+    show_events(&input[..n], &mut out, &mut fx);
 }

@@ -20,3 +20,7 @@ statusWords t = statusPair t Placeholder ++ statusPair t Waiting ++ statusPair t
 -- one; the status words, whose bits say the state of each slot
 abbrev pub stateBytes : World → List ℕ
 stateBytes w = bytesOf (queueOf w .len ∷ []) ++ bytesOf (holdsOf w .holds) ++ bytesOf (holdsOf w .outside) ++ bytesOf (handlesOf w .at) ++ bytesOf (statusWords (tableOf w))
+
+-- how many there are
+abbrev pub stateSize : ℕ
+stateSize = 1608

@@ -11,7 +11,10 @@ ghost use lib.ListN.{length};
 ghost use lib.Seq.{sets};
 ghost use Rattle.le.specs.Le.{bytesOf};
 ghost use Rattle.events.specs.World.{world};
-ghost use Rattle.state_bytes.specs.StateBytes.{statusPair, statusWords, stateBytes};
+ghost use Rattle.state_bytes.specs.StateBytes.{statusPair, statusWords, stateBytes, stateSize};
+
+// How many bytes it takes.
+pub const STATE_SIZE: usize = 1608;
 
 fn wide(x: u16) -> u64
     ensures { λ r. ⌜ r ≡ x ⌝ }
@@ -82,7 +85,7 @@ fn put_handles(out: &mut [u8], at: usize, n: Handles)
 // The state at the end of a run.
 pub fn put_state(out: &mut [u8], s: State)
     ensures { λ r. ⌜ ((ws : Words ℕ) → now (out .exit) ≡ sets (now (out .entry)) 0 (stateBytes (world s ws))) ⌝ }
-    ensures { λ r. ⌜ ((ws : Words ℕ) → length (stateBytes (world s ws)) ≡ 1608) ⌝ }
+    ensures { λ r. ⌜ ((ws : Words ℕ) → length (stateBytes (world s ws)) ≡ stateSize) ⌝ }
 {
     let t = s.table;
     let h = t.holds;

@@ -1,16 +1,13 @@
 // The events on a whole state, by value: each finds its part, and the part that it leaves is stored.
 use answer_words::AnswerWords;
-use answer_words::Step;
-use driver_step::Completed;
-use effect::Effect;
-use fd_list::List;
+use answer_words::StepWords;
+use answer_words::WakeWords;
 use handles::Handles;
 use holds::Holds;
 use ids::Tag;
 use part::Part;
 use record::Record;
 use schemev2::Cqe;
-use slot::Reply;
 use state::State;
 ghost use mathlib.Core.Path.{_≡_};
 ghost use mathlib.Core.List.{List as Words};
@@ -19,30 +16,28 @@ ghost use Prim.Native.Nat.{ℕ, _/_, _%_};
 ghost use lib.Seq.{sets};
 ghost use Rattle.state.specs.declared.State.{State as AnyState};
 ghost use Rattle.part.specs.Part.{Stands, found, leaves};
-ghost use Rattle.answer_words.specs.Words.{answerOf, repliedOf};
+ghost use Rattle.answer_words.specs.Words.{wordsOf, Settled, SettledWake};
 ghost use Rattle.effect.specs.Effect.{effectWords};
 ghost use Rattle.part_step.specs.PartStep.{partEvent};
 ghost use Rattle.events.specs.World.{world};
-ghost use Rattle.events.specs.Outcome.{outcome};
+ghost use Rattle.events.specs.Outcome.{outcome, saidWith};
 ghost use Rattle.events.specs.Event.{step};
-ghost use Rattle.events.specs.Wake.{wakeOf};
+ghost use Rattle.events.specs.Wake.{responseFrom, wakeOf};
 ghost use Rattle.events.specs.Read.{readOf};
 ghost use Rattle.events.specs.Complete.{writeOf};
 ghost use Rattle.schemev2.specs.Entry.{cqeOf};
 
-// A reply (answer kind 4) stands beside the answer, with its list.
-#[repr(C)]
-pub struct Woken {
-    pub answer: AnswerWords,
-    pub reply: Reply,
-    pub fds: List,
-    pub effect: Effect,
-    pub state: State,
-}
-
 #[repr(C)]
 pub struct ReadState {
     pub answer: AnswerWords,
+    pub state: State,
+}
+
+// So many of the lent words hold effects, three to each.
+#[repr(C)]
+pub struct Completed {
+    pub answer: AnswerWords,
+    pub words: usize,
     pub state: State,
 }
 
@@ -53,8 +48,8 @@ pub fn one_effect(
     r: Record,
     first: &[u64],
     second: &[u64],
-) -> Step
-    ensures { λ o. ⌜ outcome (answerOf (o .answer)) (effectWords (o .effect)) (world (o .state) (now (words .exit))) ≡ step (world s (now (words .entry))) (partEvent (r .kind) r (now (first .entry)) (now (second .entry))) ⌝ }
+) -> StepWords
+    ensures { λ o. ⌜ Settled o (now (words .exit)) (step (world s (now (words .entry))) (partEvent (r .kind) r (now (first .entry)) (now (second .entry)))) ⌝ }
 {
     let mut t = s.table;
     let mut d = s.driver;
@@ -88,14 +83,11 @@ pub fn one_effect(
     t.head = u.head;
     t.holds = holds;
     d.queue = left;
-    Step {
-        answer: answer,
-        effect: fx,
-        state: State {
-            driver: d,
-            table: t,
-        },
-    }
+    let after = State {
+        driver: d,
+        table: t,
+    };
+    answer_words::step_words(answer, fx, after)
 }
 
 // What a wake leaves beside its hold counts.
@@ -114,7 +106,7 @@ fn wake_part(
     base: u64,
     count: u64,
 ) -> WokenPart
-    ensures { λ r. ⌜ ((s : AnyState) → Stands s (tag .0 % 64) p → outcome (repliedOf (r .woken .answer) (r .woken .reply) (r .woken .fds)) (effectWords (r .woken .effect)) (world (leaves s (tag .0 % 64) (r .woken .part) (r .holds)) (now (words .exit))) ≡ wakeOf (world (found s p h) (now (words .entry))) (tag .0) caller killed base count) ⌝ }
+    ensures { λ r. ⌜ ((s : AnyState) → Stands s (tag .0 % 64) p → outcome (saidWith (responseFrom (r .woken .reply) (r .woken .fds)) (r .woken .answer)) (effectWords (r .woken .effect)) (world (leaves s (tag .0 % 64) (r .woken .part) (r .holds)) (now (words .exit))) ≡ wakeOf (world (found s p h) (now (words .entry))) (tag .0) caller killed base count) ⌝ }
 {
     part_step::known(h);
     let all = h.holds;
@@ -137,8 +129,8 @@ pub fn wake(
     killed: u64,
     base: u64,
     count: u64,
-) -> Woken
-    ensures { λ r. ⌜ outcome (repliedOf (r .answer) (r .reply) (r .fds)) (effectWords (r .effect)) (world (r .state) (now (words .exit))) ≡ wakeOf (world s (now (words .entry))) (tag .0) caller killed base count ⌝ }
+) -> WakeWords
+    ensures { λ r. ⌜ SettledWake r (now (words .exit)) (wakeOf (world s (now (words .entry))) (tag .0) caller killed base count) ⌝ }
 {
     let mut t = s.table;
     let mut d = s.driver;
@@ -169,21 +161,16 @@ pub fn wake(
     t.head = u.head;
     t.holds = holds;
     d.queue = left;
-    Woken {
-        answer: answer,
-        reply: reply,
-        fds: fds,
-        effect: fx,
-        state: State {
-            driver: d,
-            table: t,
-        },
-    }
+    let after = State {
+        driver: d,
+        table: t,
+    };
+    answer_words::wake_words(answer, reply, fds, fx, after)
 }
 
 // The words of the queue stay as they are; of the lent bytes those beyond the stored ones keep what they held.
 pub fn read(s: State, words: &[u64; 1024], out: &mut [u8], flags: u32) -> ReadState
-    ensures { λ r. ⌜ answerOf (r .answer) ≡ readOf (world s (now (words .entry))) (length (now (out .entry))) flags .answer ⌝ }
+    ensures { λ r. ⌜ r .answer ≡ wordsOf (readOf (world s (now (words .entry))) (length (now (out .entry))) flags .answer) ⌝ }
     ensures { λ r. ⌜ world (r .state) (now (words .entry)) ≡ readOf (world s (now (words .entry))) (length (now (out .entry))) flags .world ⌝ }
     ensures { λ r. ⌜ now (out .exit) ≡ sets (now (out .entry)) 0 (readOf (world s (now (words .entry))) (length (now (out .entry))) flags .bytes) ⌝ }
 {
@@ -208,8 +195,9 @@ pub fn read(s: State, words: &[u64; 1024], out: &mut [u8], flags: u32) -> ReadSt
     t.next[0] = u.next;
     t.head = u.head;
     d.queue = left;
+    let said = answer_words::words(answer);
     ReadState {
-        answer: answer,
+        answer: said,
         state: State {
             driver: d,
             table: t,
@@ -219,7 +207,7 @@ pub fn read(s: State, words: &[u64; 1024], out: &mut [u8], flags: u32) -> ReadSt
 
 // A write of one entry changes the part at its tag, the holds and the handles.
 fn entry(s: State, fx: &mut [u64], e: Cqe) -> Completed
-    ensures { λ r. ⌜ ((ws bs : Words ℕ) → length bs / 16 ≡ 1 → e ≡ cqeOf bs → (answerOf (r .answer) ≡ writeOf (world s ws) (length (now (fx .entry))) bs .answer) × ((world (r .state) ws ≡ writeOf (world s ws) (length (now (fx .entry))) bs .world) × ((now (fx .exit) ≡ sets (now (fx .entry)) 0 (writeOf (world s ws) (length (now (fx .entry))) bs .effects)) × (r .words ≡ length (writeOf (world s ws) (length (now (fx .entry))) bs .effects))))) ⌝ }
+    ensures { λ r. ⌜ ((ws bs : Words ℕ) → length bs / 16 ≡ 1 → e ≡ cqeOf bs → (r .answer ≡ wordsOf (writeOf (world s ws) (length (now (fx .entry))) bs .answer)) × ((world (r .state) ws ≡ writeOf (world s ws) (length (now (fx .entry))) bs .world) × ((now (fx .exit) ≡ sets (now (fx .entry)) 0 (writeOf (world s ws) (length (now (fx .entry))) bs .effects)) × (r .words ≡ length (writeOf (world s ws) (length (now (fx .entry))) bs .effects))))) ⌝ }
 {
     let mut t = s.table;
     let mut d = s.driver;
@@ -255,7 +243,7 @@ fn entry(s: State, fx: &mut [u64], e: Cqe) -> Completed
     t.holds = left;
     d.handles = others;
     d.queue = same;
-    let said = driver_step::write_words(answer);
+    let said = answer_words::words(answer);
     Completed {
         answer: said,
         words: o.words,
@@ -267,7 +255,7 @@ fn entry(s: State, fx: &mut [u64], e: Cqe) -> Completed
 }
 
 pub fn write(s: State, fx: &mut [u64], bytes: &[u8]) -> Completed
-    ensures { λ r. ⌜ ((ws : Words ℕ) → answerOf (r .answer) ≡ writeOf (world s ws) (length (now (fx .entry))) (now (bytes .entry)) .answer) ⌝ }
+    ensures { λ r. ⌜ ((ws : Words ℕ) → r .answer ≡ wordsOf (writeOf (world s ws) (length (now (fx .entry))) (now (bytes .entry)) .answer)) ⌝ }
     ensures { λ r. ⌜ ((ws : Words ℕ) → world (r .state) ws ≡ writeOf (world s ws) (length (now (fx .entry))) (now (bytes .entry)) .world) ⌝ }
     ensures { λ r. ⌜ ((ws : Words ℕ) → now (fx .exit) ≡ sets (now (fx .entry)) 0 (writeOf (world s ws) (length (now (fx .entry))) (now (bytes .entry)) .effects)) ⌝ }
     ensures { λ r. ⌜ ((ws : Words ℕ) → r .words ≡ length (writeOf (world s ws) (length (now (fx .entry))) (now (bytes .entry)) .effects)) ⌝ }
@@ -276,5 +264,13 @@ pub fn write(s: State, fx: &mut [u64], bytes: &[u8]) -> Completed
         let e = decode::cqe(bytes);
         return entry(s, fx, e);
     }
-    driver_step::write(s, fx, bytes)
+    let o = write::write(s, fx, bytes);
+    let answer = o.answer;
+    let after = o.state;
+    let said = answer_words::words(answer);
+    Completed {
+        answer: said,
+        words: o.words,
+        state: after,
+    }
 }

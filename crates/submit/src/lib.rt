@@ -1,5 +1,6 @@
 // A reserved call is submitted: the start of `call_inner` (src/scheme/user.rs, lines 233 to 254). Opcode, flags, arguments
 // and pid are taken as given.
+use answer::Answer;
 use effect::Effect;
 use holds::Holds;
 use ids::Tag;
@@ -16,20 +17,11 @@ ghost use Rattle.effect.specs.Effect.{effectWords};
 ghost use Rattle.state.specs.declared.State.{State};
 ghost use Rattle.part.specs.Part.{Stands, found, leaves};
 ghost use Rattle.events.specs.World.{world};
-ghost use Rattle.events.specs.Outcome.{outcome};
+ghost use Rattle.events.specs.Outcome.{outcome, said};
 ghost use Rattle.events.specs.Submit.{submittable, submitOf};
-ghost use Rattle.submit.specs.Submit.{submitAnswer};
-
-pub enum SubmitAnswer {
-    Submitted(Tag),
-    BadArgument,
-    TooManyFds,
-    NotYours,
-    QueueFull,
-}
 
 pub struct SubmitStep {
-    pub answer: SubmitAnswer,
+    pub answer: Answer,
     pub effect: Effect,
     pub part: Part,
     pub holds: Holds,
@@ -66,14 +58,14 @@ pub fn submit(
     pid: u64,
     fds: &[u64],
 ) -> SubmitStep
-    ensures { λ r. ⌜ ((s : State) → Stands s (tag .0 % 64) p → outcome (submitAnswer (r .answer)) (effectWords (r .effect)) (world (leaves s (tag .0 % 64) (r .part) (r .holds)) (now (words .exit))) ≡ submitOf (world (found s p h) (now (words .entry))) (tag .0) caller opcode flags args pid (now (fds .entry))) ⌝ }
+    ensures { λ r. ⌜ ((s : State) → Stands s (tag .0 % 64) p → outcome (said (r .answer)) (effectWords (r .effect)) (world (leaves s (tag .0 % 64) (r .part) (r .holds)) (now (words .exit))) ≡ submitOf (world (found s p h) (now (words .entry))) (tag .0) caller opcode flags args pid (now (fds .entry))) ⌝ }
 {
     let none = effect::none();
     let raw = opcode::try_from_raw(opcode);
     match raw {
         RawOpcode::Unknown => {
             return SubmitStep {
-                answer: SubmitAnswer::BadArgument,
+                answer: Answer::BadArgument,
                 effect: none,
                 part: p,
                 holds: h,
@@ -85,7 +77,7 @@ pub fn submit(
             match took {
                 TakeAnswer::BadArgument => {
                     return SubmitStep {
-                        answer: SubmitAnswer::BadArgument,
+                        answer: Answer::BadArgument,
                         effect: none,
                         part: p,
                         holds: h,
@@ -93,7 +85,7 @@ pub fn submit(
                 }
                 TakeAnswer::TooMany => {
                     return SubmitStep {
-                        answer: SubmitAnswer::TooManyFds,
+                        answer: Answer::TooManyFds,
                         effect: none,
                         part: p,
                         holds: h,
@@ -103,7 +95,7 @@ pub fn submit(
                     let n = ids::slot_of(tag);
                     if 64 <= n.0 {
                         return SubmitStep {
-                            answer: SubmitAnswer::NotYours,
+                            answer: Answer::NotYours,
                             effect: none,
                             part: p,
                             holds: h,
@@ -112,7 +104,7 @@ pub fn submit(
                     let v = p.slot;
                     if !is_submittable(v, caller) {
                         return SubmitStep {
-                            answer: SubmitAnswer::NotYours,
+                            answer: Answer::NotYours,
                             effect: none,
                             part: p,
                             holds: h,
@@ -121,7 +113,7 @@ pub fn submit(
                     let q = p.queue;
                     if 128 <= q.len {
                         return SubmitStep {
-                            answer: SubmitAnswer::QueueFull,
+                            answer: Answer::QueueFull,
                             effect: none,
                             part: p,
                             holds: h,
@@ -143,7 +135,7 @@ pub fn submit(
                     let bits = flag::event_read();
                     let fx = effect::root(p.scheme, bits);
                     return SubmitStep {
-                        answer: SubmitAnswer::Submitted(tag),
+                        answer: Answer::Submitted(tag),
                         effect: fx,
                         part: after,
                         holds: holds,

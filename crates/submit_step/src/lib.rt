@@ -1,17 +1,9 @@
-// The callers' events but the wake, on a part, answered in numbers. Hold counts are lent where an event takes holds.
-use answer_words::AnswerWords;
+// The callers' events but the wake, on a part. Hold counts are lent where an event takes holds.
 use answer_words::PartStep;
-use call::CallAnswer;
-use call_generic::GenericAnswer;
-use call_generic::StdFsAnswer;
 use holds::Holds;
 use ids::Tag;
-use next_id::NextIdAnswer;
 use part::Part;
-use request_fmap::FmapAnswer;
 use schemev2::Args;
-use submit::SubmitAnswer;
-use wait_queue::SendAnswer;
 ghost use mathlib.Core.Path.{_≡_};
 ghost use mathlib.Core.List.{List};
 ghost use Prim.Native.Nat.{ℕ, _%_};
@@ -19,103 +11,20 @@ ghost use Rattle.holds.specs.declared.Holds.{Holds as Counts};
 ghost use Rattle.holds.specs.Holds.{holdsWith};
 ghost use Rattle.state.specs.declared.State.{State};
 ghost use Rattle.part.specs.Part.{Stands, found, leaves};
-ghost use Rattle.answer_words.specs.Words.{answerOf};
 ghost use Rattle.effect.specs.Effect.{effectWords};
-ghost use Rattle.call.specs.Call.{callAnswer};
-ghost use Rattle.call_generic.specs.Generic.{genericAnswer, stdfsAnswer};
-ghost use Rattle.next_id.specs.NextId.{nextIdAnswer};
-ghost use Rattle.request_fmap.specs.Fmap.{fmapAnswer};
-ghost use Rattle.submit.specs.Submit.{submitAnswer};
-ghost use Rattle.wait_queue.specs.Queue.{sendAnswer};
 ghost use Rattle.events.specs.World.{world};
-ghost use Rattle.events.specs.Outcome.{outcome, answered};
+ghost use Rattle.events.specs.Outcome.{outcome, said};
 ghost use Rattle.events.specs.Submit.{reserveOf, submitOf, callOf, genericOf, stdfsOf, fmapOf, closeOf, detachOf};
 
-fn next_id_words(a: NextIdAnswer) -> AnswerWords
-    ensures { λ r. ⌜ answerOf r ≡ nextIdAnswer a ⌝ }
-{
-    match a {
-        NextIdAnswer::Reserved(tag) => answer_words::done(tag.0),
-        NextIdAnswer::Full => answer_words::refused(202),
-    }
-}
-
-fn submit_words(a: SubmitAnswer) -> AnswerWords
-    ensures { λ r. ⌜ answerOf r ≡ submitAnswer a ⌝ }
-{
-    match a {
-        SubmitAnswer::Submitted(tag) => answer_words::done(tag.0),
-        SubmitAnswer::BadArgument => answer_words::refused(205),
-        SubmitAnswer::TooManyFds => answer_words::refused(206),
-        SubmitAnswer::NotYours => answer_words::refused(201),
-        SubmitAnswer::QueueFull => answer_words::refused(203),
-    }
-}
-
-fn call_words(a: CallAnswer) -> AnswerWords
-    ensures { λ r. ⌜ answerOf r ≡ callAnswer a ⌝ }
-{
-    match a {
-        CallAnswer::Called(tag) => answer_words::done(tag.0),
-        CallAnswer::BadArgument => answer_words::refused(205),
-        CallAnswer::TooManyFds => answer_words::refused(206),
-        CallAnswer::Full => answer_words::refused(202),
-        CallAnswer::QueueFull => answer_words::refused(203),
-    }
-}
-
-fn generic_words(a: GenericAnswer) -> AnswerWords
-    ensures { λ r. ⌜ answerOf r ≡ genericAnswer a ⌝ }
-{
-    match a {
-        GenericAnswer::Called(tag) => answer_words::done(tag.0),
-        GenericAnswer::Invalid => answer_words::refused(22),
-        GenericAnswer::Full => answer_words::refused(202),
-        GenericAnswer::QueueFull => answer_words::refused(203),
-    }
-}
-
-fn std_fs_words(a: StdFsAnswer) -> AnswerWords
-    ensures { λ r. ⌜ answerOf r ≡ stdfsAnswer a ⌝ }
-{
-    match a {
-        StdFsAnswer::Called(tag) => answer_words::done(tag.0),
-        StdFsAnswer::Invalid => answer_words::refused(22),
-        StdFsAnswer::NotSupported => answer_words::refused(95),
-        StdFsAnswer::Full => answer_words::refused(202),
-        StdFsAnswer::QueueFull => answer_words::refused(203),
-    }
-}
-
-fn fmap_words(a: FmapAnswer) -> AnswerWords
-    ensures { λ r. ⌜ answerOf r ≡ fmapAnswer a ⌝ }
-{
-    match a {
-        FmapAnswer::Requested(tag) => answer_words::done(tag.0),
-        FmapAnswer::Full => answer_words::refused(202),
-        FmapAnswer::QueueFull => answer_words::refused(203),
-    }
-}
-
-fn send_words(a: SendAnswer) -> AnswerWords
-    ensures { λ r. ⌜ answerOf r ≡ answered (sendAnswer a) ⌝ }
-{
-    match a {
-        SendAnswer::Queued => answer_words::done(0),
-        SendAnswer::Full => answer_words::refused(203),
-    }
-}
-
 pub fn next_id(p: Part, caller: u32) -> PartStep
-    ensures { λ r. ⌜ ((s : State) (h : Counts) (ws : List ℕ) → Stands s (p .head % 64) p → outcome (answerOf (r .answer)) (effectWords (r .effect)) (world (leaves s (p .head % 64) (r .part) h) ws) ≡ reserveOf (world (found s p h) ws) caller) ⌝ }
+    ensures { λ r. ⌜ ((s : State) (h : Counts) (ws : List ℕ) → Stands s (p .head % 64) p → outcome (said (r .answer)) (effectWords (r .effect)) (world (leaves s (p .head % 64) (r .part) h) ws) ≡ reserveOf (world (found s p h) ws) caller) ⌝ }
 {
     let r = next_id::next_id(p, caller);
     let answer = r.answer;
     let after = r.part;
-    let said = next_id_words(answer);
     let fx = effect::none();
     PartStep {
-        answer: said,
+        answer: answer,
         effect: fx,
         part: after,
     }
@@ -134,7 +43,7 @@ pub fn submit(
     pid: u64,
     fds: &[u64],
 ) -> PartStep
-    ensures { λ r. ⌜ ((s : State) → Stands s (tag .0 % 64) p → outcome (answerOf (r .answer)) (effectWords (r .effect)) (world (leaves s (tag .0 % 64) (r .part) (holdsWith (now (all .exit)) (now (outside .exit)))) (now (words .exit))) ≡ submitOf (world (found s p (holdsWith (now (all .entry)) (now (outside .entry)))) (now (words .entry))) (tag .0) caller opcode flags args pid (now (fds .entry))) ⌝ }
+    ensures { λ r. ⌜ ((s : State) → Stands s (tag .0 % 64) p → outcome (said (r .answer)) (effectWords (r .effect)) (world (leaves s (tag .0 % 64) (r .part) (holdsWith (now (all .exit)) (now (outside .exit)))) (now (words .exit))) ≡ submitOf (world (found s p (holdsWith (now (all .entry)) (now (outside .entry)))) (now (words .entry))) (tag .0) caller opcode flags args pid (now (fds .entry))) ⌝ }
 {
     let a = *all;
     let o = *outside;
@@ -150,10 +59,9 @@ pub fn submit(
     let u = left.outside;
     *all = b;
     *outside = u;
-    let said = submit_words(answer);
     let fx = r.effect;
     PartStep {
-        answer: said,
+        answer: answer,
         effect: fx,
         part: after,
     }
@@ -172,7 +80,7 @@ pub fn call(
     pid: u64,
     fds: &[u64],
 ) -> PartStep
-    ensures { λ r. ⌜ ((s : State) → Stands s (p .head % 64) p → outcome (answerOf (r .answer)) (effectWords (r .effect)) (world (leaves s (p .head % 64) (r .part) (holdsWith (now (all .exit)) (now (outside .exit)))) (now (words .exit))) ≡ callOf (world (found s p (holdsWith (now (all .entry)) (now (outside .entry)))) (now (words .entry))) caller opcode args uid gid pid (now (fds .entry))) ⌝ }
+    ensures { λ r. ⌜ ((s : State) → Stands s (p .head % 64) p → outcome (said (r .answer)) (effectWords (r .effect)) (world (leaves s (p .head % 64) (r .part) (holdsWith (now (all .exit)) (now (outside .exit)))) (now (words .exit))) ≡ callOf (world (found s p (holdsWith (now (all .entry)) (now (outside .entry)))) (now (words .entry))) caller opcode args uid gid pid (now (fds .entry))) ⌝ }
 {
     let a = *all;
     let o = *outside;
@@ -188,10 +96,9 @@ pub fn call(
     let u = left.outside;
     *all = b;
     *outside = u;
-    let said = call_words(answer);
     let fx = r.effect;
     PartStep {
-        answer: said,
+        answer: answer,
         effect: fx,
         part: after,
     }
@@ -207,15 +114,14 @@ pub fn call_generic(
     len: u64,
     metadata: &[u64],
 ) -> PartStep
-    ensures { λ r. ⌜ ((s : State) (h : Counts) → Stands s (p .head % 64) p → outcome (answerOf (r .answer)) (effectWords (r .effect)) (world (leaves s (p .head % 64) (r .part) h) (now (words .exit))) ≡ genericOf (world (found s p h) (now (words .entry))) caller pid (now (fds .entry)) base len (now (metadata .entry))) ⌝ }
+    ensures { λ r. ⌜ ((s : State) (h : Counts) → Stands s (p .head % 64) p → outcome (said (r .answer)) (effectWords (r .effect)) (world (leaves s (p .head % 64) (r .part) h) (now (words .exit))) ≡ genericOf (world (found s p h) (now (words .entry))) caller pid (now (fds .entry)) base len (now (metadata .entry))) ⌝ }
 {
     let r = call_generic::call_generic(p, words, caller, pid, fds, base, len, metadata);
     let answer = r.answer;
     let after = r.part;
-    let said = generic_words(answer);
     let fx = r.effect;
     PartStep {
-        answer: said,
+        answer: answer,
         effect: fx,
         part: after,
     }
@@ -231,15 +137,14 @@ pub fn translate_std_fs_call(
     len: u64,
     metadata: &[u64],
 ) -> PartStep
-    ensures { λ r. ⌜ ((s : State) (h : Counts) → Stands s (p .head % 64) p → outcome (answerOf (r .answer)) (effectWords (r .effect)) (world (leaves s (p .head % 64) (r .part) h) (now (words .exit))) ≡ stdfsOf (world (found s p h) (now (words .entry))) caller pid (now (fds .entry)) base len (now (metadata .entry))) ⌝ }
+    ensures { λ r. ⌜ ((s : State) (h : Counts) → Stands s (p .head % 64) p → outcome (said (r .answer)) (effectWords (r .effect)) (world (leaves s (p .head % 64) (r .part) h) (now (words .exit))) ≡ stdfsOf (world (found s p h) (now (words .entry))) caller pid (now (fds .entry)) base len (now (metadata .entry))) ⌝ }
 {
     let r = call_generic::translate_std_fs_call(p, words, caller, pid, fds, base, len, metadata);
     let answer = r.answer;
     let after = r.part;
-    let said = std_fs_words(answer);
     let fx = r.effect;
     PartStep {
-        answer: said,
+        answer: answer,
         effect: fx,
         part: after,
     }
@@ -256,45 +161,42 @@ pub fn request_fmap(
     gid: u32,
     pid: u64,
 ) -> PartStep
-    ensures { λ r. ⌜ ((s : State) (h : Counts) → Stands s (p .head % 64) p → outcome (answerOf (r .answer)) (effectWords (r .effect)) (world (leaves s (p .head % 64) (r .part) h) (now (words .exit))) ≡ fmapOf (world (found s p h) (now (words .entry))) caller id pages flags uid gid pid) ⌝ }
+    ensures { λ r. ⌜ ((s : State) (h : Counts) → Stands s (p .head % 64) p → outcome (said (r .answer)) (effectWords (r .effect)) (world (leaves s (p .head % 64) (r .part) h) (now (words .exit))) ≡ fmapOf (world (found s p h) (now (words .entry))) caller id pages flags uid gid pid) ⌝ }
 {
     let r = request_fmap::request_fmap(p, words, caller, id, pages, flags, uid, gid, pid);
     let answer = r.answer;
     let after = r.part;
-    let said = fmap_words(answer);
     let fx = r.effect;
     PartStep {
-        answer: said,
+        answer: answer,
         effect: fx,
         part: after,
     }
 }
 
 pub fn close(p: Part, words: &mut [u64; 1024], id: u64) -> PartStep
-    ensures { λ r. ⌜ ((s : State) (n : ℕ) (h : Counts) → Stands s n p → outcome (answerOf (r .answer)) (effectWords (r .effect)) (world (leaves s n (r .part) h) (now (words .exit))) ≡ closeOf (world (found s p h) (now (words .entry))) id) ⌝ }
+    ensures { λ r. ⌜ ((s : State) (n : ℕ) (h : Counts) → Stands s n p → outcome (said (r .answer)) (effectWords (r .effect)) (world (leaves s n (r .part) h) (now (words .exit))) ≡ closeOf (world (found s p h) (now (words .entry))) id) ⌝ }
 {
     let r = close::close(p, words, id);
     let answer = r.answer;
     let after = r.part;
-    let said = send_words(answer);
     let fx = r.effect;
     PartStep {
-        answer: said,
+        answer: answer,
         effect: fx,
         part: after,
     }
 }
 
 pub fn detach(p: Part, words: &mut [u64; 1024], id: u64, pid: u64) -> PartStep
-    ensures { λ r. ⌜ ((s : State) (n : ℕ) (h : Counts) → Stands s n p → outcome (answerOf (r .answer)) (effectWords (r .effect)) (world (leaves s n (r .part) h) (now (words .exit))) ≡ detachOf (world (found s p h) (now (words .entry))) id pid) ⌝ }
+    ensures { λ r. ⌜ ((s : State) (n : ℕ) (h : Counts) → Stands s n p → outcome (said (r .answer)) (effectWords (r .effect)) (world (leaves s n (r .part) h) (now (words .exit))) ≡ detachOf (world (found s p h) (now (words .entry))) id pid) ⌝ }
 {
     let r = close::detach(p, words, id, pid);
     let answer = r.answer;
     let after = r.part;
-    let said = send_words(answer);
     let fx = r.effect;
     PartStep {
-        answer: said,
+        answer: answer,
         effect: fx,
         part: after,
     }

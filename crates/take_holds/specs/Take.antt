@@ -1,10 +1,9 @@
--- A list of holds taken from outside holds, and 01's numbers of a refused list.
+-- A list of holds taken from outside holds.
 use Prim.Native.Nat.{ℕ}
 use mathlib.Core.Bool.{Bool, cond, _||_}
 use mathlib.Core.List.{List, []}
 use lib.Dec.{ltb, eqb}
 use lib.ListN.{getD, length}
-use Rattle.answer.specs.Answer.{Answer, success, refused}
 use Rattle.fd_list.specs.Lists.{listOf}
 use Rattle.counts.specs.Counts.{lessAll, times, any}
 use Rattle.holds.specs.declared.Holds.{Holds}
@@ -28,9 +27,3 @@ takeOf h ds =
     cond (any (bad h ds) ds) (takenAs take.BadArgument [] h)
     (cond (ltb 16 (length ds)) (takenAs take.TooMany [] h)
     (takenAs take.Taken ds (holdsWith (h .holds) (lessAll (h .outside) ds))))
-
--- 01's number and values
-abbrev pub takeAnswer : TakeAnswer → Answer
-takeAnswer take.Taken = success []
-takeAnswer take.BadArgument = refused 205
-takeAnswer take.TooMany = refused 206

@@ -5,8 +5,7 @@ use ids::Description;
 use ids::DescriptionFound;
 ghost use mathlib.Core.Path.{_≡_};
 ghost use mathlib.Core.List.{[]};
-ghost use Rattle.answer.specs.Answer.{numberOf};
-ghost use Rattle.take_holds.specs.Take.{takenAs, takeOf, takeAnswer};
+ghost use Rattle.take_holds.specs.Take.{takenAs, takeOf};
 
 pub enum TakeAnswer {
     Taken,
@@ -19,19 +18,6 @@ pub struct Taken {
     pub answer: TakeAnswer,
     pub list: List,
     pub holds: Holds,
-}
-
-impl TakeAnswer {
-    // 01's number: 0, or the refusal's.
-    pub fn number(self) -> u64
-        ensures { λ r. ⌜ r ≡ numberOf (takeAnswer self) ⌝ }
-    {
-        match self {
-            TakeAnswer::Taken => 0,
-            TakeAnswer::BadArgument => 205,
-            TakeAnswer::TooMany => 206,
-        }
-    }
 }
 
 fn refused(h: Holds, answer: TakeAnswer) -> Taken

@@ -2,8 +2,8 @@
 // the readings; error words and entries. A host may hand any state: what is promised of a step is the equation alone, and demand 3
 // holds of states that came from the fresh one.
 use answer_words::AnswerWords;
-use answer_words::Step;
-use driver_step::Completed;
+use answer_words::StepWords;
+use answer_words::WakeWords;
 use error::Error;
 use error::Result;
 use fd_list::List;
@@ -18,21 +18,19 @@ use schemev2::Cqe;
 use schemev2::Sqe;
 use slot::Reply;
 use state::State;
+use state_step::Completed;
 use state_step::ReadState;
-use state_step::Woken;
 use status::Status;
 ghost use mathlib.Core.Path.{_≡_};
 ghost use mathlib.Core.List.{List as Words};
 ghost use Prim.Native.Nat.{ℕ, _≤_};
 ghost use lib.ListN.{length};
 ghost use lib.Seq.{sets};
-ghost use Rattle.answer.specs.Answer.{numberOf};
-ghost use Rattle.answer_words.specs.Words.{answerOf, repliedOf};
-ghost use Rattle.effect.specs.Effect.{effectWords};
+ghost use Rattle.answer.specs.Numbered.{numberOf};
+ghost use Rattle.answer_words.specs.Words.{wordsOf, Settled, SettledWake};
 ghost use Rattle.error.specs.declared.Result.the-variants.{Err};
 ghost use Rattle.error.specs.Errors.{demuxOf, muxOf, resultAnswer};
 ghost use Rattle.events.specs.World.{world};
-ghost use Rattle.events.specs.Outcome.{outcome, answered};
 ghost use Rattle.events.specs.Host.{hostOpenOf, hostCopyOf, hostDropOf, hostPutOf, hostEndedOf};
 ghost use Rattle.events.specs.Submit.{reserveOf, submitOf, callOf, genericOf, stdfsOf, fmapOf, closeOf, detachOf};
 ghost use Rattle.events.specs.Wake.{responseFrom, wakeOf};
@@ -43,49 +41,49 @@ ghost use Rattle.events.specs.Supply.{supplyOf};
 ghost use Rattle.events.specs.Replies.{intoRegularOf, callGenericOf, noticeOf, kopenatOf, kdupOf};
 ghost use Rattle.state_bytes.specs.StateBytes.{statusWords};
 ghost use Rattle.parse_cqe.specs.Parsed.{parsedOf, parsedAnswer};
-ghost use Rattle.reading_step.specs.Opened.{openedOf};
+ghost use Rattle.reading_step.specs.Opened.{openedWords, readAs};
 ghost use Rattle.run.specs.Run.{endOf, outAfter, fxAfter};
 ghost use Rattle.schemev2.specs.Entry.{sqeOf, cqeOf, sqeBytes, cqeBytes};
 ghost use Rattle.state.specs.State.{freshState};
 
 #[no_mangle]
-pub extern "C" fn tilgurap_open(s: State, description: u64) -> Step
-    ensures { λ r. ⌜ ((ws : Words ℕ) → outcome (answerOf (r .answer)) (effectWords (r .effect)) (world (r .state) ws) ≡ hostOpenOf (world s ws) description) ⌝ }
+pub extern "C" fn tilgurap_open(s: State, description: u64) -> StepWords
+    ensures { λ r. ⌜ ((ws : Words ℕ) → Settled r ws (hostOpenOf (world s ws) description)) ⌝ }
 {
     host_step::open(s, description)
 }
 
 #[no_mangle]
-pub extern "C" fn tilgurap_copy(s: State, description: u64) -> Step
-    ensures { λ r. ⌜ ((ws : Words ℕ) → outcome (answerOf (r .answer)) (effectWords (r .effect)) (world (r .state) ws) ≡ hostCopyOf (world s ws) description) ⌝ }
+pub extern "C" fn tilgurap_copy(s: State, description: u64) -> StepWords
+    ensures { λ r. ⌜ ((ws : Words ℕ) → Settled r ws (hostCopyOf (world s ws) description)) ⌝ }
 {
     host_step::copy(s, description)
 }
 
 #[no_mangle]
-pub extern "C" fn tilgurap_drop(s: State, description: u64) -> Step
-    ensures { λ r. ⌜ ((ws : Words ℕ) → outcome (answerOf (r .answer)) (effectWords (r .effect)) (world (r .state) ws) ≡ hostDropOf (world s ws) description) ⌝ }
+pub extern "C" fn tilgurap_drop(s: State, description: u64) -> StepWords
+    ensures { λ r. ⌜ ((ws : Words ℕ) → Settled r ws (hostDropOf (world s ws) description)) ⌝ }
 {
     host_step::drop(s, description)
 }
 
 #[no_mangle]
-pub extern "C" fn tilgurap_put(s: State, description: u64, handle: u64) -> Step
-    ensures { λ r. ⌜ ((ws : Words ℕ) → outcome (answerOf (r .answer)) (effectWords (r .effect)) (world (r .state) ws) ≡ hostPutOf (world s ws) description handle) ⌝ }
+pub extern "C" fn tilgurap_put(s: State, description: u64, handle: u64) -> StepWords
+    ensures { λ r. ⌜ ((ws : Words ℕ) → Settled r ws (hostPutOf (world s ws) description handle)) ⌝ }
 {
     host_step::put(s, description, handle)
 }
 
 #[no_mangle]
-pub extern "C" fn tilgurap_ended(s: State, caller: u32) -> Step
-    ensures { λ r. ⌜ ((ws : Words ℕ) → outcome (answerOf (r .answer)) (effectWords (r .effect)) (world (r .state) ws) ≡ hostEndedOf (world s ws) caller) ⌝ }
+pub extern "C" fn tilgurap_ended(s: State, caller: u32) -> StepWords
+    ensures { λ r. ⌜ ((ws : Words ℕ) → Settled r ws (hostEndedOf (world s ws) caller)) ⌝ }
 {
     host_step::ended(s, caller)
 }
 
 #[no_mangle]
-pub extern "C" fn tilgurap_next_id(s: State, words: &mut [u64; 1024], caller: u32) -> Step
-    ensures { λ r. ⌜ outcome (answerOf (r .answer)) (effectWords (r .effect)) (world (r .state) (now (words .exit))) ≡ reserveOf (world s (now (words .entry))) caller ⌝ }
+pub extern "C" fn tilgurap_next_id(s: State, words: &mut [u64; 1024], caller: u32) -> StepWords
+    ensures { λ r. ⌜ Settled r (now (words .exit)) (reserveOf (world s (now (words .entry))) caller) ⌝ }
 {
     let r = Record {
         kind: 6,
@@ -113,8 +111,8 @@ pub extern "C" fn tilgurap_submit(
     args: Args,
     pid: u64,
     fds: &[u64],
-) -> Step
-    ensures { λ r. ⌜ outcome (answerOf (r .answer)) (effectWords (r .effect)) (world (r .state) (now (words .exit))) ≡ submitOf (world s (now (words .entry))) (tag .0) caller opcode flags args pid (now (fds .entry)) ⌝ }
+) -> StepWords
+    ensures { λ r. ⌜ Settled r (now (words .exit)) (submitOf (world s (now (words .entry))) (tag .0) caller opcode flags args pid (now (fds .entry))) ⌝ }
 {
     let r = Record {
         kind: 7,
@@ -151,8 +149,8 @@ pub extern "C" fn tilgurap_call(
     gid: u32,
     pid: u64,
     fds: &[u64],
-) -> Step
-    ensures { λ r. ⌜ outcome (answerOf (r .answer)) (effectWords (r .effect)) (world (r .state) (now (words .exit))) ≡ callOf (world s (now (words .entry))) caller opcode args uid gid pid (now (fds .entry)) ⌝ }
+) -> StepWords
+    ensures { λ r. ⌜ Settled r (now (words .exit)) (callOf (world s (now (words .entry))) caller opcode args uid gid pid (now (fds .entry))) ⌝ }
 {
     let r = Record {
         kind: 8,
@@ -188,8 +186,8 @@ pub extern "C" fn tilgurap_call_generic(
     base: u64,
     len: u64,
     metadata: &[u64],
-) -> Step
-    ensures { λ r. ⌜ outcome (answerOf (r .answer)) (effectWords (r .effect)) (world (r .state) (now (words .exit))) ≡ genericOf (world s (now (words .entry))) caller pid (now (fds .entry)) base len (now (metadata .entry)) ⌝ }
+) -> StepWords
+    ensures { λ r. ⌜ Settled r (now (words .exit)) (genericOf (world s (now (words .entry))) caller pid (now (fds .entry)) base len (now (metadata .entry))) ⌝ }
 {
     let r = Record {
         kind: 9,
@@ -214,8 +212,8 @@ pub extern "C" fn tilgurap_translate_std_fs_call(
     base: u64,
     len: u64,
     metadata: &[u64],
-) -> Step
-    ensures { λ r. ⌜ outcome (answerOf (r .answer)) (effectWords (r .effect)) (world (r .state) (now (words .exit))) ≡ stdfsOf (world s (now (words .entry))) caller pid (now (fds .entry)) base len (now (metadata .entry)) ⌝ }
+) -> StepWords
+    ensures { λ r. ⌜ Settled r (now (words .exit)) (stdfsOf (world s (now (words .entry))) caller pid (now (fds .entry)) base len (now (metadata .entry))) ⌝ }
 {
     let r = Record {
         kind: 10,
@@ -241,8 +239,8 @@ pub extern "C" fn tilgurap_request_fmap(
     uid: u32,
     gid: u32,
     pid: u64,
-) -> Step
-    ensures { λ r. ⌜ outcome (answerOf (r .answer)) (effectWords (r .effect)) (world (r .state) (now (words .exit))) ≡ fmapOf (world s (now (words .entry))) caller id pages flags uid gid pid ⌝ }
+) -> StepWords
+    ensures { λ r. ⌜ Settled r (now (words .exit)) (fmapOf (world s (now (words .entry))) caller id pages flags uid gid pid) ⌝ }
 {
     let r = Record {
         kind: 11,
@@ -260,8 +258,8 @@ pub extern "C" fn tilgurap_request_fmap(
 }
 
 #[no_mangle]
-pub extern "C" fn tilgurap_close(s: State, words: &mut [u64; 1024], id: u64) -> Step
-    ensures { λ r. ⌜ outcome (answerOf (r .answer)) (effectWords (r .effect)) (world (r .state) (now (words .exit))) ≡ closeOf (world s (now (words .entry))) id ⌝ }
+pub extern "C" fn tilgurap_close(s: State, words: &mut [u64; 1024], id: u64) -> StepWords
+    ensures { λ r. ⌜ Settled r (now (words .exit)) (closeOf (world s (now (words .entry))) id) ⌝ }
 {
     let r = Record {
         kind: 12,
@@ -279,8 +277,8 @@ pub extern "C" fn tilgurap_close(s: State, words: &mut [u64; 1024], id: u64) -> 
 }
 
 #[no_mangle]
-pub extern "C" fn tilgurap_detach(s: State, words: &mut [u64; 1024], id: u64, pid: u64) -> Step
-    ensures { λ r. ⌜ outcome (answerOf (r .answer)) (effectWords (r .effect)) (world (r .state) (now (words .exit))) ≡ detachOf (world s (now (words .entry))) id pid ⌝ }
+pub extern "C" fn tilgurap_detach(s: State, words: &mut [u64; 1024], id: u64, pid: u64) -> StepWords
+    ensures { λ r. ⌜ Settled r (now (words .exit)) (detachOf (world s (now (words .entry))) id pid) ⌝ }
 {
     let r = Record {
         kind: 13,
@@ -306,8 +304,8 @@ pub extern "C" fn tilgurap_wake(
     killed: u64,
     base: u64,
     count: u64,
-) -> Woken
-    ensures { λ r. ⌜ outcome (repliedOf (r .answer) (r .reply) (r .fds)) (effectWords (r .effect)) (world (r .state) (now (words .exit))) ≡ wakeOf (world s (now (words .entry))) (tag .0) caller killed base count ⌝ }
+) -> WakeWords
+    ensures { λ r. ⌜ SettledWake r (now (words .exit)) (wakeOf (world s (now (words .entry))) (tag .0) caller killed base count) ⌝ }
 {
     state_step::wake(s, words, tag, caller, killed, base, count)
 }
@@ -319,7 +317,7 @@ pub extern "C" fn tilgurap_read(
     out: &mut [u8],
     flags: u32,
 ) -> ReadState
-    ensures { λ r. ⌜ answerOf (r .answer) ≡ readOf (world s (now (words .entry))) (length (now (out .entry))) flags .answer ⌝ }
+    ensures { λ r. ⌜ r .answer ≡ wordsOf (readOf (world s (now (words .entry))) (length (now (out .entry))) flags .answer) ⌝ }
     ensures { λ r. ⌜ world (r .state) (now (words .entry)) ≡ readOf (world s (now (words .entry))) (length (now (out .entry))) flags .world ⌝ }
     ensures { λ r. ⌜ now (out .exit) ≡ sets (now (out .entry)) 0 (readOf (world s (now (words .entry))) (length (now (out .entry))) flags .bytes) ⌝ }
 {
@@ -328,7 +326,7 @@ pub extern "C" fn tilgurap_read(
 
 #[no_mangle]
 pub extern "C" fn tilgurap_write(s: State, fx: &mut [u64], bytes: &[u8]) -> Completed
-    ensures { λ r. ⌜ ((ws : Words ℕ) → answerOf (r .answer) ≡ writeOf (world s ws) (length (now (fx .entry))) (now (bytes .entry)) .answer) ⌝ }
+    ensures { λ r. ⌜ ((ws : Words ℕ) → r .answer ≡ wordsOf (writeOf (world s ws) (length (now (fx .entry))) (now (bytes .entry)) .answer)) ⌝ }
     ensures { λ r. ⌜ ((ws : Words ℕ) → world (r .state) ws ≡ writeOf (world s ws) (length (now (fx .entry))) (now (bytes .entry)) .world) ⌝ }
     ensures { λ r. ⌜ ((ws : Words ℕ) → now (fx .exit) ≡ sets (now (fx .entry)) 0 (writeOf (world s ws) (length (now (fx .entry))) (now (bytes .entry)) .effects)) ⌝ }
     ensures { λ r. ⌜ ((ws : Words ℕ) → r .words ≡ length (writeOf (world s ws) (length (now (fx .entry))) (now (bytes .entry)) .effects)) ⌝ }
@@ -342,8 +340,8 @@ pub extern "C" fn tilgurap_call_fdwrite(
     words: &mut [u64; 1024],
     metadata: &[u64],
     fds: &[u64],
-) -> Step
-    ensures { λ r. ⌜ outcome (answerOf (r .answer)) (effectWords (r .effect)) (world (r .state) (now (words .exit))) ≡ moveOf (world s (now (words .entry))) (now (metadata .entry)) (now (fds .entry)) ⌝ }
+) -> StepWords
+    ensures { λ r. ⌜ Settled r (now (words .exit)) (moveOf (world s (now (words .entry))) (now (metadata .entry)) (now (fds .entry))) ⌝ }
 {
     let r = Record {
         kind: 17,
@@ -359,8 +357,12 @@ pub extern "C" fn tilgurap_call_fdwrite(
 }
 
 #[no_mangle]
-pub extern "C" fn tilgurap_call_fdread(s: State, words: &mut [u64; 1024], metadata: &[u64]) -> Step
-    ensures { λ r. ⌜ outcome (answerOf (r .answer)) (effectWords (r .effect)) (world (r .state) (now (words .exit))) ≡ obtainCallOf (world s (now (words .entry))) (now (metadata .entry)) ⌝ }
+pub extern "C" fn tilgurap_call_fdread(
+    s: State,
+    words: &mut [u64; 1024],
+    metadata: &[u64],
+) -> StepWords
+    ensures { λ r. ⌜ Settled r (now (words .exit)) (obtainCallOf (world s (now (words .entry))) (now (metadata .entry))) ⌝ }
 {
     let r = Record {
         kind: 18,
@@ -384,8 +386,8 @@ pub extern "C" fn tilgurap_provide_mmap(
     offset: u64,
     base: u64,
     count: u64,
-) -> Step
-    ensures { λ r. ⌜ outcome (answerOf (r .answer)) (effectWords (r .effect)) (world (r .state) (now (words .exit))) ≡ supplyOf (world s (now (words .entry))) (tag .0) offset base count ⌝ }
+) -> StepWords
+    ensures { λ r. ⌜ Settled r (now (words .exit)) (supplyOf (world s (now (words .entry))) (tag .0) offset base count) ⌝ }
 {
     let r = Record {
         kind: 19,
@@ -404,35 +406,35 @@ pub extern "C" fn tilgurap_provide_mmap(
 
 #[no_mangle]
 pub extern "C" fn tilgurap_into_regular(reply: Reply, fds: List) -> AnswerWords
-    ensures { λ r. ⌜ answerOf r ≡ intoRegularOf (responseFrom reply fds) ⌝ }
+    ensures { λ r. ⌜ r ≡ wordsOf (intoRegularOf (responseFrom reply fds)) ⌝ }
 {
     reading_step::into_regular(reply, fds)
 }
 
 #[no_mangle]
 pub extern "C" fn tilgurap_read_call_generic(reply: Reply, fds: List) -> Regular
-    ensures { λ r. ⌜ (answerOf (r .answer) ≡ callGenericOf (responseFrom reply fds)) × (r .notice ≡ noticeOf (responseFrom reply fds)) ⌝ }
+    ensures { λ r. ⌜ (r .answer ≡ wordsOf (callGenericOf (responseFrom reply fds))) × (r .notice ≡ noticeOf (responseFrom reply fds)) ⌝ }
 {
     reading_step::call_generic(reply, fds)
 }
 
 #[no_mangle]
 pub extern "C" fn tilgurap_kopenat(reply: Reply, fds: List) -> OpenedWords
-    ensures { λ r. ⌜ openedOf r ≡ kopenatOf (responseFrom reply fds) ⌝ }
+    ensures { λ r. ⌜ r ≡ openedWords (kopenatOf (responseFrom reply fds)) ⌝ }
 {
     reading_step::kopenat(reply, fds)
 }
 
 #[no_mangle]
 pub extern "C" fn tilgurap_kdup(reply: Reply, fds: List) -> OpenedWords
-    ensures { λ r. ⌜ openedOf r ≡ kdupOf (responseFrom reply fds) ⌝ }
+    ensures { λ r. ⌜ r ≡ openedWords (kdupOf (responseFrom reply fds)) ⌝ }
 {
     reading_step::kdup(reply, fds)
 }
 
 #[no_mangle]
 pub extern "C" fn tilgurap_demux(word: u64) -> AnswerWords
-    ensures { λ r. ⌜ answerOf r ≡ answered (resultAnswer (demuxOf word)) ⌝ }
+    ensures { λ r. ⌜ r ≡ wordsOf (readAs (resultAnswer (demuxOf word))) ⌝ }
 {
     reading_step::demux(word)
 }

@@ -6,13 +6,12 @@ use Prim.Native.Nat.{ℕ, zero, suc, min, _+_, _-_, _*_, _/_, _%_}
 use lib.Dec.{leb, ltb, eqb}
 use lib.ListN.{getD, length, take}
 use lib.Seq.{sets}
-use Rattle.answer.specs.Answer.{Answer, success, refused}
+use Rattle.answer.specs.declared.Answer.{Answer}
+use Rattle.answer.specs.declared.Answer.the-variants.{Done, QueueFull}
 use Rattle.le.specs.Le.{bytesOf}
 use Rattle.schemev2.specs.declared.Sqe.{Sqe}
 use Rattle.schemev2.specs.Entry.{sqeWords}
 use Rattle.wait_queue.specs.declared.WaitQueue.{WaitQueue}
-use Rattle.wait_queue.specs.declared.SendAnswer.{SendAnswer}
-use Rattle.wait_queue.specs.declared.SendAnswer.the-variants.{Queued, Full}
 use Rattle.wait_queue.specs.declared.Sent.{Sent}
 
 -- word number i of the unread ones
@@ -29,13 +28,9 @@ abbrev pub unread : WaitQueue → List ℕ → List ℕ
 unread q ws = bytesOf (wordsFrom q ws 0 (q .len * 8))
 
 -- `send`: 203 at 128 unread
-abbrev pub sendAnswer : SendAnswer → Answer
-sendAnswer Queued = success []
-sendAnswer Full = refused 203
-
 abbrev pub sentIf : Bool → WaitQueue → Sent
-sentIf true q = record { answer = Full; queue = q }
-sentIf false q = record { answer = Queued; queue = record { first = q .first; len = q .len + 1 } }
+sentIf true q = record { answer = QueueFull; queue = q }
+sentIf false q = record { answer = Done; queue = record { first = q .first; len = q .len + 1 } }
 
 abbrev pub sentOf : WaitQueue → Sent
 sentOf q = sentIf (leb 128 (q .len)) q

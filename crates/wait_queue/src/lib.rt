@@ -1,9 +1,9 @@
 // The queue of submission entries (src/sync/wait_queue.rs): 128 entries, first in, first out, in a ring of words that
 // the caller lends, eight words to an entry.
+use answer::Answer;
 use schemev2::Sqe;
 ghost use mathlib.Core.Path.{_≡_};
-ghost use Rattle.answer.specs.Answer.{numberOf};
-ghost use Rattle.wait_queue.specs.Queue.{headOf, sentOf, sentWords, sendAnswer};
+ghost use Rattle.wait_queue.specs.Queue.{headOf, sentOf, sentWords};
 
 // The place of the oldest entry and how many are unread.
 #[repr(C)]
@@ -12,24 +12,8 @@ pub struct WaitQueue {
     pub len: u8,
 }
 
-pub enum SendAnswer {
-    Queued,
-    Full,
-}
-
-impl SendAnswer {
-    pub fn number(self) -> u64
-        ensures { λ r. ⌜ r ≡ numberOf (sendAnswer self) ⌝ }
-    {
-        match self {
-            SendAnswer::Queued => 0,
-            SendAnswer::Full => 203,
-        }
-    }
-}
-
 pub struct Sent {
-    pub answer: SendAnswer,
+    pub answer: Answer,
     pub queue: WaitQueue,
 }
 
@@ -46,7 +30,7 @@ pub fn send(q: WaitQueue, words: &mut [u64; 1024], e: Sqe) -> Sent
     let len = q.len;
     if 128 <= len {
         return Sent {
-            answer: SendAnswer::Full,
+            answer: Answer::QueueFull,
             queue: q,
         };
     }
@@ -61,7 +45,7 @@ pub fn send(q: WaitQueue, words: &mut [u64; 1024], e: Sqe) -> Sent
     words[place + 6] = args.5;
     words[place + 7] = e.caller;
     Sent {
-        answer: SendAnswer::Queued,
+        answer: Answer::Done,
         queue: WaitQueue {
             first: q.first,
             len: len + 1,

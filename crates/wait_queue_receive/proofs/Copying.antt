@@ -11,8 +11,8 @@ use lib.ListN.{length, getD, set, take, drop, length-set}
 use lib.Seq.{sets, drop-cons, take-append-le, take-append-add}
 use Rattle.le.specs.Le.{bytes8, bytesOf}
 use Rattle.wait_queue.specs.declared.WaitQueue.{WaitQueue}
-use Rattle.wait_queue_receive.specs.declared.ReceiveAnswer.{ReceiveAnswer}
-use Rattle.wait_queue_receive.specs.declared.ReceiveAnswer.the-variants.{Bytes}
+use Rattle.answer.specs.declared.Answer.{Answer}
+use Rattle.answer.specs.declared.Answer.the-variants.{Bytes}
 use Rattle.wait_queue_receive.specs.declared.Received.{Received}
 use Rattle.wait_queue.specs.Queue.{wordAt, wordsFrom, unread, removed}
 use Rattle.wait_queue_receive.specs.Receive.{emptyBy, emptyOf, receivedIf, receivedOf, copiedOf}
@@ -130,10 +130,10 @@ module _ (q : WaitQueue) (ws out : List ℕ) (flags : ℕ) where
   received-by b p = ap (λ (t : Bool). receivedIf t q (length out) flags) (sym p)
 
   pub none :
-      (a : ReceiveAnswer) → a ≡ emptyOf (length out) flags → q .len ≡ 0
+      (a : Answer) → a ≡ emptyOf (length out) flags → q .len ≡ 0
       → (_≡_ {A = Received} (record { answer = a; queue = q }) (receivedOf q (length out) flags)) × (out ≡ copiedOf q ws out)
   none a p e = (
-    ap (λ (x : ReceiveAnswer). record { answer = x; queue = q }) p ∙ received-by true (eq-eqb (q .len) 0 e),
+    ap (λ (x : Answer). record { answer = x; queue = q }) p ∙ received-by true (eq-eqb (q .len) 0 e),
     sym (ap (λ (k : ℕ). sets out 0 (take k (unread q ws))) nothing),
   )
     where

@@ -5,27 +5,20 @@ use Prim.Native.Nat.{ℕ, min, _+_, _-_, _*_, _/_, _%_}
 use lib.Dec.{ltb, eqb}
 use lib.ListN.{length, take}
 use lib.Seq.{sets}
-use Rattle.answer.specs.Answer.{Answer, success, refused, waits}
+use Rattle.answer.specs.declared.Answer.{Answer}
+use Rattle.answer.specs.declared.Answer.the-variants.{Bytes, WouldWait, Again, Invalid}
 use Rattle.wait_queue.specs.declared.WaitQueue.{WaitQueue}
 use Rattle.wait_queue.specs.Queue.{unread, removed}
-use Rattle.wait_queue_receive.specs.declared.ReceiveAnswer.{ReceiveAnswer}
-use Rattle.wait_queue_receive.specs.declared.ReceiveAnswer.the-variants.{Bytes, Invalid, Again, WouldWait}
 use Rattle.wait_queue_receive.specs.declared.Received.{Received}
 
 -- `receive_into_user` of an empty queue: by the length of the lent bytes and the non-blocking flag, 0x00040000
-abbrev pub receiveAnswer : ReceiveAnswer → Answer
-receiveAnswer (Bytes n) = success (n ∷ [])
-receiveAnswer Invalid = refused 22
-receiveAnswer Again = refused 11
-receiveAnswer WouldWait = waits
-
-abbrev pub emptyBy : Bool → Bool → Bool → ReceiveAnswer
+abbrev pub emptyBy : Bool → Bool → Bool → Answer
 emptyBy true none short = WouldWait
 emptyBy false true short = Bytes 0
 emptyBy false false true = Invalid
 emptyBy false false false = Again
 
-abbrev pub emptyOf : ℕ → ℕ → ReceiveAnswer
+abbrev pub emptyOf : ℕ → ℕ → Answer
 emptyOf n flags = emptyBy (eqb (flags / 0x4_0000 % 2) 0) (eqb n 0) (ltb n 64)
 
 -- how many bytes are copied into n

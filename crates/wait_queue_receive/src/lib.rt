@@ -1,37 +1,16 @@
 // Reading the queue of submission entries: `receive_into_user` (src/sync/wait_queue.rs, lines 28 to 73).
+use answer::Answer;
 use wait_queue::WaitQueue;
 ghost use mathlib.Core.Path.{_≡_};
 ghost use Prim.Native.Nat.{min, _+_, _*_, _≤_};
 ghost use lib.ListN.{length, take};
 ghost use lib.Seq.{sets};
-ghost use Rattle.answer.specs.Answer.{numberOf};
 ghost use Rattle.le.specs.Le.{bytes8};
 ghost use Rattle.wait_queue.specs.Queue.{wordAt, unread};
-ghost use Rattle.wait_queue_receive.specs.Receive.{receiveAnswer, emptyOf, receivedOf, copiedOf};
-
-pub enum ReceiveAnswer {
-    Bytes(u64),
-    Invalid,
-    Again,
-    WouldWait,
-}
-
-impl ReceiveAnswer {
-    // 01's number of a refusal, 0 for another answer.
-    pub fn number(self) -> u64
-        ensures { λ r. ⌜ r ≡ numberOf (receiveAnswer self) ⌝ }
-    {
-        match self {
-            ReceiveAnswer::Bytes(_) => 0,
-            ReceiveAnswer::Invalid => 22,
-            ReceiveAnswer::Again => 11,
-            ReceiveAnswer::WouldWait => 0,
-        }
-    }
-}
+ghost use Rattle.wait_queue_receive.specs.Receive.{emptyOf, receivedOf, copiedOf};
 
 pub struct Received {
-    pub answer: ReceiveAnswer,
+    pub answer: Answer,
     pub queue: WaitQueue,
 }
 
@@ -86,19 +65,19 @@ fn copy(q: WaitQueue, words: &[u64; 1024], out: &mut [u8], n: usize)
 }
 
 // What an empty queue answers: only bit 0x00040000 of the flags counts (O_NONBLOCK, syscall/src/flag.rs, line 189).
-fn empty(room: usize, flags: u32) -> ReceiveAnswer
+fn empty(room: usize, flags: u32) -> Answer
     ensures { λ r. ⌜ r ≡ emptyOf room flags ⌝ }
 {
     if flags / 0x4_0000 % 2 == 0 {
-        return ReceiveAnswer::WouldWait;
+        return Answer::WouldWait;
     }
     if room == 0 {
-        return ReceiveAnswer::Bytes(0);
+        return Answer::Bytes(0);
     }
     if room < 64 {
-        return ReceiveAnswer::Invalid;
+        return Answer::Invalid;
     }
-    ReceiveAnswer::Again
+    Answer::Again
 }
 
 fn least(a: usize, b: usize) -> usize
@@ -125,7 +104,7 @@ pub fn receive(q: WaitQueue, words: &[u64; 1024], out: &mut [u8], flags: u32) ->
     copy(q, words, out, n);
     let gone = n / 64;
     Received {
-        answer: ReceiveAnswer::Bytes(n as u64),
+        answer: Answer::Bytes(n as u64),
         queue: WaitQueue {
             first: ((q.first as usize + gone) % 128) as u8,
             len: len - gone as u8,

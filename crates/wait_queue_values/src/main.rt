@@ -3,7 +3,6 @@ use libc::STDOUT_FILENO;
 use schemev2::Args;
 use schemev2::Sqe;
 use wait_queue::WaitQueue;
-use wait_queue_receive::ReceiveAnswer;
 use wait_queue_receive::Received;
 
 fn number(n: u64) {
@@ -14,20 +13,18 @@ fn number(n: u64) {
 fn show(received: Received) {
     let answer = received.answer;
     let queue = received.queue;
-    match answer {
-        ReceiveAnswer::Bytes(n) => {
+    let words = answer_words::words(answer);
+    let kind = words.kind;
+    match kind {
+        0 => {
             io::write_all(STDOUT_FILENO, b"bytes ");
-            number(n);
+            number(words.value);
         }
-        ReceiveAnswer::Invalid => {
+        1 => {
             io::write_all(STDOUT_FILENO, b"refused ");
-            number(answer.number());
+            number(words.value);
         }
-        ReceiveAnswer::Again => {
-            io::write_all(STDOUT_FILENO, b"refused ");
-            number(answer.number());
-        }
-        ReceiveAnswer::WouldWait => {
+        _ => {
             io::write_all(STDOUT_FILENO, b"would wait");
         }
     }

@@ -1,28 +1,14 @@
--- 01's number and values of a wake's answer: a reply handed over is the one that stands beside it. And what a wake does, decided
--- on the tag's slot.
+-- What a wake answers and does, decided on the tag's slot.
 use mathlib.Core.Bool.{Bool, true, false}
-use Rattle.fd_list.specs.declared.List.{List as Fds}
+use Rattle.answer.specs.declared.Answer.{Answer}
+use Rattle.answer.specs.declared.Answer.the-variants.{Blocked, Replied, Interrupted, BadDescriptor, NotYours, QueueFull}
 use Rattle.slot.specs.declared.Phase.{Phase}
 use Rattle.slot.specs.declared.Phase.the-variants.{Vacant, Placeholder, Waiting, Responded, Fmap}
-use Rattle.slot.specs.declared.Reply.{Reply}
-use Rattle.events.specs.Outcome.{Answer, no, blocked, reply}
-use Rattle.events.specs.Wake.{responseFrom}
 use Rattle.wake_decision.specs.declared.Decided.{Decided}
 use Rattle.wake_decision.specs.declared.Turn.{Turn}
 use Rattle.wake_decision.specs.declared.Turn.the-variants.{Stay, Interrupt, Cancel, HandOver}
-use Rattle.wake_decision.specs.declared.WakeAnswer.{WakeAnswer}
-use Rattle.wake_decision.specs.declared.WakeAnswer.the-variants.{Replied, Blocked, BadArgument, BadDescriptor, NotYours, Interrupted, QueueFull}
 
-abbrev pub wakeAnswer : WakeAnswer → Reply → Fds → Answer
-wakeAnswer Replied r l = reply (responseFrom r l)
-wakeAnswer Blocked r l = blocked
-wakeAnswer BadArgument r l = no 205
-wakeAnswer BadDescriptor r l = no 77
-wakeAnswer NotYours r l = no 201
-wakeAnswer Interrupted r l = no 4
-wakeAnswer QueueFull r l = no 203
-
-abbrev does : WakeAnswer → Turn → Decided
+abbrev does : Answer → Turn → Decided
 does a t = record { answer = a; turn = t }
 
 -- by the phase, whether the slot is wakeable, whether the caller was killed, whether the call is cancelling, whether the queue is

@@ -1,4 +1,5 @@
 // What a wake answers and does, decided on the tag's slot (`call_inner`, src/scheme/user.rs, lines 256 to 392).
+use answer::Answer;
 use fd_list::List;
 use ids::Description;
 use ids::SlotNo;
@@ -17,16 +18,6 @@ ghost use Rattle.slot.specs.Slots.{phaseOf};
 ghost use Rattle.events.specs.Wake.{responseFrom, heldIn, cancelEntry, wakeable};
 ghost use Rattle.wake_decision.specs.Wake.{decidedOf};
 
-pub enum WakeAnswer {
-    Replied,
-    Blocked,
-    BadArgument,
-    BadDescriptor,
-    NotYours,
-    Interrupted,
-    QueueFull,
-}
-
 // What a wake does: nothing, marks the call killed, queues a Cancel, hands the reply over.
 pub enum Turn {
     Stay,
@@ -36,7 +27,7 @@ pub enum Turn {
 }
 
 pub struct Decided {
-    pub answer: WakeAnswer,
+    pub answer: Answer,
     pub turn: Turn,
 }
 
@@ -79,56 +70,56 @@ pub fn decide(v: Slot, caller: u32, killed: u64, unread: u8) -> Decided
     let p = slot::phase_of(v);
     match p {
         Phase::Vacant => Decided {
-            answer: WakeAnswer::BadDescriptor,
+            answer: Answer::BadDescriptor,
             turn: Turn::Stay,
         },
         Phase::Placeholder => Decided {
-            answer: WakeAnswer::BadDescriptor,
+            answer: Answer::BadDescriptor,
             turn: Turn::Stay,
         },
         Phase::Fmap => Decided {
-            answer: WakeAnswer::BadDescriptor,
+            answer: Answer::BadDescriptor,
             turn: Turn::Stay,
         },
         Phase::Waiting => {
             if !is_wakeable(v, caller) {
                 return Decided {
-                    answer: WakeAnswer::NotYours,
+                    answer: Answer::NotYours,
                     turn: Turn::Stay,
                 };
             }
             if killed == 1 {
                 return Decided {
-                    answer: WakeAnswer::Interrupted,
+                    answer: Answer::Interrupted,
                     turn: Turn::Interrupt,
                 };
             }
             if v.canceling {
                 return Decided {
-                    answer: WakeAnswer::Blocked,
+                    answer: Answer::Blocked,
                     turn: Turn::Stay,
                 };
             }
             if 128 <= unread {
                 return Decided {
-                    answer: WakeAnswer::QueueFull,
+                    answer: Answer::QueueFull,
                     turn: Turn::Stay,
                 };
             }
             return Decided {
-                answer: WakeAnswer::Blocked,
+                answer: Answer::Blocked,
                 turn: Turn::Cancel,
             };
         }
         Phase::Responded => {
             if !is_wakeable(v, caller) {
                 return Decided {
-                    answer: WakeAnswer::NotYours,
+                    answer: Answer::NotYours,
                     turn: Turn::Stay,
                 };
             }
             return Decided {
-                answer: WakeAnswer::Replied,
+                answer: Answer::Replied,
                 turn: Turn::HandOver,
             };
         }
@@ -139,10 +130,11 @@ pub fn decide(v: Slot, caller: u32, killed: u64, unread: u8) -> Decided
 pub fn cancel_entry(n: SlotNo) -> Sqe
     ensures { λ r. ⌜ r ≡ cancelEntry (n .0) ⌝ }
 {
+    let op = opcode::cancel();
     let flags = flag::sqe_oneway();
     let a = Args(0, 0, 0, 0, 0, 0);
     Sqe {
-        opcode: 25,
+        opcode: op,
         sqe_flags: flags,
         tag: n.0 as u32,
         args: a,

@@ -1,5 +1,6 @@
 // `write` (src/scheme/user.rs, lines 743 to 755): completions, entry after entry up to the first refusal. An entry's decision
 // is carried out on the table in place, with no branch: what stays is stored as it was.
+use answer::Answer;
 use handles::Handles;
 use holds::Holds;
 use part::Part;
@@ -17,50 +18,43 @@ ghost use Rattle.handles.specs.Handles.{handlesWith};
 ghost use Rattle.schemev2.specs.Entry.{cqeOf};
 ghost use Rattle.part.specs.Part.{Stands, found, leaves};
 ghost use Rattle.events.specs.World.{world};
+ghost use Rattle.events.specs.Outcome.{said};
 ghost use Rattle.events.specs.Complete.{stopped, writeOf};
-ghost use Rattle.write.specs.Write.{writeAnswer, refusal, stateWithHandles};
-
-pub enum WriteAnswer {
-    Written(u64),
-    ShortWords,
-    BadDescriptor,
-    Invalid,
-    NotFound,
-}
+ghost use Rattle.write.specs.Write.{refusal, stateWithHandles};
 
 // So many of the lent words hold effects, three to each.
 pub struct WriteStep {
-    pub answer: WriteAnswer,
+    pub answer: Answer,
     pub words: usize,
     pub state: State,
 }
 
 // The same of a write of one entry, on the part at its tag.
 pub struct EntryStep {
-    pub answer: WriteAnswer,
+    pub answer: Answer,
     pub words: usize,
     pub part: Part,
 }
 
 // A refusal after a good entry returns the bytes so far, a first one its number.
-fn stop(done: usize, number: u64) -> WriteAnswer
+fn stop(done: usize, number: u64) -> Answer
     requires { ⌜ refusal number × (done < 0x800_0000_0000_0000) ⌝ }
-    ensures { λ r. ⌜ writeAnswer r ≡ stopped done number ⌝ }
+    ensures { λ r. ⌜ said r ≡ stopped done number ⌝ }
 {
     if 0 < done {
-        return WriteAnswer::Written(16 * done as u64);
+        return Answer::Bytes(16 * done as u64);
     }
     if number == 77 {
-        return WriteAnswer::BadDescriptor;
+        return Answer::BadDescriptor;
     }
     if number == 22 {
-        return WriteAnswer::Invalid;
+        return Answer::Invalid;
     }
-    WriteAnswer::NotFound
+    Answer::NotFound
 }
 
 pub fn write(s: State, fx: &mut [u64], bytes: &[u8]) -> WriteStep
-    ensures { λ r. ⌜ ((ws : List ℕ) → writeAnswer (r .answer) ≡ writeOf (world s ws) (length (now (fx .entry))) (now (bytes .entry)) .answer) ⌝ }
+    ensures { λ r. ⌜ ((ws : List ℕ) → said (r .answer) ≡ writeOf (world s ws) (length (now (fx .entry))) (now (bytes .entry)) .answer) ⌝ }
     ensures { λ r. ⌜ ((ws : List ℕ) → world (r .state) ws ≡ writeOf (world s ws) (length (now (fx .entry))) (now (bytes .entry)) .world) ⌝ }
     ensures { λ r. ⌜ ((ws : List ℕ) → now (fx .exit) ≡ sets (now (fx .entry)) 0 (writeOf (world s ws) (length (now (fx .entry))) (now (bytes .entry)) .effects)) ⌝ }
     ensures { λ r. ⌜ ((ws : List ℕ) → r .words ≡ length (writeOf (world s ws) (length (now (fx .entry))) (now (bytes .entry)) .effects)) ⌝ }
@@ -68,7 +62,7 @@ pub fn write(s: State, fx: &mut [u64], bytes: &[u8]) -> WriteStep
     let n = bytes.len() / 16;
     if fx.len() / 54 < n {
         return WriteStep {
-            answer: WriteAnswer::ShortWords,
+            answer: Answer::ShortWords,
             words: 0,
             state: s,
         };
@@ -130,7 +124,7 @@ pub fn write(s: State, fx: &mut [u64], bytes: &[u8]) -> WriteStep
     };
     t.holds = left;
     WriteStep {
-        answer: WriteAnswer::Written(16 * n as u64),
+        answer: Answer::Bytes(16 * n as u64),
         words: j,
         state: State {
             driver: Driver {
@@ -151,11 +145,11 @@ pub fn entry(
     fx: &mut [u64],
     e: Cqe,
 ) -> EntryStep
-    ensures { λ r. ⌜ ((s : AnyState) (o ws bs : List ℕ) → length bs / 16 ≡ 1 → e ≡ cqeOf bs → Stands s (e .tag % 64) p → (writeAnswer (r .answer) ≡ writeOf (world (found (stateWithHandles s (handlesWith (now (handles .entry)))) p (holdsWith (now (all .entry)) o)) ws) (length (now (fx .entry))) bs .answer) × ((world (leaves (stateWithHandles s (handlesWith (now (handles .exit)))) (e .tag % 64) (r .part) (holdsWith (now (all .exit)) o)) ws ≡ writeOf (world (found (stateWithHandles s (handlesWith (now (handles .entry)))) p (holdsWith (now (all .entry)) o)) ws) (length (now (fx .entry))) bs .world) × ((now (fx .exit) ≡ sets (now (fx .entry)) 0 (writeOf (world (found (stateWithHandles s (handlesWith (now (handles .entry)))) p (holdsWith (now (all .entry)) o)) ws) (length (now (fx .entry))) bs .effects)) × (r .words ≡ length (writeOf (world (found (stateWithHandles s (handlesWith (now (handles .entry)))) p (holdsWith (now (all .entry)) o)) ws) (length (now (fx .entry))) bs .effects))))) ⌝ }
+    ensures { λ r. ⌜ ((s : AnyState) (o ws bs : List ℕ) → length bs / 16 ≡ 1 → e ≡ cqeOf bs → Stands s (e .tag % 64) p → (said (r .answer) ≡ writeOf (world (found (stateWithHandles s (handlesWith (now (handles .entry)))) p (holdsWith (now (all .entry)) o)) ws) (length (now (fx .entry))) bs .answer) × ((world (leaves (stateWithHandles s (handlesWith (now (handles .exit)))) (e .tag % 64) (r .part) (holdsWith (now (all .exit)) o)) ws ≡ writeOf (world (found (stateWithHandles s (handlesWith (now (handles .entry)))) p (holdsWith (now (all .entry)) o)) ws) (length (now (fx .entry))) bs .world) × ((now (fx .exit) ≡ sets (now (fx .entry)) 0 (writeOf (world (found (stateWithHandles s (handlesWith (now (handles .entry)))) p (holdsWith (now (all .entry)) o)) ws) (length (now (fx .entry))) bs .effects)) × (r .words ≡ length (writeOf (world (found (stateWithHandles s (handlesWith (now (handles .entry)))) p (holdsWith (now (all .entry)) o)) ws) (length (now (fx .entry))) bs .effects))))) ⌝ }
 {
     if fx.len() < 54 {
         return EntryStep {
-            answer: WriteAnswer::ShortWords,
+            answer: Answer::ShortWords,
             words: 0,
             part: p,
         };
@@ -187,7 +181,7 @@ pub fn entry(
         };
     }
     EntryStep {
-        answer: WriteAnswer::Written(16),
+        answer: Answer::Bytes(16),
         words: r.words,
         part: after,
     }

@@ -35,7 +35,7 @@ enum-told : tie.Need-enum-told
 enum-told c = search needs
 
 returns-3 : tie.Need-returns-3
-returns-3 c = let a = c .before .before .before .before .before .before .before .before .before .before .before .before .args in λ s h long st. stays-with s (a .tag .0 % 64) (a .p) st h _ (c .before .before .before .before .before .before .before .before .before .empty .ensures) _ _ _ _ (stays (found s (a .p) h) (a .words .now) (a .tag) (a .caller) (a .killed) (a .base) (a .count) _ (c .before .before .before .before .before .before .before .before .before .before .before .none .ensures) _ (c .before .before .before .before .before .before .before .slot-of .ensures) (c .before .before .before .before .before .before .before .before .if1 .left) (c .before .before .before .before .before .if2 .left) (a .p .slot) (slot-is s (a .tag) _ (c .before .before .before .before .before .before .before .slot-of .ensures) (c .before .before .before .before .before .if2 .left) (a .p) st) _ (c .before .before .decide .ensures) _ _ (c .enum-told .given .1))
+returns-3 c = let a = c .before .before .before .before .before .before .before .before .before .before .before .before .args in λ s h long st. stays-with s (a .tag .0 % 64) (a .p) st h _ (c .before .before .before .before .before .before .before .before .before .empty .ensures) _ _ _ _ (stays (found s (a .p) h) (a .words .now) (a .tag) (a .caller) (a .killed) (a .base) (a .count) _ (c .before .before .before .before .before .before .before .before .before .before .before .none .ensures) _ (c .before .before .before .before .before .before .before .slot-of .ensures) (c .before .before .before .before .before .before .before .before .if1 .left) (c .before .before .before .before .before .if2 .left) (a .p .slot) (slot-is s (a .tag) _ (c .before .before .before .before .before .before .before .slot-of .ensures) (c .before .before .before .before .before .if2 .left) (a .p) st) _ (c .before .before .decide .ensures) _ (c .enum-told .given .1))
 
 enum-told-2 : tie.Need-enum-told-2
 enum-told-2 c = search needs

@@ -1,12 +1,10 @@
 -- `driver_step::wake` meets its contract. Assumes nothing.
+use Prim.Native.Nat.{_%_}
+use Rattle.holds.specs.Holds.{holdsWith}
+use Rattle.driver_step.proofs.Counts.{counted}
 use borrow.Author.Needs.{needs}
 use Rattle.driver_step.proofs.wake.Statement.{statement}
 use Rattle.driver_step.proofs.wake.Tie as tie
-use Prim.Native.Nat.{_%_}
-use mathlib.Core.Path.{refl}
-use Rattle.holds.specs.Holds.{holdsWith}
-use Rattle.answer_words.proofs.Laws.{told}
-use Rattle.driver_step.proofs.Counts.{counted}
 
 wake-requires : tie.Need-wake-requires
 wake-requires c κs = search needs
@@ -14,11 +12,8 @@ wake-requires c κs = search needs
 raise-all-requires : tie.Need-raise-all-requires
 raise-all-requires c κs = search needs
 
-wake-words-requires : tie.Need-wake-words-requires
-wake-words-requires c κs = search needs
-
 returns : tie.Need-returns
-returns c = let a = c .before .before .before .before .before .before .before .before .before .before .args in λ s all long st. counted s (a .tag .0 % 64) (c .before .before .before .before .before .before .before .before .wake .result .part) all _ _ (c .before .raise-all .ensures) _ _ _ _ (told (c .wake-words .ensures _ _) refl (c .before .before .before .before .before .before .before .before .wake .ensures s (holdsWith all (a .outside .now)) long st))
+returns c = let a = c .before .before .before .before .before .before .before .before .before .args in λ s all long st. counted s (a .tag .0 % 64) (c .before .before .before .before .before .before .before .wake .result .part) all _ _ (c .raise-all .ensures) _ _ _ _ (c .before .before .before .before .before .before .before .wake .ensures s (holdsWith all (a .outside .now)) long st)
 
 pub wake-spec : {M : Type 1} → statement M
-wake-spec = tie.close (tie.spec wake-requires raise-all-requires wake-words-requires returns)
+wake-spec = tie.close (tie.spec wake-requires raise-all-requires returns)

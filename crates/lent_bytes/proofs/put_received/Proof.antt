@@ -1,25 +1,25 @@
 -- `lent_bytes::put_received` meets its contract. Assumes nothing.
+use native.Mathlib.Omega.{arith}
+use Prim.Native.Nat.{_+_}
+use mathlib.Core.Path.{_≡_, refl}
+use mathlib.Core.List.{[], _∷_, _++_}
+use lib.ListN.{length}
+use Rattle.le.specs.Le.{bytes8, bytesOf}
+use Rattle.events.specs.Outcome.{said}
+use Rattle.outcome_bytes.specs.Output.{answerWords}
+use Rattle.outcome_bytes.proofs.Laws.{read-runs}
 use borrow.Author.Needs.{needs}
 use Rattle.lent_bytes.proofs.put_received.Statement.{statement}
 use Rattle.lent_bytes.proofs.put_received.Tie as tie
-use mathlib.Core.Path.{refl, ap, _∙_}
-use lib.Seq.{sets}
-use lib.ListN.{length}
-use mathlib.Core.List.{List, [], _∷_}
-use Prim.Native.Nat.{ℕ}
-use Rattle.le.specs.Le.{bytes8, bytesOf}
-use Rattle.answer_words.specs.Words.{answerOf}
-use Rattle.outcome_bytes.specs.Output.{answerWords}
-use Rattle.outcome_bytes.proofs.Laws.{read-runs}
 
-plain-requires : tie.Need-plain-requires
-plain-requires c κs = search needs
+put-answer-requires : tie.Need-put-answer-requires
+put-answer-requires c κs = search needs
 
 put-two-requires : tie.Need-put-two-requires
 put-two-requires c κs = search needs
 
-put-two-requires-2 : tie.Need-put-two-requires-2
-put-two-requires-2 c κs = search needs
+add-put-bytes : tie.Need-add-put-bytes
+add-put-bytes c = search needs
 
 put-bytes-requires : tie.Need-put-bytes-requires
 put-bytes-requires c κs = search needs
@@ -27,20 +27,31 @@ put-bytes-requires c κs = search needs
 add-result : tie.Need-add-result
 add-result c = search needs
 
+add-result-2 : tie.Need-add-result-2
+add-result-2 c = search needs
+
 same-length : tie.Need-same-length
 same-length c = search needs
 
 returns : tie.Need-returns
-returns c = let c2 = c .before .before in let c6 = c2 .before .before .before .before in let c10 = c6 .before .before .before .before in let c12 = c10 .before .before in let c15 = c12 .before .before .before in let t = (let bs = c15 .args .bytes .now in read-runs (c15 .args .out .now) _ _ _ (bytesOf (answerWords (answerOf (c15 .args .a)))) (bytes8 0) (bytesOf (length bs ∷ [])) bs 16 32 _ (c10 .put-two .ensures ∙ ap (λ (w : List ℕ). sets (c15 .args .out .now) 0 (bytesOf w)) (c12 .plain .ensures)) (ap (λ (w : List ℕ). length (bytesOf w)) (c12 .plain .ensures)) (c6 .put-two2 .ensures) refl (c2 .put-bytes .ensures) refl) in (t .0, (t .1, refl))
+returns c =
+    let a = c .before .before .before .before .before .before .before .before .before .before .before .before .before .before .args in
+    let bs = a .bytes .now in
+    let p = c .before .before .before .before .before .before .before .before .before .before .put-answer .ensures in
+    let k = c .before .before .before .before .before .before .before .before .before .before .put-answer .result in
+    let j : k + 16 ≡ k + length (bytes8 0 ++ bytesOf (length bs ∷ [])) = refl in
+    let t = read-runs (a .out .now) _ _ _ (bytesOf (answerWords (said (a .a)))) (bytes8 0) (bytesOf (length bs ∷ [])) bs k (k + 16) _ (p .0) (p .1 .0) (c .before .before .before .before .before .before .put-two .ensures) j (c .before .before .put-bytes .ensures) refl in
+    (t .0, (t .1, omega (arith, p .1 .1)))
 
 pub put-received-spec : {M : Type 1} → statement M
 put-received-spec =
     tie.close
     (tie.spec
-    plain-requires
+    put-answer-requires
     put-two-requires
-    put-two-requires-2
+    add-put-bytes
     put-bytes-requires
     add-result
+    add-result-2
     same-length
     returns)

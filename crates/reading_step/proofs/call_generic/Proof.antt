@@ -2,7 +2,8 @@
 use borrow.Author.Needs.{needs}
 use Rattle.reading_step.proofs.call_generic.Statement.{statement}
 use Rattle.reading_step.proofs.call_generic.Tie as tie
-use mathlib.Core.Path.{_∙_}
+use mathlib.Core.Path.{ap, _∙_}
+use Rattle.answer_words.specs.Words.{wordsOf}
 
 call-generic-requires : tie.Need-call-generic-requires
 call-generic-requires c κs = search needs
@@ -11,7 +12,7 @@ regular-words-requires : tie.Need-regular-words-requires
 regular-words-requires c κs = search needs
 
 returns : tie.Need-returns
-returns c = (c .regular-words .ensures ∙ c .before .call-generic .ensures .0, c .before .call-generic .ensures .1)
+returns c = (c .regular-words .ensures ∙ ap wordsOf (c .before .call-generic .ensures .0), c .before .call-generic .ensures .1)
 
 pub call-generic-spec : {M : Type 1} → statement M
 call-generic-spec = tie.close (tie.spec call-generic-requires regular-words-requires returns)

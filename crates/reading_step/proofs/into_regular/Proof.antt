@@ -2,7 +2,8 @@
 use borrow.Author.Needs.{needs}
 use Rattle.reading_step.proofs.into_regular.Statement.{statement}
 use Rattle.reading_step.proofs.into_regular.Tie as tie
-use mathlib.Core.Path.{_∙_}
+use mathlib.Core.Path.{ap, _∙_}
+use Rattle.answer_words.specs.Words.{wordsOf}
 
 into-regular-requires : tie.Need-into-regular-requires
 into-regular-requires c κs = search needs
@@ -11,7 +12,7 @@ regular-words-requires : tie.Need-regular-words-requires
 regular-words-requires c κs = search needs
 
 returns : tie.Need-returns
-returns c = c .regular-words .ensures ∙ c .before .into-regular .ensures
+returns c = c .regular-words .ensures ∙ ap wordsOf (c .before .into-regular .ensures)
 
 pub into-regular-spec : {M : Type 1} → statement M
 into-regular-spec = tie.close (tie.spec into-regular-requires regular-words-requires returns)

@@ -3,7 +3,9 @@ use borrow.Author.Needs.{needs}
 use Rattle.reading_step.proofs.opened_words.Statement.{statement}
 use Rattle.reading_step.proofs.opened_words.Tie as tie
 use mathlib.Core.Path.{sym, ap}
+use Rattle.response.specs.declared.OpenResult.{OpenResult}
 use Rattle.response.specs.Response.{openedAs}
+use Rattle.reading_step.specs.Opened.{openedWords}
 
 enum-known-a : tie.Need-enum-known-a
 enum-known-a c = search needs
@@ -21,19 +23,19 @@ enum-told-2 : tie.Need-enum-told-2
 enum-told-2 c = search needs
 
 returns : tie.Need-returns
-returns c = sym (ap openedAs (c .before .a .given .1))
+returns c = sym (ap (λ (x : OpenResult). openedWords (openedAs x)) (c .before .a .given .1))
 
 returns-2 : tie.Need-returns-2
-returns-2 c = sym (ap openedAs (c .before .a2 .given .1))
+returns-2 c = sym (ap (λ (x : OpenResult). openedWords (openedAs x)) (c .before .a2 .given .1))
 
 returns-3 : tie.Need-returns-3
-returns-3 c = sym (ap openedAs (c .before .a3 .given .1))
+returns-3 c = sym (ap (λ (x : OpenResult). openedWords (openedAs x)) (c .before .a3 .given .1))
 
 returns-4 : tie.Need-returns-4
-returns-4 c = sym (ap openedAs (c .enum-told .given .1))
+returns-4 c = sym (ap (λ (x : OpenResult). openedWords (openedAs x)) (c .enum-told .given .1))
 
 returns-5 : tie.Need-returns-5
-returns-5 c = sym (ap openedAs (c .enum-told2 .given .1))
+returns-5 c = sym (ap (λ (x : OpenResult). openedWords (openedAs x)) (c .enum-told2 .given .1))
 
 pub opened-words-spec : {M : Type 1} → statement M
 opened-words-spec =

@@ -2,7 +2,9 @@
 use borrow.Author.Needs.{needs}
 use Rattle.reading_step.proofs.regular_words.Statement.{statement}
 use Rattle.reading_step.proofs.regular_words.Tie as tie
-use Rattle.answer_words.proofs.Laws.{case}
+use mathlib.Core.Path.{sym, ap, _∙_}
+use Rattle.answer_words.specs.Words.{wordsOf}
+use Rattle.response.specs.declared.RegularAnswer.{RegularAnswer}
 use Rattle.response.specs.Response.{regularAnswer}
 
 enum-known-a : tie.Need-enum-known-a
@@ -24,13 +26,13 @@ refused-requires-2 : tie.Need-refused-requires-2
 refused-requires-2 c κs = search needs
 
 returns : tie.Need-returns
-returns c = case regularAnswer (c .done .ensures) (c .before .before .a .given .1)
+returns c = c .done .ensures ∙ sym (ap (λ (x : RegularAnswer). wordsOf (regularAnswer x)) (c .before .before .a .given .1))
 
 returns-2 : tie.Need-returns-2
-returns-2 c = case regularAnswer (c .refused .ensures) (c .before .before .a2 .given .1)
+returns-2 c = c .refused .ensures ∙ sym (ap (λ (x : RegularAnswer). wordsOf (regularAnswer x)) (c .before .before .a2 .given .1))
 
 returns-3 : tie.Need-returns-3
-returns-3 c = case regularAnswer (c .refused2 .ensures) (c .before .enum-told .given .1)
+returns-3 c = c .refused2 .ensures ∙ sym (ap (λ (x : RegularAnswer). wordsOf (regularAnswer x)) (c .before .enum-told .given .1))
 
 pub regular-words-spec : {M : Type 1} → statement M
 regular-words-spec =

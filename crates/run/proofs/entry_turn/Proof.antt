@@ -27,14 +27,11 @@ entry-requires c κs = search needs
 least-requires-2 : tie.Need-least-requires-2
 least-requires-2 c κs = search needs
 
-write-words-requires : tie.Need-write-words-requires
-write-words-requires c κs = search needs
-
 slice-reshare-prefix-put-completed : tie.Need-slice-reshare-prefix-put-completed
-slice-reshare-prefix-put-completed c = omega (arith, c .before .before .before .least2 .ensures)
+slice-reshare-prefix-put-completed c = omega (arith, c .before .before .least2 .ensures)
 
 slice-aggregate-put-completed : tie.Need-slice-aggregate-put-completed
-slice-aggregate-put-completed c = entry-part _ (c .before .before .before .before .least2 .result) (c .before .before .before .before .before .before .before .entry .result .words) (c .before .before .before .before .least2 .ensures)
+slice-aggregate-put-completed c = entry-part _ (c .before .before .before .least2 .result) (c .before .before .before .before .before .before .entry .result .words) (c .before .before .before .least2 .ensures)
 
 put-completed-requires : tie.Need-put-completed-requires
 put-completed-requires c κs = search needs
@@ -46,7 +43,7 @@ same-length-2 : tie.Need-same-length-2
 same-length-2 c = search needs
 
 returns : tie.Need-returns
-returns c = let a = c .before .before .before .before .before .before .before .before .before .before .before .before .before .before .before .before .before .before .args in λ s o ws bs one ee whole st. (turned (a .out .now) _ _ _ _ _ _ _ _ (write-whole (world (found (stateWithHandles s (handlesWith (a .handles .now))) (a .p) (holdsWith (a .all .now) o)) ws) whole (a .r .words .0) (c .before .before .before .before .before .before .before .before .before .before .before .before .before .before .least .result) _ (c .before .before .before .before .before .before .before .before .before .before .entry .result .words) (a .fx .now) _ bs bs (c .before .before .before .before .before .before .before .before .before .before .before .before .before .before .least .ensures) refl ((c .before .before .before .before .before .before .before .before .before .before .entry .ensures s o ws bs one ee st) .1 .1 .1) refl ((c .before .before .before .before .before .before .before .before .before .before .entry .ensures s o ws bs one ee st) .1 .1 .0)) (c .before .before .before .before .before .write-words .ensures ∙ (c .before .before .before .before .before .before .before .before .before .before .entry .ensures s o ws bs one ee st) .0) (entry-holds (world (found (stateWithHandles s (handlesWith (a .handles .now))) (a .p) (holdsWith (a .all .now) o)) ws) whole (a .r .words .0) (c .before .before .before .before .before .before .before .before .before .before .before .before .before .before .least .result) _ (c .before .before .before .before .before .before .before .before .before .before .entry .result .words) (a .fx .now) _ bs (c .before .before .before .before .before .before .before .before .before .before .before .before .before .before .least .ensures) refl ((c .before .before .before .before .before .before .before .before .before .before .entry .ensures s o ws bs one ee st) .1 .1 .1) ((c .before .before .before .before .before .before .before .before .before .before .entry .ensures s o ws bs one ee st) .1 .1 .0) (c .before .before .before .before .before .before .before .least2 .result) (c .before .before .before .before .before .before .before .least2 .ensures)) (write-none (world (found (stateWithHandles s (handlesWith (a .handles .now))) (a .p) (holdsWith (a .all .now) o)) ws) whole (a .r .words .0) (c .before .before .before .before .before .before .before .before .before .before .before .before .before .before .least .result) _ (c .before .before .before .before .before .before .before .before .before .before .entry .result .words) (a .fx .now) _ bs bs (c .before .before .before .before .before .before .before .before .before .before .before .before .before .before .least .ensures) refl ((c .before .before .before .before .before .before .before .before .before .before .entry .ensures s o ws bs one ee st) .1 .1 .1) refl ((c .before .before .before .before .before .before .before .before .before .before .entry .ensures s o ws bs one ee st) .1 .1 .0)) ((c .before .before .before .before .before .before .before .before .before .before .entry .ensures s o ws bs one ee st) .1 .0) (c .before .before .put-completed .ensures .0, c .before .before .put-completed .ensures .1 .0), (write-back (world (found (stateWithHandles s (handlesWith (a .handles .now))) (a .p) (holdsWith (a .all .now) o)) ws) whole (a .r .words .0) (c .before .before .before .before .before .before .before .before .before .before .before .before .before .before .least .result) _ (c .before .before .before .before .before .before .before .before .before .before .entry .result .words) (a .fx .now) _ bs bs (c .before .before .before .before .before .before .before .before .before .before .before .before .before .before .least .ensures) refl ((c .before .before .before .before .before .before .before .before .before .before .entry .ensures s o ws bs one ee st) .1 .1 .1) refl ((c .before .before .before .before .before .before .before .before .before .before .entry .ensures s o ws bs one ee st) .1 .1 .0), entry-most (world (found (stateWithHandles s (handlesWith (a .handles .now))) (a .p) (holdsWith (a .all .now) o)) ws) whole (a .r .words .0) (c .before .before .before .before .before .before .before .before .before .before .before .before .before .before .least .result) _ (c .before .before .before .before .before .before .before .before .before .before .entry .result .words) (a .fx .now) _ bs (c .before .before .before .before .before .before .before .before .before .before .before .before .before .before .least .ensures) refl ((c .before .before .before .before .before .before .before .before .before .before .entry .ensures s o ws bs one ee st) .1 .1 .1) ((c .before .before .before .before .before .before .before .before .before .before .entry .ensures s o ws bs one ee st) .1 .1 .0) (c .before .before .before .before .before .before .before .least2 .result) (c .before .before .before .before .before .before .before .least2 .ensures) _ (c .before .before .put-completed .ensures .1 .1)))
+returns c = let a = c .before .before .before .before .before .before .before .before .before .before .before .before .before .before .before .before .before .args in λ s o ws bs one ee whole st. (turned (a .out .now) _ _ _ _ _ _ _ _ (write-whole (world (found (stateWithHandles s (handlesWith (a .handles .now))) (a .p) (holdsWith (a .all .now) o)) ws) whole (a .r .words .0) (c .before .before .before .before .before .before .before .before .before .before .before .before .before .least .result) _ (c .before .before .before .before .before .before .before .before .before .entry .result .words) (a .fx .now) _ bs bs (c .before .before .before .before .before .before .before .before .before .before .before .before .before .least .ensures) refl ((c .before .before .before .before .before .before .before .before .before .entry .ensures s o ws bs one ee st) .1 .1 .1) refl ((c .before .before .before .before .before .before .before .before .before .entry .ensures s o ws bs one ee st) .1 .1 .0)) ((c .before .before .before .before .before .before .before .before .before .entry .ensures s o ws bs one ee st) .0) (entry-holds (world (found (stateWithHandles s (handlesWith (a .handles .now))) (a .p) (holdsWith (a .all .now) o)) ws) whole (a .r .words .0) (c .before .before .before .before .before .before .before .before .before .before .before .before .before .least .result) _ (c .before .before .before .before .before .before .before .before .before .entry .result .words) (a .fx .now) _ bs (c .before .before .before .before .before .before .before .before .before .before .before .before .before .least .ensures) refl ((c .before .before .before .before .before .before .before .before .before .entry .ensures s o ws bs one ee st) .1 .1 .1) ((c .before .before .before .before .before .before .before .before .before .entry .ensures s o ws bs one ee st) .1 .1 .0) (c .before .before .before .before .before .before .least2 .result) (c .before .before .before .before .before .before .least2 .ensures)) (write-none (world (found (stateWithHandles s (handlesWith (a .handles .now))) (a .p) (holdsWith (a .all .now) o)) ws) whole (a .r .words .0) (c .before .before .before .before .before .before .before .before .before .before .before .before .before .least .result) _ (c .before .before .before .before .before .before .before .before .before .entry .result .words) (a .fx .now) _ bs bs (c .before .before .before .before .before .before .before .before .before .before .before .before .before .least .ensures) refl ((c .before .before .before .before .before .before .before .before .before .entry .ensures s o ws bs one ee st) .1 .1 .1) refl ((c .before .before .before .before .before .before .before .before .before .entry .ensures s o ws bs one ee st) .1 .1 .0)) ((c .before .before .before .before .before .before .before .before .before .entry .ensures s o ws bs one ee st) .1 .0) (c .before .before .put-completed .ensures .0, c .before .before .put-completed .ensures .1 .0), (write-back (world (found (stateWithHandles s (handlesWith (a .handles .now))) (a .p) (holdsWith (a .all .now) o)) ws) whole (a .r .words .0) (c .before .before .before .before .before .before .before .before .before .before .before .before .before .least .result) _ (c .before .before .before .before .before .before .before .before .before .entry .result .words) (a .fx .now) _ bs bs (c .before .before .before .before .before .before .before .before .before .before .before .before .before .least .ensures) refl ((c .before .before .before .before .before .before .before .before .before .entry .ensures s o ws bs one ee st) .1 .1 .1) refl ((c .before .before .before .before .before .before .before .before .before .entry .ensures s o ws bs one ee st) .1 .1 .0), entry-most (world (found (stateWithHandles s (handlesWith (a .handles .now))) (a .p) (holdsWith (a .all .now) o)) ws) whole (a .r .words .0) (c .before .before .before .before .before .before .before .before .before .before .before .before .before .least .result) _ (c .before .before .before .before .before .before .before .before .before .entry .result .words) (a .fx .now) _ bs (c .before .before .before .before .before .before .before .before .before .before .before .before .before .least .ensures) refl ((c .before .before .before .before .before .before .before .before .before .entry .ensures s o ws bs one ee st) .1 .1 .1) ((c .before .before .before .before .before .before .before .before .before .entry .ensures s o ws bs one ee st) .1 .1 .0) (c .before .before .before .before .before .before .least2 .result) (c .before .before .before .before .before .before .least2 .ensures) _ (c .before .before .put-completed .ensures .1 .1)))
 
 pub entry-turn-spec : {M : Type 1} → statement M
 entry-turn-spec =
@@ -57,7 +54,6 @@ entry-turn-spec =
     slice-aggregate-entry
     entry-requires
     least-requires-2
-    write-words-requires
     slice-reshare-prefix-put-completed
     slice-aggregate-put-completed
     put-completed-requires

@@ -33,7 +33,7 @@ same-length-3 : tie.Need-same-length-3
 same-length-3 c = search needs
 
 returns-2 : tie.Need-returns-2
-returns-2 c = let a = c .before .before .before .before .before .before .before .before .before .before .before .before .before .args in (λ s n h xs ys bs lent whole st. told-queue s n (a .p) (c .before .before .before .before .before .before .before .before .notice .result .part) h (a .words .now) _ (eventNamed (a .r .kind) (a .r) xs ys bs lent) (a .out .now) _ _ (keeps (world (found s (a .p) h) (a .words .now)) (a .r) xs ys bs lent (a .r .kind) (c .before .before .before .before .before .before .before .before .before .before .before .before .before .pre .0)) (turned (a .out .now) _ _ _ _ _ _ _ _ (c .before .before .before .before .before .before .before .before .notice .ensures s n h xs ys bs lent st) refl refl refl refl (c .before .before .put-step .ensures .0, c .before .before .put-step .ensures .1 .0)), room-other (a .r) _ (c .before .before .put-step .ensures .1 .1))
+returns-2 c = let a = c .before .before .before .before .before .before .before .before .before .before .before .before .args in (λ s n h xs ys bs lent whole st. told-queue s n (a .p) (c .before .before .before .before .before .before .before .notice .result .part) h (a .words .now) _ (eventNamed (a .r .kind) (a .r) xs ys bs lent) (a .out .now) _ _ (keeps (world (found s (a .p) h) (a .words .now)) (a .r) xs ys bs lent (a .r .kind) (c .before .before .before .before .before .before .before .before .before .before .before .before .pre .0)) (turned (a .out .now) _ _ _ _ _ _ _ _ (c .before .before .before .before .before .before .before .notice .ensures s n h xs ys bs lent st) refl refl refl refl (c .before .before .put-step .ensures .0, c .before .before .put-step .ensures .1 .0)), room-other (a .r) _ (c .before .before .put-step .ensures .1 .1))
 
 pub queue-turn-spec : {M : Type 1} → statement M
 queue-turn-spec =

@@ -28,7 +28,7 @@ fresh-requires : tie.Need-fresh-requires Inv-loop μ-loop
 fresh-requires c κs = search needs
 
 loop-holds : tie.Need-loop-holds Inv-loop μ-loop
-loop-holds c = let a = c .before .before .before .before .before .before .args in (begins (a .scheme) (a .events .now) (a .out .now) (a .fx .now) (a .end) _ (c .before .before .before .before .before .before .pre .0) (c .before .before .before .before .before .before .pre .1) (fresh-is (a .scheme) _ (c .before .before .fresh .ensures)), length-replicate {A = ℕ} 8192 0, length-replicate {A = ℕ} 255 0, length-replicate {A = ℕ} 255 0)
+loop-holds c = let a = c .before .before .before .before .before .before .args in (begins (a .scheme) (a .events .now) (a .out .now) (a .fx .now) (a .end) _ (c .before .before .before .before .before .before .pre .0) (c .before .before .before .before .before .before .pre .1 .0) (fresh-is (a .scheme) _ (c .before .before .fresh .ensures)), length-replicate {A = ℕ} 8192 0, length-replicate {A = ℕ} 255 0, length-replicate {A = ℕ} 255 0)
 
 sub-record-at : tie.Need-sub-record-at Inv-loop μ-loop
 sub-record-at c = omega (arith, c .before .loop .inv .0 .place)
@@ -258,20 +258,17 @@ part-put-state-end c = omega arith
 put-state-requires : tie.Need-put-state-requires Inv-loop μ-loop
 put-state-requires c κs = search needs
 
-number-at-requires : tie.Need-number-at-requires Inv-loop μ-loop
-number-at-requires c κs = search needs
-
-add-t160 : tie.Need-add-t160 Inv-loop μ-loop
-add-t160 c = let a = c .before .before .before .before .before .before .before .before .before .before .before .before .before .args in let l = c .before .before .before .before .before .before .loop in omega (arith, end-room (a .scheme) (a .events .now) (a .out .now) (a .fx .now) (a .end) (l .out) (l .fx) (l .words) (stateOf (l .own) (l .slots) (l .next) (l .head) (l .all) (l .outside) (handlesWith (l .handles)) (l .queue)) (l .at) (l .j) (l .inv .0) (c .before .before .before .before .before .loop-test .left), c .before .before .before .before .before .before .before .before .before .before .before .before .before .good .1 .1 .1 .0 .0)
+add-t155 : tie.Need-add-t155 Inv-loop μ-loop
+add-t155 c = let a = c .before .before .before .before .before .before .before .before .before .before .before .before .args in let l = c .before .before .before .before .before .loop in omega (arith, end-room (a .scheme) (a .events .now) (a .out .now) (a .fx .now) (a .end) (l .out) (l .fx) (l .words) (stateOf (l .own) (l .slots) (l .next) (l .head) (l .all) (l .outside) (handlesWith (l .handles)) (l .queue)) (l .at) (l .j) (l .inv .0) (c .before .before .before .before .loop-test .left), c .before .before .before .before .before .before .before .before .before .before .before .before .good .1 .1 .1 .0 .0)
 
 same-length : tie.Need-same-length Inv-loop μ-loop
-same-length c = let a = c .before .before .before .before .before .before .before .before .before .before .before .before .before .args in let l = c .before .before .before .before .before .before .loop in ap length (behind (l .out) (stateBytes (world (stateOf (l .own) (l .slots) (l .next) (l .head) (l .all) (l .outside) (handlesWith (l .handles)) (l .queue)) (l .words))) _ (l .j) (in-out (a .scheme) (a .events .now) (a .out .now) (a .fx .now) (a .end) (l .out) (l .fx) (l .words) (stateOf (l .own) (l .slots) (l .next) (l .head) (l .all) (l .outside) (handlesWith (l .handles)) (l .queue)) (l .at) (l .j) (l .inv .0)) (c .before .before .before .put-state .ensures .0 (l .words))) ∙ length-sets (l .out) (l .j) (stateBytes (world (stateOf (l .own) (l .slots) (l .next) (l .head) (l .all) (l .outside) (handlesWith (l .handles)) (l .queue)) (l .words))) ∙ out-length (a .scheme) (a .events .now) (a .out .now) (a .fx .now) (a .end) (l .out) (l .fx) (l .words) (stateOf (l .own) (l .slots) (l .next) (l .head) (l .all) (l .outside) (handlesWith (l .handles)) (l .queue)) (l .at) (l .j) (l .inv .0)
+same-length c = let a = c .before .before .before .before .before .before .before .before .before .before .before .before .args in let l = c .before .before .before .before .before .loop in ap length (behind (l .out) (stateBytes (world (stateOf (l .own) (l .slots) (l .next) (l .head) (l .all) (l .outside) (handlesWith (l .handles)) (l .queue)) (l .words))) _ (l .j) (in-out (a .scheme) (a .events .now) (a .out .now) (a .fx .now) (a .end) (l .out) (l .fx) (l .words) (stateOf (l .own) (l .slots) (l .next) (l .head) (l .all) (l .outside) (handlesWith (l .handles)) (l .queue)) (l .at) (l .j) (l .inv .0)) (c .before .before .put-state .ensures .0 (l .words))) ∙ length-sets (l .out) (l .j) (stateBytes (world (stateOf (l .own) (l .slots) (l .next) (l .head) (l .all) (l .outside) (handlesWith (l .handles)) (l .queue)) (l .words))) ∙ out-length (a .scheme) (a .events .now) (a .out .now) (a .fx .now) (a .end) (l .out) (l .fx) (l .words) (stateOf (l .own) (l .slots) (l .next) (l .head) (l .all) (l .outside) (handlesWith (l .handles)) (l .queue)) (l .at) (l .j) (l .inv .0)
 
 same-length-2 : tie.Need-same-length-2 Inv-loop μ-loop
-same-length-2 c = let a = c .before .before .before .before .before .before .before .before .before .before .before .before .before .args in let l = c .before .before .before .before .before .before .loop in fx-length (a .scheme) (a .events .now) (a .out .now) (a .fx .now) (a .end) (l .out) (l .fx) (l .words) (stateOf (l .own) (l .slots) (l .next) (l .head) (l .all) (l .outside) (handlesWith (l .handles)) (l .queue)) (l .at) (l .j) (l .inv .0)
+same-length-2 c = let a = c .before .before .before .before .before .before .before .before .before .before .before .before .args in let l = c .before .before .before .before .before .loop in fx-length (a .scheme) (a .events .now) (a .out .now) (a .fx .now) (a .end) (l .out) (l .fx) (l .words) (stateOf (l .own) (l .slots) (l .next) (l .head) (l .all) (l .outside) (handlesWith (l .handles)) (l .queue)) (l .at) (l .j) (l .inv .0)
 
 returns : tie.Need-returns Inv-loop μ-loop
-returns c = let a = c .before .before .before .before .before .before .before .before .before .before .before .before .before .args in let l = c .before .before .before .before .before .before .loop in (end-is (a .scheme) (a .events .now) (a .out .now) (a .fx .now) (a .end) (l .out) (l .fx) (l .words) (stateOf (l .own) (l .slots) (l .next) (l .head) (l .all) (l .outside) (handlesWith (l .handles)) (l .queue)) (l .at) (l .j) (l .inv .0) (c .before .before .before .before .before .loop-test .left) _ (c .before .before .before .put-state .ensures .1 (l .words)) (behind (l .out) (stateBytes (world (stateOf (l .own) (l .slots) (l .next) (l .head) (l .all) (l .outside) (handlesWith (l .handles)) (l .queue)) (l .words))) _ (l .j) (in-out (a .scheme) (a .events .now) (a .out .now) (a .fx .now) (a .end) (l .out) (l .fx) (l .words) (stateOf (l .own) (l .slots) (l .next) (l .head) (l .all) (l .outside) (handlesWith (l .handles)) (l .queue)) (l .at) (l .j) (l .inv .0)) (c .before .before .before .put-state .ensures .0 (l .words))) _ (c .number-at .ensures), (out-is (a .scheme) (a .events .now) (a .out .now) (a .fx .now) (a .end) (l .out) (l .fx) (l .words) (stateOf (l .own) (l .slots) (l .next) (l .head) (l .all) (l .outside) (handlesWith (l .handles)) (l .queue)) (l .at) (l .j) (l .inv .0) (c .before .before .before .before .before .loop-test .left) _ (c .before .before .before .put-state .ensures .1 (l .words)) (behind (l .out) (stateBytes (world (stateOf (l .own) (l .slots) (l .next) (l .head) (l .all) (l .outside) (handlesWith (l .handles)) (l .queue)) (l .words))) _ (l .j) (in-out (a .scheme) (a .events .now) (a .out .now) (a .fx .now) (a .end) (l .out) (l .fx) (l .words) (stateOf (l .own) (l .slots) (l .next) (l .head) (l .all) (l .outside) (handlesWith (l .handles)) (l .queue)) (l .at) (l .j) (l .inv .0)) (c .before .before .before .put-state .ensures .0 (l .words))), (fx-is (a .scheme) (a .events .now) (a .out .now) (a .fx .now) (a .end) (l .out) (l .fx) (l .words) (stateOf (l .own) (l .slots) (l .next) (l .head) (l .all) (l .outside) (handlesWith (l .handles)) (l .queue)) (l .at) (l .j) (l .inv .0) (c .before .before .before .before .before .loop-test .left), omega (arith, end-room (a .scheme) (a .events .now) (a .out .now) (a .fx .now) (a .end) (l .out) (l .fx) (l .words) (stateOf (l .own) (l .slots) (l .next) (l .head) (l .all) (l .outside) (handlesWith (l .handles)) (l .queue)) (l .at) (l .j) (l .inv .0) (c .before .before .before .before .before .loop-test .left)))))
+returns c = let a = c .before .before .before .before .before .before .before .before .before .before .before .before .args in let l = c .before .before .before .before .before .loop in (end-is (a .scheme) (a .events .now) (a .out .now) (a .fx .now) (a .end) (l .out) (l .fx) (l .words) (stateOf (l .own) (l .slots) (l .next) (l .head) (l .all) (l .outside) (handlesWith (l .handles)) (l .queue)) (l .at) (l .j) (l .inv .0) (c .before .before .before .before .loop-test .left) _ (c .before .before .put-state .ensures .1 (l .words)) (behind (l .out) (stateBytes (world (stateOf (l .own) (l .slots) (l .next) (l .head) (l .all) (l .outside) (handlesWith (l .handles)) (l .queue)) (l .words))) _ (l .j) (in-out (a .scheme) (a .events .now) (a .out .now) (a .fx .now) (a .end) (l .out) (l .fx) (l .words) (stateOf (l .own) (l .slots) (l .next) (l .head) (l .all) (l .outside) (handlesWith (l .handles)) (l .queue)) (l .at) (l .j) (l .inv .0)) (c .before .before .put-state .ensures .0 (l .words))) (c .before .before .before .before .before .before .before .before .before .before .before .before .pre .1 .1), (out-is (a .scheme) (a .events .now) (a .out .now) (a .fx .now) (a .end) (l .out) (l .fx) (l .words) (stateOf (l .own) (l .slots) (l .next) (l .head) (l .all) (l .outside) (handlesWith (l .handles)) (l .queue)) (l .at) (l .j) (l .inv .0) (c .before .before .before .before .loop-test .left) _ (c .before .before .put-state .ensures .1 (l .words)) (behind (l .out) (stateBytes (world (stateOf (l .own) (l .slots) (l .next) (l .head) (l .all) (l .outside) (handlesWith (l .handles)) (l .queue)) (l .words))) _ (l .j) (in-out (a .scheme) (a .events .now) (a .out .now) (a .fx .now) (a .end) (l .out) (l .fx) (l .words) (stateOf (l .own) (l .slots) (l .next) (l .head) (l .all) (l .outside) (handlesWith (l .handles)) (l .queue)) (l .at) (l .j) (l .inv .0)) (c .before .before .put-state .ensures .0 (l .words))), (fx-is (a .scheme) (a .events .now) (a .out .now) (a .fx .now) (a .end) (l .out) (l .fx) (l .words) (stateOf (l .own) (l .slots) (l .next) (l .head) (l .all) (l .outside) (handlesWith (l .handles)) (l .queue)) (l .at) (l .j) (l .inv .0) (c .before .before .before .before .loop-test .left), omega (arith, end-room (a .scheme) (a .events .now) (a .out .now) (a .fx .now) (a .end) (l .out) (l .fx) (l .words) (stateOf (l .own) (l .slots) (l .next) (l .head) (l .all) (l .outside) (handlesWith (l .handles)) (l .queue)) (l .at) (l .j) (l .inv .0) (c .before .before .before .before .loop-test .left)))))
 
 pub run-all-spec : {M : Type 1} → statement M
 run-all-spec =
@@ -357,8 +354,7 @@ run-all-spec =
     part-put-state-start
     part-put-state-end
     put-state-requires
-    number-at-requires
-    add-t160
+    add-t155
     same-length
     same-length-2
     returns)

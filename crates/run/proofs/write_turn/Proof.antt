@@ -22,7 +22,7 @@ slice-relend-prefix-write : tie.Need-slice-relend-prefix-write
 slice-relend-prefix-write c = search needs
 
 slice-aggregate-write : tie.Need-slice-aggregate-write
-slice-aggregate-write c = let c3 = c .before .before .before in let c8 = c3 .before .before .before .before .before in front-length (c8 .args .fx .now) (c3 .least .result) (omega (arith, c3 .least .ensures))
+slice-aggregate-write c = front-length (c .before .before .before .before .before .before .before .before .args .fx .now) (c .before .before .before .least .result) (omega (arith, c .before .before .before .least .ensures))
 
 add-write : tie.Need-add-write
 add-write c = search needs
@@ -40,10 +40,10 @@ write-requires : tie.Need-write-requires
 write-requires c κs = search needs
 
 slice-reshare-prefix-put-completed : tie.Need-slice-reshare-prefix-put-completed
-slice-reshare-prefix-put-completed c = let c5 = c .before .before .before .before .before in let c8 = c5 .before .before .before in let c9 = c8 .before in let c10 = c9 .before in let c15 = c10 .before .before .before .before .before in write-fits (world (c15 .args .s) (c15 .args .words .now)) (c15 .pre .0) (c15 .args .r .words .0) (c10 .least .result) _ (c5 .write .result .words) (c15 .args .fx .now) _ _ _ (c10 .least .ensures) refl (c5 .write .ensures .1 .1 .1 (c15 .args .words .now)) (tail-is (c15 .args .rec .now) _ _ _ _ (c9 .tail-at .ensures .0) (c8 .tail .ensures .0)) (c5 .write .ensures .1 .1 .0 (c15 .args .words .now))
+slice-reshare-prefix-put-completed c = write-fits (world (c .before .before .before .before .before .before .before .before .before .before .before .before .before .before .args .s) (c .before .before .before .before .before .before .before .before .before .before .before .before .before .before .args .words .now)) (c .before .before .before .before .before .before .before .before .before .before .before .before .before .before .pre .0) (c .before .before .before .before .before .before .before .before .before .before .before .before .before .before .args .r .words .0) (c .before .before .before .before .before .before .before .before .before .least .result) _ (c .before .before .before .before .write .result .words) (c .before .before .before .before .before .before .before .before .before .before .before .before .before .before .args .fx .now) _ _ _ (c .before .before .before .before .before .before .before .before .before .least .ensures) refl (c .before .before .before .before .write .ensures .1 .1 .1 (c .before .before .before .before .before .before .before .before .before .before .before .before .before .before .args .words .now)) (tail-is (c .before .before .before .before .before .before .before .before .before .before .before .before .before .before .args .rec .now) _ _ _ _ (c .before .before .before .before .before .before .before .before .tail-at .ensures .0) (c .before .before .before .before .before .before .before .tail .ensures .0)) (c .before .before .before .before .write .ensures .1 .1 .0 (c .before .before .before .before .before .before .before .before .before .before .before .before .before .before .args .words .now))
 
 slice-aggregate-put-completed : tie.Need-slice-aggregate-put-completed
-slice-aggregate-put-completed c = let c6 = c .before .before .before .before .before .before in let c9 = c6 .before .before .before in let c10 = c9 .before in let c11 = c10 .before in let c16 = c11 .before .before .before .before .before in write-part (world (c16 .args .s) (c16 .args .words .now)) (c16 .pre .0) (c16 .args .r .words .0) (c11 .least .result) _ (c6 .write .result .words) (c16 .args .fx .now) _ _ _ (c11 .least .ensures) refl (c6 .write .ensures .1 .1 .1 (c16 .args .words .now)) (tail-is (c16 .args .rec .now) _ _ _ _ (c10 .tail-at .ensures .0) (c9 .tail .ensures .0)) (c6 .write .ensures .1 .1 .0 (c16 .args .words .now))
+slice-aggregate-put-completed c = write-part (world (c .before .before .before .before .before .before .before .before .before .before .before .before .before .before .before .args .s) (c .before .before .before .before .before .before .before .before .before .before .before .before .before .before .before .args .words .now)) (c .before .before .before .before .before .before .before .before .before .before .before .before .before .before .before .pre .0) (c .before .before .before .before .before .before .before .before .before .before .before .before .before .before .before .args .r .words .0) (c .before .before .before .before .before .before .before .before .before .before .least .result) _ (c .before .before .before .before .before .write .result .words) (c .before .before .before .before .before .before .before .before .before .before .before .before .before .before .before .args .fx .now) _ _ _ (c .before .before .before .before .before .before .before .before .before .before .least .ensures) refl (c .before .before .before .before .before .write .ensures .1 .1 .1 (c .before .before .before .before .before .before .before .before .before .before .before .before .before .before .before .args .words .now)) (tail-is (c .before .before .before .before .before .before .before .before .before .before .before .before .before .before .before .args .rec .now) _ _ _ _ (c .before .before .before .before .before .before .before .before .before .tail-at .ensures .0) (c .before .before .before .before .before .before .before .before .tail .ensures .0)) (c .before .before .before .before .before .write .ensures .1 .1 .0 (c .before .before .before .before .before .before .before .before .before .before .before .before .before .before .before .args .words .now))
 
 put-completed-requires : tie.Need-put-completed-requires
 put-completed-requires c κs = search needs
@@ -55,7 +55,7 @@ same-length-2 : tie.Need-same-length-2
 same-length-2 c = search needs
 
 returns : tie.Need-returns
-returns c = let c2 = c .before .before in let c9 = c2 .before .before .before .before .before .before .before in let c12 = c9 .before .before .before in let c13 = c12 .before in let c14 = c13 .before in let c19 = c14 .before .before .before .before .before in let w = world (c19 .args .s) (c19 .args .words .now) in let t = turned (c19 .args .out .now) _ _ _ _ _ _ _ _ (write-whole (world (c19 .args .s) (c19 .args .words .now)) (c19 .pre .0) (c19 .args .r .words .0) (c14 .least .result) _ (c9 .write .result .words) (c19 .args .fx .now) _ _ _ (c14 .least .ensures) refl (c9 .write .ensures .1 .1 .1 (c19 .args .words .now)) (tail-is (c19 .args .rec .now) _ _ _ _ (c13 .tail-at .ensures .0) (c12 .tail .ensures .0)) (c9 .write .ensures .1 .1 .0 (c19 .args .words .now))) (c9 .write .ensures .0 (c19 .args .words .now)) (write-holds (world (c19 .args .s) (c19 .args .words .now)) (c19 .pre .0) (c19 .args .r .words .0) (c14 .least .result) _ (c9 .write .result .words) (c19 .args .fx .now) _ _ _ (c14 .least .ensures) refl (c9 .write .ensures .1 .1 .1 (c19 .args .words .now)) (tail-is (c19 .args .rec .now) _ _ _ _ (c13 .tail-at .ensures .0) (c12 .tail .ensures .0)) (c9 .write .ensures .1 .1 .0 (c19 .args .words .now))) (write-none (world (c19 .args .s) (c19 .args .words .now)) (c19 .pre .0) (c19 .args .r .words .0) (c14 .least .result) _ (c9 .write .result .words) (c19 .args .fx .now) _ _ _ (c14 .least .ensures) refl (c9 .write .ensures .1 .1 .1 (c19 .args .words .now)) (tail-is (c19 .args .rec .now) _ _ _ _ (c13 .tail-at .ensures .0) (c12 .tail .ensures .0)) (c9 .write .ensures .1 .1 .0 (c19 .args .words .now))) (c9 .write .ensures .1 .0 (c19 .args .words .now)) (c2 .put-completed .ensures .0, c2 .put-completed .ensures .1 .0) in (t .0, (t .1 .0, (t .1 .1, (write-back (world (c19 .args .s) (c19 .args .words .now)) (c19 .pre .0) (c19 .args .r .words .0) (c14 .least .result) _ (c9 .write .result .words) (c19 .args .fx .now) _ _ _ (c14 .least .ensures) refl (c9 .write .ensures .1 .1 .1 (c19 .args .words .now)) (tail-is (c19 .args .rec .now) _ _ _ _ (c13 .tail-at .ensures .0) (c12 .tail .ensures .0)) (c9 .write .ensures .1 .1 .0 (c19 .args .words .now)), subst (λ (n : ℕ). n ≤ 192 + 27 * tailOf (c19 .args .r)) (sym (c2 .put-completed .ensures .1 .1 ∙ ap (λ (n : ℕ). 32 + 8 * n) (sym (write-part (world (c19 .args .s) (c19 .args .words .now)) (c19 .pre .0) (c19 .args .r .words .0) (c14 .least .result) _ (c9 .write .result .words) (c19 .args .fx .now) _ _ _ (c14 .least .ensures) refl (c9 .write .ensures .1 .1 .1 (c19 .args .words .now)) (tail-is (c19 .args .rec .now) _ _ _ _ (c13 .tail-at .ensures .0) (c12 .tail .ensures .0)) (c9 .write .ensures .1 .1 .0 (c19 .args .words .now)))))) (write-most (world (c19 .args .s) (c19 .args .words .now)) (c19 .pre .0) (c19 .args .r .words .0) (c14 .least .result) _ (c9 .write .result .words) (c19 .args .fx .now) _ _ _ (c14 .least .ensures) refl (c9 .write .ensures .1 .1 .1 (c19 .args .words .now)) (tail-is (c19 .args .rec .now) _ _ _ _ (c13 .tail-at .ensures .0) (c12 .tail .ensures .0)) (c9 .write .ensures .1 .1 .0 (c19 .args .words .now)) (tailOf (c19 .args .r)) (tail-counts (c19 .args .rec .now) (tailAt (c19 .args .r)) (tailOf (c19 .args .r)) (c19 .pre .1)))))))
+returns c = let w = world (c .before .before .before .before .before .before .before .before .before .before .before .before .before .before .before .before .before .before .args .s) (c .before .before .before .before .before .before .before .before .before .before .before .before .before .before .before .before .before .before .args .words .now) in let t = turned (c .before .before .before .before .before .before .before .before .before .before .before .before .before .before .before .before .before .before .args .out .now) _ _ _ _ _ _ _ _ (write-whole (world (c .before .before .before .before .before .before .before .before .before .before .before .before .before .before .before .before .before .before .args .s) (c .before .before .before .before .before .before .before .before .before .before .before .before .before .before .before .before .before .before .args .words .now)) (c .before .before .before .before .before .before .before .before .before .before .before .before .before .before .before .before .before .before .pre .0) (c .before .before .before .before .before .before .before .before .before .before .before .before .before .before .before .before .before .before .args .r .words .0) (c .before .before .before .before .before .before .before .before .before .before .before .before .before .least .result) _ (c .before .before .before .before .before .before .before .before .write .result .words) (c .before .before .before .before .before .before .before .before .before .before .before .before .before .before .before .before .before .before .args .fx .now) _ _ _ (c .before .before .before .before .before .before .before .before .before .before .before .before .before .least .ensures) refl (c .before .before .before .before .before .before .before .before .write .ensures .1 .1 .1 (c .before .before .before .before .before .before .before .before .before .before .before .before .before .before .before .before .before .before .args .words .now)) (tail-is (c .before .before .before .before .before .before .before .before .before .before .before .before .before .before .before .before .before .before .args .rec .now) _ _ _ _ (c .before .before .before .before .before .before .before .before .before .before .before .before .tail-at .ensures .0) (c .before .before .before .before .before .before .before .before .before .before .before .tail .ensures .0)) (c .before .before .before .before .before .before .before .before .write .ensures .1 .1 .0 (c .before .before .before .before .before .before .before .before .before .before .before .before .before .before .before .before .before .before .args .words .now))) (c .before .before .before .before .before .before .before .before .write .ensures .0 (c .before .before .before .before .before .before .before .before .before .before .before .before .before .before .before .before .before .before .args .words .now)) (write-holds (world (c .before .before .before .before .before .before .before .before .before .before .before .before .before .before .before .before .before .before .args .s) (c .before .before .before .before .before .before .before .before .before .before .before .before .before .before .before .before .before .before .args .words .now)) (c .before .before .before .before .before .before .before .before .before .before .before .before .before .before .before .before .before .before .pre .0) (c .before .before .before .before .before .before .before .before .before .before .before .before .before .before .before .before .before .before .args .r .words .0) (c .before .before .before .before .before .before .before .before .before .before .before .before .before .least .result) _ (c .before .before .before .before .before .before .before .before .write .result .words) (c .before .before .before .before .before .before .before .before .before .before .before .before .before .before .before .before .before .before .args .fx .now) _ _ _ (c .before .before .before .before .before .before .before .before .before .before .before .before .before .least .ensures) refl (c .before .before .before .before .before .before .before .before .write .ensures .1 .1 .1 (c .before .before .before .before .before .before .before .before .before .before .before .before .before .before .before .before .before .before .args .words .now)) (tail-is (c .before .before .before .before .before .before .before .before .before .before .before .before .before .before .before .before .before .before .args .rec .now) _ _ _ _ (c .before .before .before .before .before .before .before .before .before .before .before .before .tail-at .ensures .0) (c .before .before .before .before .before .before .before .before .before .before .before .tail .ensures .0)) (c .before .before .before .before .before .before .before .before .write .ensures .1 .1 .0 (c .before .before .before .before .before .before .before .before .before .before .before .before .before .before .before .before .before .before .args .words .now))) (write-none (world (c .before .before .before .before .before .before .before .before .before .before .before .before .before .before .before .before .before .before .args .s) (c .before .before .before .before .before .before .before .before .before .before .before .before .before .before .before .before .before .before .args .words .now)) (c .before .before .before .before .before .before .before .before .before .before .before .before .before .before .before .before .before .before .pre .0) (c .before .before .before .before .before .before .before .before .before .before .before .before .before .before .before .before .before .before .args .r .words .0) (c .before .before .before .before .before .before .before .before .before .before .before .before .before .least .result) _ (c .before .before .before .before .before .before .before .before .write .result .words) (c .before .before .before .before .before .before .before .before .before .before .before .before .before .before .before .before .before .before .args .fx .now) _ _ _ (c .before .before .before .before .before .before .before .before .before .before .before .before .before .least .ensures) refl (c .before .before .before .before .before .before .before .before .write .ensures .1 .1 .1 (c .before .before .before .before .before .before .before .before .before .before .before .before .before .before .before .before .before .before .args .words .now)) (tail-is (c .before .before .before .before .before .before .before .before .before .before .before .before .before .before .before .before .before .before .args .rec .now) _ _ _ _ (c .before .before .before .before .before .before .before .before .before .before .before .before .tail-at .ensures .0) (c .before .before .before .before .before .before .before .before .before .before .before .tail .ensures .0)) (c .before .before .before .before .before .before .before .before .write .ensures .1 .1 .0 (c .before .before .before .before .before .before .before .before .before .before .before .before .before .before .before .before .before .before .args .words .now))) (c .before .before .before .before .before .before .before .before .write .ensures .1 .0 (c .before .before .before .before .before .before .before .before .before .before .before .before .before .before .before .before .before .before .args .words .now)) (c .before .before .put-completed .ensures .0, c .before .before .put-completed .ensures .1 .0) in (t .0, (t .1 .0, (t .1 .1, (write-back (world (c .before .before .before .before .before .before .before .before .before .before .before .before .before .before .before .before .before .before .args .s) (c .before .before .before .before .before .before .before .before .before .before .before .before .before .before .before .before .before .before .args .words .now)) (c .before .before .before .before .before .before .before .before .before .before .before .before .before .before .before .before .before .before .pre .0) (c .before .before .before .before .before .before .before .before .before .before .before .before .before .before .before .before .before .before .args .r .words .0) (c .before .before .before .before .before .before .before .before .before .before .before .before .before .least .result) _ (c .before .before .before .before .before .before .before .before .write .result .words) (c .before .before .before .before .before .before .before .before .before .before .before .before .before .before .before .before .before .before .args .fx .now) _ _ _ (c .before .before .before .before .before .before .before .before .before .before .before .before .before .least .ensures) refl (c .before .before .before .before .before .before .before .before .write .ensures .1 .1 .1 (c .before .before .before .before .before .before .before .before .before .before .before .before .before .before .before .before .before .before .args .words .now)) (tail-is (c .before .before .before .before .before .before .before .before .before .before .before .before .before .before .before .before .before .before .args .rec .now) _ _ _ _ (c .before .before .before .before .before .before .before .before .before .before .before .before .tail-at .ensures .0) (c .before .before .before .before .before .before .before .before .before .before .before .tail .ensures .0)) (c .before .before .before .before .before .before .before .before .write .ensures .1 .1 .0 (c .before .before .before .before .before .before .before .before .before .before .before .before .before .before .before .before .before .before .args .words .now)), omega (arith, c .before .before .put-completed .ensures .1 .1, write-part (world (c .before .before .before .before .before .before .before .before .before .before .before .before .before .before .before .before .before .before .args .s) (c .before .before .before .before .before .before .before .before .before .before .before .before .before .before .before .before .before .before .args .words .now)) (c .before .before .before .before .before .before .before .before .before .before .before .before .before .before .before .before .before .before .pre .0) (c .before .before .before .before .before .before .before .before .before .before .before .before .before .before .before .before .before .before .args .r .words .0) (c .before .before .before .before .before .before .before .before .before .before .before .before .before .least .result) _ (c .before .before .before .before .before .before .before .before .write .result .words) (c .before .before .before .before .before .before .before .before .before .before .before .before .before .before .before .before .before .before .args .fx .now) _ _ _ (c .before .before .before .before .before .before .before .before .before .before .before .before .before .least .ensures) refl (c .before .before .before .before .before .before .before .before .write .ensures .1 .1 .1 (c .before .before .before .before .before .before .before .before .before .before .before .before .before .before .before .before .before .before .args .words .now)) (tail-is (c .before .before .before .before .before .before .before .before .before .before .before .before .before .before .before .before .before .before .args .rec .now) _ _ _ _ (c .before .before .before .before .before .before .before .before .before .before .before .before .tail-at .ensures .0) (c .before .before .before .before .before .before .before .before .before .before .before .tail .ensures .0)) (c .before .before .before .before .before .before .before .before .write .ensures .1 .1 .0 (c .before .before .before .before .before .before .before .before .before .before .before .before .before .before .before .before .before .before .args .words .now)), write-most (world (c .before .before .before .before .before .before .before .before .before .before .before .before .before .before .before .before .before .before .args .s) (c .before .before .before .before .before .before .before .before .before .before .before .before .before .before .before .before .before .before .args .words .now)) (c .before .before .before .before .before .before .before .before .before .before .before .before .before .before .before .before .before .before .pre .0) (c .before .before .before .before .before .before .before .before .before .before .before .before .before .before .before .before .before .before .args .r .words .0) (c .before .before .before .before .before .before .before .before .before .before .before .before .before .least .result) _ (c .before .before .before .before .before .before .before .before .write .result .words) (c .before .before .before .before .before .before .before .before .before .before .before .before .before .before .before .before .before .before .args .fx .now) _ _ _ (c .before .before .before .before .before .before .before .before .before .before .before .before .before .least .ensures) refl (c .before .before .before .before .before .before .before .before .write .ensures .1 .1 .1 (c .before .before .before .before .before .before .before .before .before .before .before .before .before .before .before .before .before .before .args .words .now)) (tail-is (c .before .before .before .before .before .before .before .before .before .before .before .before .before .before .before .before .before .before .args .rec .now) _ _ _ _ (c .before .before .before .before .before .before .before .before .before .before .before .before .tail-at .ensures .0) (c .before .before .before .before .before .before .before .before .before .before .before .tail .ensures .0)) (c .before .before .before .before .before .before .before .before .write .ensures .1 .1 .0 (c .before .before .before .before .before .before .before .before .before .before .before .before .before .before .before .before .before .before .args .words .now)) (tailOf (c .before .before .before .before .before .before .before .before .before .before .before .before .before .before .before .before .before .before .args .r)) (tail-counts (c .before .before .before .before .before .before .before .before .before .before .before .before .before .before .before .before .before .before .args .rec .now) (tailAt (c .before .before .before .before .before .before .before .before .before .before .before .before .before .before .before .before .before .before .args .r)) (tailOf (c .before .before .before .before .before .before .before .before .before .before .before .before .before .before .before .before .before .before .args .r)) (c .before .before .before .before .before .before .before .before .before .before .before .before .before .before .before .before .before .before .pre .1)))))))
 
 pub write-turn-spec : {M : Type 1} → statement M
 write-turn-spec =

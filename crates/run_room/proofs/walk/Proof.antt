@@ -1,6 +1,6 @@
 -- `run_room::walk` meets its contract. Assumes nothing.
 use Rattle.word_put.proofs.Stores.{part-is}
-use Rattle.run_room.proofs.Rooms.{Spent, too-short, spent-start, spent-short, spent-on, spent-ends, spent-place, walked-short, walked-all, left-on}
+use Rattle.run_room.proofs.Rooms.{Spent, too-short, spent-start, spent-short, spent-on, spent-ends, spent-place, walked, end-at, left-on}
 use Rattle.run_room.specs.Room.{roomOf, leftOf}
 use Rattle.record.proofs.Laws.{some}
 use Rattle.record.specs.Record.{recordOf, nextOf}
@@ -19,11 +19,11 @@ Inv-loop events most left₀ at₀ size₀ left at size = (at ≤ length events)
 abbrev μ-loop : tie.MeasureT-loop
 μ-loop events most left₀ at₀ size₀ left at size = length events - at
 
-no-room-requires : tie.Need-no-room-requires Inv-loop μ-loop
-no-room-requires c κs = search needs
+end-from-requires : tie.Need-end-from-requires Inv-loop μ-loop
+end-from-requires c κs = (omega arith, refl)
 
 returns : tie.Need-returns Inv-loop μ-loop
-returns c = walked-short (c .before .before .before .args .events .now) (c .before .before .before .args .most) _ (c .no-room .ensures) (too-short (c .before .before .before .args .events .now) (c .before .before .before .args .most) (c .before .if1 .taken))
+returns c = walked (c .before .before .before .args .events .now) (c .before .before .before .args .most) _ _ (too-short (c .before .before .before .args .events .now) (c .before .before .before .args .most) (c .before .if1 .taken)) (c .end-from .ensures)
 
 next-requires : tie.Need-next-requires Inv-loop μ-loop
 next-requires c κs = search needs
@@ -43,11 +43,11 @@ part-room-at-end c = omega arith
 room-at-requires : tie.Need-room-at-requires Inv-loop μ-loop
 room-at-requires c κs = search needs
 
-no-room-requires-2 : tie.Need-no-room-requires-2 Inv-loop μ-loop
-no-room-requires-2 c κs = search needs
+end-from-requires-2 : tie.Need-end-from-requires-2 Inv-loop μ-loop
+end-from-requires-2 c κs = (c .before .before .before .before .loop .inv .0, c .before .before .before .before .loop .inv .3)
 
 returns-2 : tie.Need-returns-2 Inv-loop μ-loop
-returns-2 c = walked-short (c .before .before .before .before .before .before .before .before .before .args .events .now) (c .before .before .before .before .before .before .before .before .before .args .most) _ (c .no-room2 .ensures) (spent-short (c .before .before .before .before .before .before .before .before .before .args .events .now) (c .before .before .before .before .before .before .before .before .before .args .most) (c .before .before .before .before .before .loop .left) (c .before .before .before .before .before .loop .at) (c .before .before .room-at .result) (c .before .before .before .before .before .loop .size) (c .before .before .before .before .before .loop .inv .2) (c .before .before .before .before .before .loop .inv .1) (c .before .before .before .before .loop-test .taken) (c .before .before .room-at .ensures .0 ∙ ap (λ (l : List ℕ). roomOf (recordOf l)) (part-is (c .before .before .before .before .before .before .before .before .before .args .events .now) (c .before .before .before .before .before .loop .at))) (c .before .if2 .taken))
+returns-2 c = walked (c .before .before .before .before .before .before .before .before .before .args .events .now) (c .before .before .before .before .before .before .before .before .before .args .most) _ _ (spent-short (c .before .before .before .before .before .before .before .before .before .args .events .now) (c .before .before .before .before .before .before .before .before .before .args .most) (c .before .before .before .before .before .loop .left) (c .before .before .before .before .before .loop .at) (c .before .before .room-at .result) (c .before .before .before .before .before .loop .size) (c .before .before .before .before .before .loop .inv .2) (c .before .before .before .before .before .loop .inv .1) (c .before .before .before .before .loop-test .taken) (c .before .before .room-at .ensures .0 ∙ ap (λ (l : List ℕ). roomOf (recordOf l)) (part-is (c .before .before .before .before .before .before .before .before .before .args .events .now) (c .before .before .before .before .before .loop .at))) (c .before .if2 .taken)) (c .end-from2 .ensures)
 
 add-at : tie.Need-add-at Inv-loop μ-loop
 add-at c = omega (arith, spent-place (c .before .before .before .before .before .before .before .before .args .events .now) (c .before .before .before .before .before .before .before .before .args .most) (c .before .before .before .before .loop .left) (c .before .before .before .before .loop .at) 0 (c .before .before .before .before .loop .size) (c .before .before .before .before .loop .inv .2) (c .before .before .before .before .loop .inv .1) (c .before .before .before .before .loop .inv .0), c .before .before .before .before .before .before .before .before .good .0 .0)
@@ -71,7 +71,7 @@ loop-again : tie.Need-loop-again Inv-loop μ-loop
 loop-again c = (spent-place (c .before .before .before .before .before .before .before .before .before .before .args .events .now) (c .before .before .before .before .before .before .before .before .before .before .args .most) (c .before .before .before .before .before .before .loop .left) (c .before .before .before .before .before .before .loop .at) 0 (c .before .before .before .before .before .before .loop .size) (c .before .before .before .before .before .before .loop .inv .2) (c .before .before .before .before .before .before .loop .inv .1) (c .before .before .before .before .before .before .loop .inv .0), c .next2 .ensures ∙ ap nextOf (part-is (c .before .before .before .before .before .before .before .before .before .before .args .events .now) (c .before .before .before .before .before .before .loop .at + c .before .before .before .before .before .before .loop .size)), spent-on (c .before .before .before .before .before .before .before .before .before .before .args .events .now) (c .before .before .before .before .before .before .before .before .before .before .args .most) (c .before .before .before .before .before .before .loop .left) (c .before .before .before .before .before .before .loop .at) (c .before .before .before .room-at .result) (c .before .before .before .before .before .before .loop .size) (c .before .before .before .before .before .before .loop .inv .2) (c .before .before .before .before .before .before .loop .inv .1) (c .before .before .before .before .before .loop-test .taken) (c .before .before .before .room-at .ensures .0 ∙ ap (λ (l : List ℕ). roomOf (recordOf l)) (part-is (c .before .before .before .before .before .before .before .before .before .before .args .events .now) (c .before .before .before .before .before .before .loop .at))) (c .before .before .if2 .left), left-on (c .before .before .before .before .before .before .before .before .before .before .args .events .now) (c .before .before .before .before .before .before .loop .at) (c .before .before .before .before .before .before .loop .size) (c .before .before .before .before .before .before .loop .inv .3) (c .before .before .before .before .before .before .loop .inv .1) (c .before .before .before .before .before .loop-test .taken))
 
 returns-3 : tie.Need-returns-3 Inv-loop μ-loop
-returns-3 c = walked-all (c .before .before .before .before .before .args .events .now) (c .before .before .before .before .before .args .most) (c .before .loop .at) (spent-ends (c .before .before .before .before .before .args .events .now) (c .before .before .before .before .before .args .most) (c .before .loop .left) (c .before .loop .at) 0 (c .before .loop .size) (c .before .loop .inv .2) (c .before .loop .inv .1) (c .loop-test .left)) (c .before .loop .inv .0) (c .before .loop .inv .3) (sym (c .before .loop .inv .1) ∙ c .loop-test .left)
+returns-3 c = walked (c .before .before .before .before .before .args .events .now) (c .before .before .before .before .before .args .most) (c .before .loop .at) _ (spent-ends (c .before .before .before .before .before .args .events .now) (c .before .before .before .before .before .args .most) (c .before .loop .left) (c .before .loop .at) 0 (c .before .loop .size) (c .before .loop .inv .2) (c .before .loop .inv .1) (c .loop-test .left)) (end-at (c .before .before .before .before .before .args .events .now) (c .before .loop .at) (c .before .loop .inv .0) (c .before .loop .inv .3) (sym (c .before .loop .inv .1) ∙ c .loop-test .left))
 
 pub walk-spec : {M : Type 1} → statement M
 walk-spec =
@@ -79,7 +79,7 @@ walk-spec =
     (tie.spec
     Inv-loop
     μ-loop
-    no-room-requires
+    end-from-requires
     returns
     next-requires
     loop-holds
@@ -87,7 +87,7 @@ walk-spec =
     part-room-at-start
     part-room-at-end
     room-at-requires
-    no-room-requires-2
+    end-from-requires-2
     returns-2
     add-at
     sub-next

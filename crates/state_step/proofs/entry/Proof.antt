@@ -1,5 +1,8 @@
 -- `state_step::entry` meets its contract. Assumes nothing.
-use mathlib.Core.Path.{refl, _∙_}
+use mathlib.Core.Path.{refl, ap, _∙_}
+use Rattle.events.specs.Outcome.{success}
+use mathlib.Core.Bool.{false}
+use Rattle.answer_words.specs.Words.{wordsOf}
 use borrow.Author.Needs.{needs}
 use Rattle.state_step.proofs.entry.Statement.{statement}
 use Rattle.state_step.proofs.entry.Tie as tie
@@ -28,14 +31,14 @@ element-set-from-w c = search needs
 element-write-t : tie.Need-element-write-t
 element-write-t c = search needs
 
-write-words-requires : tie.Need-write-words-requires
-write-words-requires c κs = search needs
+words-requires : tie.Need-words-requires
+words-requires c κs = search needs
 
 same-length : tie.Need-same-length
 same-length c = search needs
 
 returns : tie.Need-returns
-returns c = let a = c .before .before .before .before .before .before .before .before .before .before .before .before .before .before .before .before .before .before .before .before .before .before .args in λ ws bs one ee. let x = c .before .before .before .before .before .before .entry .ensures (a .s) (a .s .table .holds .outside) ws bs one ee (refl, refl, refl) in (c .write-words .ensures ∙ x .0, (x .1 .0, (x .1 .1 .0, x .1 .1 .1)))
+returns c = let a = c .before .before .before .before .before .before .before .before .before .before .before .before .before .before .before .before .before .before .before .before .before .before .args in λ ws bs one ee. let x = c .before .before .before .before .before .before .entry .ensures (a .s) (a .s .table .holds .outside) ws bs one ee (refl, refl, refl) in (c .words .ensures (success 0 0 false) ∙ ap wordsOf (x .0), x .1)
 
 pub entry-spec : {M : Type 1} → statement M
 entry-spec =
@@ -49,6 +52,6 @@ entry-spec =
     mul-w
     element-set-from-w
     element-write-t
-    write-words-requires
+    words-requires
     same-length
     returns)

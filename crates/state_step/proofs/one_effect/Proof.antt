@@ -1,11 +1,12 @@
 -- `state_step::one_effect` meets its contract. Assumes nothing.
-use borrow.Author.Needs.{needs}
-use Rattle.state_step.proofs.one_effect.Statement.{statement}
-use Rattle.state_step.proofs.one_effect.Tie as tie
 use mathlib.Core.Path.{refl}
 use lib.ListN.{getD}
 use Rattle.table.specs.Table.{noSlot}
+use Rattle.answer_words.proofs.Laws.{settled}
 use Rattle.state_step.proofs.Places.{placed}
+use borrow.Author.Needs.{needs}
+use Rattle.state_step.proofs.one_effect.Statement.{statement}
+use Rattle.state_step.proofs.one_effect.Tie as tie
 
 place-requires : tie.Need-place-requires
 place-requires c κs = search needs
@@ -31,8 +32,11 @@ element-set-from-w c = search needs
 element-write-t : tie.Need-element-write-t
 element-write-t c = search needs
 
+step-words-requires : tie.Need-step-words-requires
+step-words-requires c κs = search needs
+
 returns : tie.Need-returns
-returns c = let a = c .before .before .before .before .before .before .before .before .before .before .before .before .before .before .before .before .before .before .before .before .args in let t = a .s .table in placed (a .s) (record { slot = getD (t .slots) (c .before .before .before .before .before .before .before .before .before .before .before .before .before .before .before .place .result) noSlot; next = getD (t .next) (c .before .before .before .before .before .before .before .before .before .before .before .before .before .before .before .place .result) 0; head = t .head; queue = a .s .driver .queue; scheme = a .s .driver .scheme }) (c .before .before .before .before .before .one-effect .result .part) _ _ _ _ _ (c .before .before .before .before .before .before .before .before .before .before .before .before .before .before .before .place .result) _ (c .before .before .before .before .before .before .before .before .before .before .before .before .before .before .before .place .ensures .0) (c .before .before .before .before .before .one-effect .ensures (a .s)) (refl, refl, refl)
+returns c = let a = c .before .before .before .before .before .before .before .before .before .before .before .before .before .before .before .before .before .before .before .before .args in let t = a .s .table in settled _ _ _ _ _ _ (c .step-words .ensures) (placed (a .s) (record { slot = getD (t .slots) (c .before .before .before .before .before .before .before .before .before .before .before .before .before .before .before .place .result) noSlot; next = getD (t .next) (c .before .before .before .before .before .before .before .before .before .before .before .before .before .before .before .place .result) 0; head = t .head; queue = a .s .driver .queue; scheme = a .s .driver .scheme }) (c .before .before .before .before .before .one-effect .result .part) _ _ _ _ _ (c .before .before .before .before .before .before .before .before .before .before .before .before .before .before .before .place .result) _ (c .before .before .before .before .before .before .before .before .before .before .before .before .before .before .before .place .ensures .0) (c .before .before .before .before .before .one-effect .ensures (a .s)) (refl, refl, refl))
 
 pub one-effect-spec : {M : Type 1} → statement M
 one-effect-spec =
@@ -46,4 +50,5 @@ one-effect-spec =
     mul-w
     element-set-from-w
     element-write-t
+    step-words-requires
     returns)

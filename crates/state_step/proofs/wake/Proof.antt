@@ -1,8 +1,9 @@
 -- `state_step::wake` meets its contract. Assumes nothing.
+use mathlib.Core.Path.{refl}
+use Rattle.answer_words.proofs.Laws.{settled-wake}
 use borrow.Author.Needs.{needs}
 use Rattle.state_step.proofs.wake.Statement.{statement}
 use Rattle.state_step.proofs.wake.Tie as tie
-use mathlib.Core.Path.{refl}
 
 mul-v : tie.Need-mul-v
 mul-v c = search needs
@@ -25,8 +26,11 @@ element-set-from-w c = search needs
 element-write-t : tie.Need-element-write-t
 element-write-t c = search needs
 
+wake-words-requires : tie.Need-wake-words-requires
+wake-words-requires c κs = search needs
+
 returns : tie.Need-returns
-returns c = let a = c .before .before .before .before .before .before .before .before .before .before .before .before .before .before .before .before .before .before .args in c .before .before .before .before .before .before .before .before .before .wake-part .ensures (a .s) (refl, refl, refl)
+returns c = let a = c .before .before .before .before .before .before .before .before .before .before .before .before .before .before .before .before .before .before .args in settled-wake _ _ _ _ _ _ (c .wake-words .ensures) (c .before .before .before .before .before .before .before .before .before .wake-part .ensures (a .s) (refl, refl, refl))
 
 pub wake-spec : {M : Type 1} → statement M
 wake-spec =
@@ -39,4 +43,5 @@ wake-spec =
     mul-w
     element-set-from-w
     element-write-t
+    wake-words-requires
     returns)

@@ -1,4 +1,8 @@
 -- `state_step::write` meets its contract. Assumes nothing.
+use mathlib.Core.Path.{ap, _∙_}
+use Rattle.events.specs.Outcome.{success}
+use mathlib.Core.Bool.{false}
+use Rattle.answer_words.specs.Words.{wordsOf}
 use Rattle.write.proofs.Loop.{four}
 use borrow.Author.Needs.{needs}
 use Rattle.state_step.proofs.write.Statement.{statement}
@@ -19,11 +23,14 @@ returns c = let a = c .before .before .before .before .before .before .before .b
 write-requires : tie.Need-write-requires
 write-requires c κs = search needs
 
+words-requires : tie.Need-words-requires
+words-requires c κs = search needs
+
 same-length-2 : tie.Need-same-length-2
 same-length-2 c = search needs
 
 returns-2 : tie.Need-returns-2
-returns-2 c = search needs
+returns-2 c = let x = c .before .before .before .before .write .ensures in (λ ws. c .words .ensures (success 0 0 false) ∙ ap wordsOf (x .0 ws), x .1)
 
 pub write-spec : {M : Type 1} → statement M
 write-spec =
@@ -34,5 +41,6 @@ write-spec =
     same-length
     returns
     write-requires
+    words-requires
     same-length-2
     returns-2)

@@ -3,7 +3,7 @@ use borrow.Author.Needs.{needs}
 use Rattle.tilgurap.proofs.tilgurap_parse_cqe.Statement.{statement}
 use Rattle.tilgurap.proofs.tilgurap_parse_cqe.Tie as tie
 use mathlib.Core.Path.{ap, _∙_}
-use Rattle.answer.specs.Answer.{numberOf}
+use Rattle.answer.specs.Numbered.{numberOf}
 use Rattle.parse_cqe.specs.declared.ParsedCqe.{ParsedCqe}
 use Rattle.parse_cqe.specs.Parsed.{parsedAnswer}
 

@@ -1,0 +1,18 @@
+-- `call_generic::call_generic` meets its contract. Assumes nothing.
+use borrow.Author.Needs.{needs}
+use Rattle.part.specs.Part.{found}
+use Rattle.call_generic.proofs.Cases.{as-call}
+use Rattle.call_generic.proofs.call_generic.Statement.{statement}
+use Rattle.call_generic.proofs.call_generic.Tie as tie
+
+call-requires : tie.Need-call-requires
+call-requires c κs = search needs
+
+call-with-requires : tie.Need-call-with-requires
+call-with-requires c κs = search needs
+
+returns : tie.Need-returns
+returns c = let a = c .before .before .before .before .before .args in λ s h st. as-call (found s (a .p) h) (a .words .now) (a .caller) (a .pid) (a .fds .now) (a .base) (a .len) (a .metadata .now) _ _ (c .before .call .ensures) (c .call-with .ensures s h st)
+
+pub call-generic-spec : {M : Type 1} → statement M
+call-generic-spec = tie.close (tie.spec call-requires call-with-requires returns)
