@@ -94,11 +94,13 @@ module _ (r : Reply) (l : Fds) where
   by-kind : (k : ℕ) (x : Reply) → r .kind ≡ k → x ≡ responseWords (responseBy k r l) → x ≡ responseWords (responseFrom r l)
   by-kind k x e p = p ∙ ap (λ (j : ℕ). responseWords (responseBy j r l)) (sym e)
 
-  pub success-words : r .kind ≡ 0 → record { kind = 0; extra0 = r .extra0; notice = r .notice; word = r .word } ≡ responseWords (responseFrom r l)
-  success-words e = by-kind 0 _ e refl
-
-  pub error-words : r .kind ≡ 1 → record { kind = 1; extra0 = r .extra0; notice = r .notice; word = r .word } ≡ responseWords (responseFrom r l)
-  error-words e = by-kind 1 _ e refl
+  pub regular-words : r .kind < 2 → r ≡ responseWords (responseFrom r l)
+  regular-words b = go (r .kind) refl b
+    where
+      go : (k : ℕ) → r .kind ≡ k → k < 2 → r ≡ responseWords (responseFrom r l)
+      go zero e b = by-kind 0 r e (ap (λ (j : ℕ). record { kind = j; extra0 = r .extra0; notice = r .notice; word = r .word }) e)
+      go (suc zero) e b = by-kind 1 r e (ap (λ (j : ℕ). record { kind = j; extra0 = r .extra0; notice = r .notice; word = r .word }) e)
+      go (suc (suc k)) e b = absurd (omega (arith, b))
 
   pub descriptor-words : r .kind ≡ 2 → record { kind = 2; extra0 = 0; notice = false; word = r .word } ≡ responseWords (responseFrom r l)
   descriptor-words e = by-kind 2 _ e refl
@@ -109,8 +111,8 @@ module _ (r : Reply) (l : Fds) where
   others (suc (suc zero)) a b c = absurd (c refl)
   others (suc (suc (suc k))) a b c = refl
 
-  pub many-words : (r .kind ≡ 0 → ⊥) → (r .kind ≡ 1 → ⊥) → (r .kind ≡ 2 → ⊥) → record { kind = 3; extra0 = 0; notice = false; word = 0 } ≡ responseWords (responseFrom r l)
-  many-words a b c = ap responseWords (others (r .kind) a b c)
+  pub many-words : 2 ≤ r .kind → (r .kind ≡ 2 → ⊥) → record { kind = 3; extra0 = 0; notice = false; word = 0 } ≡ responseWords (responseFrom r l)
+  many-words b c = ap responseWords (others (r .kind) (λ e. omega (arith, b, e)) (λ e. omega (arith, b, e)) c)
 
   -- only many have a list
   pub no-list : r .kind < 3 → listOf [] ≡ listOf (listed (responseFrom r l))

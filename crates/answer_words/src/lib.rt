@@ -6,6 +6,7 @@ use part::Part;
 use slot::Reply;
 use state::State;
 ghost use mathlib.Core.Path.{_≡_};
+ghost use mathlib.Core.Bool.{false};
 ghost use Rattle.effect.specs.Effect.{effectWords};
 ghost use Rattle.events.specs.Outcome.{Response, reply as replied, saidWith, said};
 ghost use Rattle.events.specs.Wake.{responseFrom};
@@ -89,37 +90,29 @@ pub fn words(a: Answer) -> AnswerWords
     }
 }
 
+fn lone(kind: u8, word: u64) -> Reply
+    ensures { λ r. ⌜ r ≡ record { kind = kind; extra0 = 0; notice = false; word = word } ⌝ }
+{
+    Reply {
+        kind: kind,
+        extra0: 0,
+        notice: false,
+        word: word,
+    }
+}
+
 // A reply's own words: beside a descriptor and beside many there is nothing else.
 fn reply_words(r: Reply, fds: List) -> Reply
     ensures { λ o. ⌜ o ≡ replyOf (replied (responseFrom r fds)) ⌝ }
 {
     let kind = r.kind;
-    match kind {
-        0 => Reply {
-            kind: 0,
-            extra0: r.extra0,
-            notice: r.notice,
-            word: r.word,
-        },
-        1 => Reply {
-            kind: 1,
-            extra0: r.extra0,
-            notice: r.notice,
-            word: r.word,
-        },
-        2 => Reply {
-            kind: 2,
-            extra0: 0,
-            notice: false,
-            word: r.word,
-        },
-        _ => Reply {
-            kind: 3,
-            extra0: 0,
-            notice: false,
-            word: 0,
-        },
+    if kind < 2 {
+        return r;
     }
+    if kind == 2 {
+        return lone(2, r.word);
+    }
+    lone(3, 0)
 }
 
 // Its list: only many descriptors have one, of at most 16.
@@ -174,15 +167,11 @@ pub fn wake_words(a: Answer, r: Reply, fds: List, e: Effect, s: State) -> WakeWo
             state: s,
         };
     }
+    let blank = lone(0, 0);
     let none = fd_list::empty();
     WakeWords {
         answer: answer,
-        reply: Reply {
-            kind: 0,
-            extra0: 0,
-            notice: false,
-            word: 0,
-        },
+        reply: blank,
         fds: none,
         effect: fx,
         state: s,

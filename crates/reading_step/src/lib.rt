@@ -39,6 +39,16 @@ fn regular_words(a: RegularAnswer) -> AnswerWords
     }
 }
 
+fn failed(number: u64) -> OpenedWords
+    ensures { λ r. ⌜ r ≡ record { kind = 2; value = number; flags = 0 } ⌝ }
+{
+    OpenedWords {
+        kind: 2,
+        value: number,
+        flags: 0,
+    }
+}
+
 fn opened_words(a: OpenResult) -> OpenedWords
     ensures { λ r. ⌜ r ≡ openedWords (openedAs a) ⌝ }
 {
@@ -53,21 +63,9 @@ fn opened_words(a: OpenResult) -> OpenedWords
             value: d,
             flags: 0,
         },
-        OpenResult::Failed(e) => OpenedWords {
-            kind: 2,
-            value: e,
-            flags: 0,
-        },
-        OpenResult::UnknownFlags => OpenedWords {
-            kind: 2,
-            value: 22,
-            flags: 0,
-        },
-        OpenResult::MultipleFds => OpenedWords {
-            kind: 2,
-            value: 5,
-            flags: 0,
-        },
+        OpenResult::Failed(e) => failed(e),
+        OpenResult::UnknownFlags => failed(22),
+        OpenResult::MultipleFds => failed(5),
     }
 }
 

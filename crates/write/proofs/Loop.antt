@@ -37,11 +37,11 @@ use Rattle.events.specs.Outcome.{Answer, Outcome, outcome, ok, refuse}
 use Rattle.events.specs.Entry.{Decision, decided, refusedOf, Offer, one, servedBy, respondBy, inHandle, byDescriptor, isVacant, isWaiting, obtained, decisionOf}
 use Rattle.events.specs.Complete.{Entered, accepted, rejected, actOn, after, carried, entryOf, cut, entriesOf, stopped, onEntered, writeOn, writeOf}
 use Rattle.carry_out.specs.After.{lookOf, slotAfter, nextAfter, headAfter}
-use Rattle.write.specs.Write.{refusal}
+use Rattle.write.specs.Write.{isRefusal}
 
 -- a decision's number is 0 or a refusal's
 abbrev Fits : Decision → Type 0
-Fits d = (d .number ≡ 0) ⊎ refusal (d .number)
+Fits d = (d .number ≡ 0) ⊎ (isRefusal (d .number) ≡ true)
 
 served-fits : (b : Bool) (v : Slot) (t : ℕ) (o : Offer) (h : Holds) (n : Handles) → Fits (servedBy b v t o h n)
 served-fits true v t o h n = inl refl
@@ -57,33 +57,33 @@ respond-fits Fmap turn v t o h n x y = y
 
 -- the first row that is due, or what has passed
 handle-fits : (b : Bool) (v : Slot) (t k : ℕ) (h : Holds) (n : Handles) → Fits (cond b (refusedOf v h n 22) (byDescriptor v t k h n))
-handle-fits true v t k h n = inr (inr (inl refl))
-handle-fits false v t k h n = respond-fits (phaseOf v) _ v t (one (inHandle n k)) h (emptied n k) (inr (inl refl)) (inr (inr (inl refl)))
+handle-fits true v t k h n = inr refl
+handle-fits false v t k h n = respond-fits (phaseOf v) _ v t (one (inHandle n k)) h (emptied n k) (inr refl) (inr refl)
 
 obtain-fits : (a b : Bool) (v : Slot) (k : ℕ) (h : Holds) (n : Handles) → Fits (cond a (refusedOf v h n 22) (cond b (refusedOf v h n 2) (obtained v k h n)))
-obtain-fits true b v k h n = inr (inr (inl refl))
-obtain-fits false true v k h n = inr (inr (inr refl))
+obtain-fits true b v k h n = inr refl
+obtain-fits false true v k h n = inr refl
 obtain-fits false false v k h n = inl refl
 
 fits : (p : ParsedCqe) (v : Slot) (h : Holds) (n : Handles) → Fits (decisionOf p v h n)
 fits (parsed.TriggerFevent number flags) v h n = inl refl
-fits (parsed.RegularResponse t r x) v h n = respond-fits (phaseOf v) (refusedOf v h n) v (t .0) _ h n (inr (inl refl)) (inr (inr (inl refl)))
+fits (parsed.RegularResponse t r x) v h n = respond-fits (phaseOf v) (refusedOf v h n) v (t .0) _ h n (inr refl) (inr refl)
 fits (parsed.ResponseWithFd t k) v h n = handle-fits (eqb (heldAt n (k .0)) 0) v (t .0) (k .0) h n
-fits (parsed.ResponseWithMultipleFds t c) v h n = respond-fits (phaseOf v) (refusedOf v h n) v (t .0) _ h n (inr (inl refl)) (inr (inr (inl refl)))
+fits (parsed.ResponseWithMultipleFds t c) v h n = respond-fits (phaseOf v) (refusedOf v h n) v (t .0) _ h n (inr refl) (inr refl)
 fits (parsed.ObtainFd t flags k) v h n =
     obtain-fits (isVacant (phaseOf v)) (not (isWaiting (phaseOf v)) || eqb (length (numbers (v .fds))) 0) v (k .0) h n
-fits (parsed.RespondAndNotifyOnDetach t r x) v h n = respond-fits (phaseOf v) (refusedOf v h n) v (t .0) _ h n (inr (inl refl)) (inr (inr (inl refl)))
-fits parsed.UnknownKind v h n = inr (inr (inl refl))
-fits parsed.UnknownEventFlags v h n = inr (inr (inl refl))
-fits parsed.UnknownObtainFlags v h n = inr (inr (inl refl))
+fits (parsed.RespondAndNotifyOnDetach t r x) v h n = respond-fits (phaseOf v) (refusedOf v h n) v (t .0) _ h n (inr refl) (inr refl)
+fits parsed.UnknownKind v h n = inr refl
+fits parsed.UnknownEventFlags v h n = inr refl
+fits parsed.UnknownObtainFlags v h n = inr refl
 
 -- a number that is not 0 refuses
 pub refused-by :
     (p : ParsedCqe) (v : Slot) (h : Holds) (n : Handles) (q : Answered) (g : Holds) (m : Handles) → AsDecided q g m (decisionOf p v h n)
-    → (q .number ≡ 0 → ⊥) → refusal (q .number)
-refused-by p v h n q g m a z = go (subst (λ (k : ℕ). (k ≡ 0) ⊎ refusal k) (sym (a .number)) (fits p v h n))
+    → (q .number ≡ 0 → ⊥) → isRefusal (q .number) ≡ true
+refused-by p v h n q g m a z = go (subst (λ (k : ℕ). (k ≡ 0) ⊎ (isRefusal k ≡ true)) (sym (a .number)) (fits p v h n))
   where
-    go : (q .number ≡ 0) ⊎ refusal (q .number) → refusal (q .number)
+    go : (q .number ≡ 0) ⊎ (isRefusal (q .number) ≡ true) → isRefusal (q .number) ≡ true
     go (inl e) = absurd (z e)
     go (inr e) = e
 

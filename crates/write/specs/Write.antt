@@ -1,13 +1,18 @@
 -- The numbers that refuse an entry, and a state with handles that come beside it.
 use Prim.Native.Nat.{ℕ}
-use mathlib.Core.Path.{_≡_}
-use mathlib.Core.Logic.{_⊎_}
+use mathlib.Core.Bool.{Bool}
+use mathlib.Core.List.{List, [], _∷_}
+use lib.Dec.{eqb}
+use Rattle.counts.specs.Counts.{any}
 use Rattle.handles.specs.declared.Handles.{Handles}
 use Rattle.state.specs.declared.State.{State}
 
 -- the numbers that refuse an entry
-abbrev pub refusal : ℕ → Type 0
-refusal k = (k ≡ 77) ⊎ ((k ≡ 22) ⊎ (k ≡ 2))
+abbrev pub refusals : List ℕ
+refusals = 77 ∷ 22 ∷ 2 ∷ []
+
+abbrev pub isRefusal : ℕ → Bool
+isRefusal k = any (eqb k) refusals
 
 -- a state with other handles
 abbrev pub stateWithHandles : State → Handles → State

@@ -8,6 +8,7 @@ use schemev2::Cqe;
 use state::Driver;
 use state::State;
 ghost use mathlib.Core.Path.{_≡_};
+ghost use mathlib.Core.Bool.{true};
 ghost use mathlib.Core.List.{List};
 ghost use Prim.Native.Nat.{ℕ, _/_, _%_, _<_};
 ghost use lib.ListN.{length};
@@ -20,7 +21,7 @@ ghost use Rattle.part.specs.Part.{Stands, found, leaves};
 ghost use Rattle.events.specs.World.{world};
 ghost use Rattle.events.specs.Outcome.{said};
 ghost use Rattle.events.specs.Complete.{stopped, writeOf};
-ghost use Rattle.write.specs.Write.{refusal, stateWithHandles};
+ghost use Rattle.write.specs.Write.{isRefusal, stateWithHandles};
 
 // So many of the lent words hold effects, three to each.
 pub struct WriteStep {
@@ -38,7 +39,7 @@ pub struct EntryStep {
 
 // A refusal after a good entry returns the bytes so far, a first one its number.
 fn stop(done: usize, number: u64) -> Answer
-    requires { ⌜ refusal number × (done < 0x800_0000_0000_0000) ⌝ }
+    requires { ⌜ (isRefusal number ≡ true) × (done < 0x800_0000_0000_0000) ⌝ }
     ensures { λ r. ⌜ said r ≡ stopped done number ⌝ }
 {
     if 0 < done {

@@ -26,15 +26,18 @@ returns c =
     let e = sym (with-reply (responseFrom (a .r) (a .fds)) (a .a) _ w (c .before .before .if1 .taken)) in
     (w, (c .before .reply-words .ensures ∙ ap replyOf e, (c .list-words .ensures ∙ ap fdsOf e, (c .before .before .before .before .effect-words .ensures, refl))))
 
+lone-requires : tie.Need-lone-requires
+lone-requires c κs = search needs
+
 empty-requires : tie.Need-empty-requires
 empty-requires c κs = search needs
 
 returns-2 : tie.Need-returns-2
 returns-2 c =
-    let a = c .before .before .before .before .before .args in
-    let w = c .before .before .before .before .words .ensures (responseFrom (a .r) (a .fds)) in
-    let n = without-reply (responseFrom (a .r) (a .fds)) (a .a) _ w (c .before .if1 .left) in
-    (w, (n .0, (c .empty .ensures ∙ n .1, (c .before .before .before .effect-words .ensures, refl))))
+    let a = c .before .before .before .before .before .before .args in
+    let w = c .before .before .before .before .before .words .ensures (responseFrom (a .r) (a .fds)) in
+    let n = without-reply (responseFrom (a .r) (a .fds)) (a .a) _ w (c .before .before .if1 .left) in
+    (w, (c .before .lone .ensures ∙ n .0, (c .empty .ensures ∙ n .1, (c .before .before .before .before .effect-words .ensures, refl))))
 
 pub wake-words-spec : {M : Type 1} → statement M
 wake-words-spec =
@@ -45,5 +48,6 @@ wake-words-spec =
     reply-words-requires
     list-words-requires
     returns
+    lone-requires
     empty-requires
     returns-2)
