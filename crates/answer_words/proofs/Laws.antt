@@ -1,10 +1,9 @@
 -- What is handed to a host settles an outcome. Assumes nothing.
 use Prim.Native.Nat.{ℕ, zero, suc, _<_, _≤_}
 use mathlib.Core.Path.{_≡_, refl, sym, ap, _∙_}
-use mathlib.Core.Bool.{Bool, true, false, cond}
+use mathlib.Core.Bool.{Bool, false, cond}
 use mathlib.Core.List.{List, [], _∷_}
 use native.Mathlib.Omega.{arith}
-use lib.Dec.{eqb}
 use borrow.Author.Tests.{eq-eqb, ne-eqb}
 use Rattle.answer.specs.declared.Answer.{Answer as Case}
 use Rattle.answer.specs.declared.Answer.the-variants.{Done, Given, Submitted, Bytes, Descriptions, WouldWait, Blocked, Replied, NotFound, NoCaller, Interrupted, Again, Invalid, BadDescriptor, NotSupported, NotYours, Full, QueueFull, ShortWords, BadArgument, TooManyFds, TooManyHolds}
@@ -16,7 +15,7 @@ use Rattle.slot.specs.declared.Reply.{Reply}
 use Rattle.slot.specs.Slots.{noReply}
 use Rattle.state.specs.declared.State.{State}
 use Rattle.events.specs.World.{World, world}
-use Rattle.events.specs.Outcome.{Response, many, Answer, ok, no, wait, blocked, reply, saidWith, said, Outcome, outcome}
+use Rattle.events.specs.Outcome.{Response, many, Answer, ok, no, wait, blocked, reply, saidWith, Outcome, outcome}
 use Rattle.events.specs.Wake.{responseBy, responseFrom}
 use Rattle.answer_words.specs.declared.AnswerWords.{AnswerWords}
 use Rattle.answer_words.specs.declared.StepWords.{StepWords}

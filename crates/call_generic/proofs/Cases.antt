@@ -1,23 +1,17 @@
 -- The generic calls by their tests. Assumes nothing.
-use Prim.Native.Nat.{ℕ, _%_, _<_, _≤_}
-use mathlib.Core.Path.{_≡_, refl, sym, ap, _∙_}
-use mathlib.Core.Bool.{true, false, _||_}
-use mathlib.Core.List.{List, [], _∷_}
-use native.Mathlib.Omega.{arith}
-use lib.Dec.{eqb, ltb}
-use lib.ListN.{getD, length, List·getD-eq-default}
+use Prim.Native.Nat.{ℕ, _<_, _≤_}
+use mathlib.Core.Path.{_≡_, refl, _∙_}
+use mathlib.Core.Bool.{true, false}
+use mathlib.Core.List.{List, []}
+use lib.ListN.{length}
 use borrow.Author.Tests.{eq-eqb, ne-eqb, lt-ltb, le-ltb}
-use Rattle.fd_list.specs.declared.List.{List as Fds}
 use Rattle.fd_list.specs.Lists.{listOf}
-use Rattle.flag.specs.Flags.{sqeMultipleIds}
 use Rattle.opcode.specs.Opcodes.{call, stdFsCall}
-use Rattle.slot.specs.declared.Slot.{Slot}
 use Rattle.slot.specs.Slots.{waitingOf}
 use Rattle.state.specs.declared.State.{State}
-use Rattle.events.specs.World.{World, world, holdsOf, queueFull}
-use Rattle.events.specs.Outcome.{Outcome, outcome, ok, no}
-use Rattle.events.specs.Submit.{args6, sqe, wrongKind, kindByte, stdMeta, tableFull, begun, genericEntry, genericOf, stdfsOf}
-use Rattle.events.proofs.Conditions.{kind-same}
+use Rattle.events.specs.World.{world, holdsOf, queueFull}
+use Rattle.events.specs.Outcome.{Outcome, outcome, no}
+use Rattle.events.specs.Submit.{wrongKind, kindByte, stdMeta, tableFull, begun, genericEntry, genericOf, stdfsOf}
 use Rattle.call_generic.specs.Generic.{genericWith}
 
 module _ (s : State) (ws : List ℕ) (op c pid : ℕ) (fds : List ℕ) (base len : ℕ) (ms : List ℕ) where

@@ -20,8 +20,7 @@ use Rattle.slot.specs.declared.Phase.the-variants.{Vacant, Placeholder, Waiting
 use Rattle.slot.specs.declared.Slot.{Slot}
 use Rattle.slot.specs.Slots.{phaseOf, vacantSlot, canceledOf, interruptedOf}
 use Rattle.state.specs.declared.State.{State}
-use Rattle.table.specs.declared.Table.{Table}
-use Rattle.table.specs.Table.{noSlot, stored, putAt, vacateAt}
+use Rattle.table.specs.Table.{noSlot, stored, putAt}
 use Rattle.table.proofs.Cases.{slot-out, slot-in, put-in, vacate-in}
 use Rattle.wait_queue.specs.declared.WaitQueue.{WaitQueue}
 use Rattle.wait_queue.specs.Queue.{sentOf, sentWords}

@@ -1,7 +1,6 @@
 -- The host's events on holds, each one equation for its answer and the state.
 use Prim.Native.Nat.{ℕ}
 use mathlib.Core.Bool.{cond, not, _||_}
-use mathlib.Core.List.{[]}
 use lib.Dec.{ltb, eqb}
 use lib.ListN.{getD}
 use Rattle.answer.specs.declared.Answer.{Answer}

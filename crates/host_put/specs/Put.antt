@@ -1,7 +1,6 @@
 -- An outside hold put into a handle, one equation for the answer and the state.
 use Prim.Native.Nat.{ℕ}
 use mathlib.Core.Bool.{cond, not, _||_}
-use mathlib.Core.List.{[]}
 use Rattle.answer.specs.declared.Answer.{Answer}
 use Rattle.answer.specs.declared.Answer.the-variants.{Done, BadArgument}
 use Rattle.counts.specs.Counts.{less}

@@ -1,5 +1,4 @@
 -- The fields of one line of the listing (01, "Marked values"): kind, tag, word, value, extra as one number.
-use mathlib.Core.List.{List}
 use Prim.Native.Nat.{ℕ}
 use Rattle.answer.specs.Numbered.{numberOf}
 use Rattle.error.specs.declared.Result.{Result}

@@ -10,7 +10,6 @@ use lib.Dec.{eqb, leb}
 use lib.ListN.{length, getD}
 use borrow.Author.Tests.{eqb-true, le-leb, lt-leb}
 use Rattle.opcode.specs.Opcodes.{opcodeIf, opcodeOf, opcodes}
-use Rattle.opcode.specs.declared.RawOpcode.{RawOpcode}
 use Rattle.opcode.specs.declared.RawOpcode.the-variants.{Opcode, Unknown}
 
 abbrev rising : ℕ → List ℕ → Bool

@@ -1,8 +1,7 @@
 -- What a completion entry asks for, and its refusals in 01's order: kind 6 or 7, then event or obtain bits outside the mask.
 -- (`ParsedCqe::parse_cqe`, src/scheme/user.rs, lines 119 to 154.)
 use mathlib.Core.Bool.{Bool, true, false}
-use mathlib.Core.List.{List, [], _∷_, _++_}
-use Prim.Native.Nat.{ℕ}
+use mathlib.Core.List.{[], _∷_, _++_}
 use Rattle.answer.specs.Numbered.{Numbered, success, refused, numberOf, valuesOf}
 use Rattle.error.specs.Errors.{demuxOf, resultAnswer}
 use Rattle.flag.specs.Flags.{within, eventFlags, fobtainFdFlags}

@@ -2,11 +2,10 @@
 -- A queue is the place of its oldest entry and how many are unread; its words are lent beside it.
 use mathlib.Core.Bool.{Bool, true, false, cond}
 use mathlib.Core.List.{List, [], _∷_}
-use Prim.Native.Nat.{ℕ, zero, suc, min, _+_, _-_, _*_, _/_, _%_}
-use lib.Dec.{leb, ltb, eqb}
-use lib.ListN.{getD, length, take}
+use Prim.Native.Nat.{ℕ, zero, suc, _+_, _-_, _*_, _/_, _%_}
+use lib.Dec.{leb}
+use lib.ListN.{getD}
 use lib.Seq.{sets}
-use Rattle.answer.specs.declared.Answer.{Answer}
 use Rattle.answer.specs.declared.Answer.the-variants.{Done, QueueFull}
 use Rattle.le.specs.Le.{bytesOf}
 use Rattle.schemev2.specs.declared.Sqe.{Sqe}

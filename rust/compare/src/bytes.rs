@@ -1,5 +1,5 @@
 //! The same events through `tilgurap_run`: its whole output held against what the kernel told.
-//! Damaged records, too: the run has to end there.
+//! Damaged records, too: the run has to turn them down before it starts.
 
 use generate::Draw;
 use script::{Event, Line, State};
@@ -21,8 +21,8 @@ const DAMAGED: u32 = 12;
 struct Records {
     events: Vec<u8>,
     output: Vec<u8>,
-    /// Where each record begins, and what is told of it.
-    places: Vec<(usize, usize)>,
+    /// Where each record begins.
+    places: Vec<usize>,
     room: usize,
     words: usize,
 }
@@ -53,7 +53,7 @@ impl Records {
         let (Ok(record), Ok(told)) = (event.encode(), line.encode()) else {
             unreachable!("lists are short and a line that was compared is no skip");
         };
-        self.places.push((self.events.len(), self.output.len()));
+        self.places.push(self.events.len());
         self.events.extend(record);
         self.output.extend(told);
         self.room += EACH
@@ -102,9 +102,9 @@ impl Records {
     /// The events with one record that is none, and where it begins.
     fn damaged(&self, draw: &mut Draw) -> (Vec<u8>, usize) {
         let place = draw.below(self.places.len() as u64) as usize;
-        let start = self.places[place].0;
+        let start = self.places[place];
         let end = self.places.get(place + 1);
-        let end = end.map_or(self.events.len(), |(next, _)| *next);
+        let end = end.copied().unwrap_or(self.events.len());
         let mut events = self.events.clone();
         match draw.below(3) {
             // cut off, somewhere inside
@@ -118,28 +118,26 @@ impl Records {
         (events, place)
     }
 
-    /// Ends at a damaged record, having told of those before it, and the state that they left.
+    /// A damaged record is found before the first event: its place is told, also where the output is too short, and nothing
+    /// is run or written.
     fn check_damaged(&self, scheme: u64, draw: &mut Draw) -> Result<(), String> {
         if self.places.is_empty() {
             return Ok(());
         }
         let (events, place) = self.damaged(draw);
-        let (start, told) = self.places[place];
-        let mut fx = vec![0; self.words];
-        let mut wanted = vec![UNTOUCHED; LAST + self.room];
-        let whole = tilgurap::numbers::run(scheme, &events[..start], &mut wanted, &mut fx);
-        let mut out = vec![UNTOUCHED; LAST + self.room];
+        let start = self.places[place];
+        let room = draw.one_of(&[0, LAST + self.room]);
+        let mut out = vec![UNTOUCHED; room];
+        let lent = vec![u64::from(UNTOUCHED); self.words];
+        let mut fx = lent.clone();
         let end = tilgurap::numbers::run(scheme, &events, &mut out, &mut fx);
-        if (whole.number, whole.written) != (0, (told + LAST) as u64) {
-            return Err(format!("  run of the first {place} events: {whole:?}"));
-        }
-        if (end.number, end.place, end.written) != (205, start as u64, whole.written) {
+        if (end.number, end.place, end.written) != (205, start as u64, 0) {
             return Err(format!(
                 "  run with event {place} damaged, at {start}: {end:?}"
             ));
         }
-        if wanted[..told] != self.output[..told] || out != wanted {
-            return Err(format!("  run with event {place} damaged: another output"));
+        if out.iter().any(|byte| *byte != UNTOUCHED) || fx != lent {
+            return Err(format!("  run with event {place} damaged: it wrote"));
         }
         Ok(())
     }

@@ -111,14 +111,14 @@ pub struct Effect {
 }
 
 #[repr(C)]
-pub struct Step {
+pub struct StepWords {
     pub answer: AnswerWords,
     pub effect: Effect,
     pub state: State,
 }
 
 #[repr(C)]
-pub struct Woken {
+pub struct WakeWords {
     pub answer: AnswerWords,
     pub reply: Reply,
     pub fds: List,
@@ -192,7 +192,7 @@ pub struct Args(pub [u64; 6]);
 const _: () = assert!(size_of::<Slot>() == 72 && size_of::<List>() == 17);
 const _: () = assert!(size_of::<Table>() == 4_936 && size_of::<Driver>() == 144);
 const _: () = assert!(size_of::<State>() == 5_080);
-const _: () = assert!(size_of::<Step>() == 5_120 && size_of::<Woken>() == 5_160);
+const _: () = assert!(size_of::<StepWords>() == 5_120 && size_of::<WakeWords>() == 5_160);
 const _: () = assert!(size_of::<ReadState>() == 5_096 && size_of::<Completed>() == 5_104);
 const _: () = assert!(size_of::<Regular>() == 24 && size_of::<OpenedWords>() == 24);
 const _: () = assert!(size_of::<Args>() == 48);
@@ -206,12 +206,12 @@ pub type Words = [u64; 1024];
 unsafe extern "C" {
     pub fn tilgurap_fresh(scheme: u64) -> State;
     pub fn tilgurap_status(s: State, out: *mut [u64; 8]);
-    pub fn tilgurap_open(s: State, description: u64) -> Step;
-    pub fn tilgurap_copy(s: State, description: u64) -> Step;
-    pub fn tilgurap_drop(s: State, description: u64) -> Step;
-    pub fn tilgurap_put(s: State, description: u64, handle: u64) -> Step;
-    pub fn tilgurap_ended(s: State, caller: u32) -> Step;
-    pub fn tilgurap_next_id(s: State, words: *mut Words, caller: u32) -> Step;
+    pub fn tilgurap_open(s: State, description: u64) -> StepWords;
+    pub fn tilgurap_copy(s: State, description: u64) -> StepWords;
+    pub fn tilgurap_drop(s: State, description: u64) -> StepWords;
+    pub fn tilgurap_put(s: State, description: u64, handle: u64) -> StepWords;
+    pub fn tilgurap_ended(s: State, caller: u32) -> StepWords;
+    pub fn tilgurap_next_id(s: State, words: *mut Words, caller: u32) -> StepWords;
     pub fn tilgurap_submit(
         s: State,
         words: *mut Words,
@@ -223,7 +223,7 @@ unsafe extern "C" {
         pid: u64,
         fds: *const u64,
         fds_len: usize,
-    ) -> Step;
+    ) -> StepWords;
     pub fn tilgurap_call(
         s: State,
         words: *mut Words,
@@ -235,7 +235,7 @@ unsafe extern "C" {
         pid: u64,
         fds: *const u64,
         fds_len: usize,
-    ) -> Step;
+    ) -> StepWords;
     pub fn tilgurap_call_generic(
         s: State,
         words: *mut Words,
@@ -247,7 +247,7 @@ unsafe extern "C" {
         len: u64,
         metadata: *const u64,
         metadata_len: usize,
-    ) -> Step;
+    ) -> StepWords;
     pub fn tilgurap_translate_std_fs_call(
         s: State,
         words: *mut Words,
@@ -259,7 +259,7 @@ unsafe extern "C" {
         len: u64,
         metadata: *const u64,
         metadata_len: usize,
-    ) -> Step;
+    ) -> StepWords;
     pub fn tilgurap_request_fmap(
         s: State,
         words: *mut Words,
@@ -270,9 +270,9 @@ unsafe extern "C" {
         uid: u32,
         gid: u32,
         pid: u64,
-    ) -> Step;
-    pub fn tilgurap_close(s: State, words: *mut Words, id: u64) -> Step;
-    pub fn tilgurap_detach(s: State, words: *mut Words, id: u64, pid: u64) -> Step;
+    ) -> StepWords;
+    pub fn tilgurap_close(s: State, words: *mut Words, id: u64) -> StepWords;
+    pub fn tilgurap_detach(s: State, words: *mut Words, id: u64, pid: u64) -> StepWords;
     pub fn tilgurap_wake(
         s: State,
         words: *mut Words,
@@ -281,7 +281,7 @@ unsafe extern "C" {
         killed: u64,
         base: u64,
         count: u64,
-    ) -> Woken;
+    ) -> WakeWords;
     pub fn tilgurap_read(
         s: State,
         words: *const Words,
@@ -303,13 +303,13 @@ unsafe extern "C" {
         metadata_len: usize,
         fds: *const u64,
         fds_len: usize,
-    ) -> Step;
+    ) -> StepWords;
     pub fn tilgurap_call_fdread(
         s: State,
         words: *mut Words,
         metadata: *const u64,
         metadata_len: usize,
-    ) -> Step;
+    ) -> StepWords;
     pub fn tilgurap_provide_mmap(
         s: State,
         words: *mut Words,
@@ -317,7 +317,7 @@ unsafe extern "C" {
         offset: u64,
         base: u64,
         count: u64,
-    ) -> Step;
+    ) -> StepWords;
     pub fn tilgurap_into_regular(reply: Reply, fds: List) -> AnswerWords;
     pub fn tilgurap_read_call_generic(reply: Reply, fds: List) -> Regular;
     pub fn tilgurap_kopenat(reply: Reply, fds: List) -> OpenedWords;

@@ -44,7 +44,7 @@ type CallGeneric = unsafe extern "C" fn(
     u64,
     *const u64,
     usize,
-) -> ffi::Step;
+) -> ffi::StepWords;
 
 impl Steps {
     /// A fresh state, given the scheme's number.
@@ -56,7 +56,7 @@ impl Steps {
         }
     }
 
-    fn stepped(&mut self, step: ffi::Step) -> Stepped {
+    fn stepped(&mut self, step: ffi::StepWords) -> Stepped {
         *self.state = step.state;
         Stepped {
             answer: step.answer,

@@ -5,7 +5,7 @@ use Rattle.call_inner.proofs.wake.Tie as tie
 use Prim.Native.Nat.{_%_}
 use mathlib.Core.Path.{refl, ap}
 use Rattle.wait_queue.specs.declared.Sent.{Sent}
-use Rattle.part.specs.Part.{found, leaves}
+use Rattle.part.specs.Part.{found}
 use Rattle.part.proofs.Laws.{slot-is, vacated-at}
 use Rattle.event_cases.proofs.Parts.{leads, stays-with, stored-with, rooted}
 use Rattle.call_inner.proofs.Cases.{bad-killed, no-slot, stays, killed-now, blocked-now, handed}

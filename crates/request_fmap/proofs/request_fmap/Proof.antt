@@ -4,7 +4,6 @@ use Rattle.request_fmap.proofs.request_fmap.Statement.{statement}
 use Rattle.request_fmap.proofs.request_fmap.Tie as tie
 use Prim.Native.Nat.{_%_}
 use mathlib.Core.Path.{refl, ap}
-use native.Mathlib.Omega.{arith}
 use borrow.Author.Tests.{le-leb, lt-leb}
 use Rattle.wait_queue.specs.declared.Sent.{Sent}
 use Rattle.part.specs.Part.{found}

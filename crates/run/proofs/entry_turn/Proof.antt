@@ -7,7 +7,7 @@ use Rattle.events.specs.World.{world}
 use Rattle.write.specs.Write.{stateWithHandles}
 use Rattle.part.specs.Part.{found}
 use native.Mathlib.Omega.{arith}
-use mathlib.Core.Path.{refl, _∙_}
+use mathlib.Core.Path.{refl}
 use borrow.Author.Needs.{needs}
 use Rattle.run.proofs.entry_turn.Statement.{statement}
 use Rattle.run.proofs.entry_turn.Tie as tie

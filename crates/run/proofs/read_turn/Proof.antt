@@ -2,7 +2,6 @@
 use borrow.Author.Needs.{needs}
 use Rattle.run.proofs.read_turn.Statement.{statement}
 use Rattle.run.proofs.read_turn.Tie as tie
-use Prim.Native.Nat.{min}
 use mathlib.Core.Path.{refl}
 use native.Mathlib.Omega.{arith}
 use Rattle.table.specs.Table.{noHolds}

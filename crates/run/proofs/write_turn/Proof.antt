@@ -2,8 +2,7 @@
 use borrow.Author.Needs.{needs}
 use Rattle.run.proofs.write_turn.Statement.{statement}
 use Rattle.run.proofs.write_turn.Tie as tie
-use Prim.Native.Nat.{ℕ, _+_, _*_, _≤_}
-use mathlib.Core.Path.{refl, sym, ap, _∙_, subst}
+use mathlib.Core.Path.{refl}
 use native.Mathlib.Omega.{arith}
 use Rattle.events.specs.World.{world}
 use Rattle.record.specs.Record.{tailAt, tailOf}
