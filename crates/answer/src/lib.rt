@@ -1,4 +1,4 @@
-// What an event answers: one case for each outcome, for all events. Each case's number and value in 01 stand in one table, `said`
+// What an event answers: one case for each outcome, for all events. Each case's number and value in 01 stand in one table, `saidWith`
 // (events/specs/Outcome.antt).
 use ids::Tag;
 

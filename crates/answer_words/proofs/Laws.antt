@@ -20,7 +20,7 @@ use Rattle.events.specs.Wake.{responseBy, responseFrom}
 use Rattle.answer_words.specs.declared.AnswerWords.{AnswerWords}
 use Rattle.answer_words.specs.declared.StepWords.{StepWords}
 use Rattle.answer_words.specs.declared.WakeWords.{WakeWords}
-use Rattle.answer_words.specs.Words.{wordsOf, responseWords, replyOf, listed, fdsOf, effectOf, Settled, SettledWake}
+use Rattle.answer_words.specs.Words.{wordsOf, responseWords, replyOf, manyIn, fdsOf, effectOf, Settled, SettledWake}
 
 -- the words of a case are those of the answer that is that case
 pub cased : (r : Response) (w : AnswerWords) (x a : Case) → w ≡ wordsOf (saidWith r x) → a ≡ x → w ≡ wordsOf (saidWith r a)
@@ -114,17 +114,17 @@ module _ (r : Reply) (l : Fds) where
   many-words b c = ap responseWords (others (r .kind) (λ e. omega (arith, b, e)) (λ e. omega (arith, b, e)) c)
 
   -- only many have a list
-  pub no-list : r .kind < 3 → listOf [] ≡ listOf (listed (responseFrom r l))
+  pub no-list : r .kind < 3 → listOf [] ≡ listOf (manyIn (responseFrom r l))
   no-list b = go (r .kind) b
     where
-      go : (k : ℕ) → k < 3 → listOf [] ≡ listOf (listed (responseBy k r l))
+      go : (k : ℕ) → k < 3 → listOf [] ≡ listOf (manyIn (responseBy k r l))
       go zero b = refl
       go (suc zero) b = refl
       go (suc (suc zero)) b = refl
       go (suc (suc (suc k))) b = absurd (omega (arith, b))
 
-  pub many-list : 3 ≤ r .kind → listOf (numbers l) ≡ listOf (listed (responseFrom r l))
-  many-list b = ap (λ (v : Response). listOf (listed v)) (others (r .kind) (λ e. omega (arith, b, e)) (λ e. omega (arith, b, e)) (λ e. omega (arith, b, e)))
+  pub many-list : 3 ≤ r .kind → listOf (numbers l) ≡ listOf (manyIn (responseFrom r l))
+  many-list b = ap (λ (v : Response). listOf (manyIn v)) (others (r .kind) (λ e. omega (arith, b, e)) (λ e. omega (arith, b, e)) (λ e. omega (arith, b, e)))
 
 -- effects
 pub no-effect : (e : Effect) → e .kind ≡ 0 → record { kind = 0; a = 0; b = 0 } ≡ effectOf (effectWords e)

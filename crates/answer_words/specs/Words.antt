@@ -37,18 +37,18 @@ replyOf blocked = noReply
 replyOf (reply r) = responseWords r
 
 -- the descriptions that a reply of many brings
-abbrev pub listed : Response → List ℕ
-listed (success w x n) = []
-listed (error e x n) = []
-listed (descriptor d) = []
-listed (many ds) = ds
+abbrev pub manyIn : Response → List ℕ
+manyIn (success w x n) = []
+manyIn (error e x n) = []
+manyIn (descriptor d) = []
+manyIn (many ds) = ds
 
 abbrev pub fdsOf : Answer → Fds
 fdsOf (ok v) = listOf []
 fdsOf (no k) = listOf []
 fdsOf wait = listOf []
 fdsOf blocked = listOf []
-fdsOf (reply r) = listOf (listed r)
+fdsOf (reply r) = listOf (manyIn r)
 
 -- the one effect, 0 for none
 abbrev pub effectOf : List ℕ → Effect

@@ -16,7 +16,7 @@ use Rattle.events.specs.World.{World, slotIn}
 use Rattle.events.specs.Outcome.{Response, success, Answer, ok, no, wait, blocked, reply, onOk}
 use Rattle.events.specs.Entry.{responseTo}
 use Rattle.events.specs.Event.{DriverEvent, hostPut, reserve, submit, call, generic, stdfs, fmap, close, detach, wake, read, write, move, obtain, supply, Event, hostOpen, hostCopy, hostDrop, hostEnded, on}
-use Rattle.events.specs.History.{What, Fact, to, end, gave, took, serve, block, interrupt, pass, filled, Stage, free, reserved, waits, replied, mapping, Call, change, book, View, tells, sends, wakes, reads, writes, moves, supplies, viewOf, entryAt, afterEntries, offers, served, poured, woke, supplied, news}
+use Rattle.events.specs.History.{What, Fact, to, end, gave, took, serve, block, interrupt, pass, filled, Stage, free, reserved, waits, replied, mapping, Call, change, book, View, tells, sends, wakes, reads, writes, moves, supplies, viewOf, entryAt, afterEntries, offers, served, poured, toldByWake, toldBySupply, news}
 use Rattle.events.specs.Demand3.{needs, fair, Every, Some, apart, source, sourced, onReply, sum}
 use Rattle.events.proofs.Stage.{num}
 use Rattle.events.proofs.Sane.{either, at-tag}
@@ -226,14 +226,14 @@ module _ (e : ℕ) where
   on-test P true g h p r = p
   on-test P false g h p r = r
 
-  woke-sorted : (n : ℕ) (a : Answer) (h : List Fact) → Sorted e 0 h → Later (woke n a ++ h)
+  woke-sorted : (n : ℕ) (a : Answer) (h : List Fact) → Sorted e 0 h → Later (toldByWake n a ++ h)
   woke-sorted n (ok v) h s = up 0 h s
   woke-sorted n (no k) h s = on-test (λ fs. Later (fs ++ h)) (eqb k 4) _ [] (over (to n interrupt ∷ []) h refl s) (up 0 h s)
   woke-sorted n wait h s = up 0 h s
   woke-sorted n blocked h s = over (to n block ∷ []) h refl s
   woke-sorted n (reply r) h s = over (to n (pass r) ∷ []) h refl s
 
-  supplied-sorted : (n : ℕ) (a : Answer) (h : List Fact) → Sorted e 0 h → Later (supplied n a ++ h)
+  supplied-sorted : (n : ℕ) (a : Answer) (h : List Fact) → Sorted e 0 h → Later (toldBySupply n a ++ h)
   supplied-sorted n (ok v) h s = over (to n filled ∷ []) h refl s
   supplied-sorted n (no k) h s = on-test (λ fs. Later (fs ++ h)) (eqb k 3) _ [] (over (to n filled ∷ []) h refl s) (up 0 h s)
   supplied-sorted n wait h s = up 0 h s

@@ -115,14 +115,14 @@ sum a p (to n x ∷ h) = onReply x (a (book h n)) p 0 + sum a p h
 sum a p (end c ∷ h) = sum a p h
 
 -- reply entries accepted; replies handed over; reply entries accepted when their call's caller had already ended
-abbrev pub accepted : List Fact → ℕ
-accepted h = sum (λ k. 1) 0 h
+abbrev pub acceptedEntries : List Fact → ℕ
+acceptedEntries h = sum (λ k. 1) 0 h
 
-abbrev pub handedOver : List Fact → ℕ
-handedOver h = sum (λ k. 0) 1 h
+abbrev pub handedReplies : List Fact → ℕ
+handedReplies h = sum (λ k. 0) 1 h
 
-abbrev pub droppedFor : List Fact → ℕ
-droppedFor h = sum (λ k. cond (k .ended) 1 0) 0 h
+abbrev pub droppedEntries : List Fact → ℕ
+droppedEntries h = sum (λ k. cond (k .ended) 1 0) 0 h
 
 -- still held: the count of ones in the status word Responded, one bit a slot; read from the state
 abbrev pub held : World → ℕ
@@ -134,7 +134,7 @@ pub record Demanded (r : Run) : Type 0 where
   pub replies : Every sourced (r .facts)  -- each reply handed over has its entry
   pub turn : (e : Event) → Right (turnOf r e) (owes (turnOf r e) (viewOf e))  -- whatever event comes next; so every event of a run, as each beginning of a run is a run
   -- "Accepted reply entries = replies handed over + still held + dropped for ended callers"
-  pub balance : accepted (r .facts) ≡ handedOver (r .facts) + (held (r .world) + droppedFor (r .facts))
+  pub balance : acceptedEntries (r .facts) ≡ handedReplies (r .facts) + (held (r .world) + droppedEntries (r .facts))
 
 -- of every run: any scheme number, any 1,024 words lent for the queue, any events, each on the state that the last step returned
 abbrev pub Demand3 : Type 0

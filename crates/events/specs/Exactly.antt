@@ -1,6 +1,6 @@
 -- What each event answers (01, "Where each refusal is checked"): the number of the first row whose condition holds, and where
 -- none does, what follows from what happened. Conditions are told by the history and by the queue's bytes; those on holds,
--- handles and lists by the state.
+-- handles and lists by the state. What else an event does stands in Effects.antt.
 use Prim.Native.Nat.{ℕ, zero, suc, min, _*_, _/_, _%_, _≤_}
 use mathlib.Core.Path.{_≡_}
 use mathlib.Core.Bool.{Bool, true, false, not, cond, _||_, _&&_}

@@ -153,27 +153,27 @@ poured i bs w zero = []
 poured i bs w (suc j) = served i j (afterEntries bs w j) (entryAt bs j) ++ poured i bs w j
 
 -- what happened to tag n, by the answer to a wake of it
-abbrev pub woke : ℕ → Answer → List Fact
-woke n (ok v) = []
-woke n (no k) = cond (eqb k 4) (to n interrupt ∷ []) []  -- refused with EINTR
-woke n wait = []
-woke n blocked = to n block ∷ []
-woke n (reply r) = to n (pass r) ∷ []
+abbrev pub toldByWake : ℕ → Answer → List Fact
+toldByWake n (ok v) = []
+toldByWake n (no k) = cond (eqb k 4) (to n interrupt ∷ []) []  -- refused with EINTR
+toldByWake n wait = []
+toldByWake n blocked = to n block ∷ []
+toldByWake n (reply r) = to n (pass r) ∷ []
 
 -- by the answer to a map supply to it
-abbrev pub supplied : ℕ → Answer → List Fact
-supplied n (ok v) = to n filled ∷ []
-supplied n (no k) = cond (eqb k 3) (to n filled ∷ []) []  -- refused with ESRCH
-supplied n wait = []
-supplied n blocked = []
-supplied n (reply r) = []
+abbrev pub toldBySupply : ℕ → Answer → List Fact
+toldBySupply n (ok v) = to n filled ∷ []
+toldBySupply n (no k) = cond (eqb k 3) (to n filled ∷ []) []  -- refused with ESRCH
+toldBySupply n wait = []
+toldBySupply n blocked = []
+toldBySupply n (reply r) = []
 
 -- what event i on state w tells, by its answer
 abbrev pub news : ℕ → World → View → Answer → List Fact
 news i w (tells f) a = onOk a f []
 news i w (sends f e flags) a = onOk a f []
-news i w (wakes n c killed span) a = woke n a
+news i w (wakes n c killed span) a = toldByWake n a
 news i w reads a = []
 news i w (writes words bs) a = poured i bs w (onOk a (λ v. v / 16) 0)  -- the entries that it counts
 news i w (moves ds) a = []
-news i w (supplies n) a = supplied n a
+news i w (supplies n) a = toldBySupply n a

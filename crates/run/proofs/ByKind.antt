@@ -21,7 +21,8 @@ use Rattle.record.specs.declared.Record.{Record}
 use Rattle.record.specs.Record.{recordOf, firstAt, secondAt, tailAt, tailOf, sizeOf, isEvent, nextOf, wordsAt, eventNamed, eventOf, eventAt}
 use Rattle.record.proofs.Laws.{all-there}
 use Rattle.run_room.specs.Room.{roomOf}
-use Rattle.run.specs.Run.{isWrite, isOnState, Told, writeIn, listIn, storedBy}
+use Rattle.events.specs.Effects.{isWrite}
+use Rattle.run.specs.Run.{isOnState, Told, writeIn, listIn, storedBy}
 
 module _ (r : Record) (xs ys bs : List ℕ) (lent : ℕ) where
   pub as-kind : (o : Outcome) (w : World) (n k : ℕ) → n ≡ k → o ≡ step w (eventNamed k r xs ys bs lent) → o ≡ step w (eventNamed n r xs ys bs lent)

@@ -1,15 +1,16 @@
 -- A run as bytes: decoded to events (crate record), run as `Run` of crate events has it, and told in bytes (crate outcome_bytes).
 use Prim.Native.Nat.{ℕ, _-_, _/_, min}
 use mathlib.Core.Path.{_≡_}
-use mathlib.Core.Bool.{Bool, true, false, cond, _||_, _&&_}
+use mathlib.Core.Bool.{Bool, false, cond, _||_, _&&_}
 use mathlib.Core.List.{List, [], _∷_, _++_}
 use lib.Dec.{eqb, leb, ltb}
 use lib.ListN.{length, take, drop, replicate}
 use lib.Seq.{sets}
 use Rattle.events.specs.World.{World}
 use Rattle.events.specs.Event.{wake, read, write, Event, on, step}
-use Rattle.events.specs.History.{View, tells, sends, wakes, reads, writes, moves, supplies, viewOf}
+use Rattle.events.specs.History.{viewOf}
 use Rattle.events.specs.Run.{Turn, Run, run}
+use Rattle.events.specs.Effects.{isWrite}
 use Rattle.outcome_bytes.specs.Output.{outcomeBytes}
 use Rattle.state_bytes.specs.StateBytes.{stateBytes}
 use Rattle.record.specs.declared.Record.{Record}
@@ -22,15 +23,6 @@ abbrev pub runOf : ℕ → ℕ → List ℕ → Run
 runOf scheme lent bs = run scheme (replicate 1024 0) (decoded lent bs .events)
 
 -- what an event stores in the words that writes are lent
-abbrev pub isWrite : View → Bool
-isWrite (tells f) = false
-isWrite (sends f e flags) = false
-isWrite (wakes n c killed span) = false
-isWrite reads = false
-isWrite (writes words bs) = true
-isWrite (moves ds) = false
-isWrite (supplies n) = false
-
 abbrev pub storedBy : World → Event → List ℕ
 storedBy w e = cond (isWrite (viewOf e)) (step w e .effects) []
 
