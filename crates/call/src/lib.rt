@@ -107,7 +107,7 @@ pub fn call(
                     let flags = flag::event_read();
                     let fx = effect::root(p.scheme, flags);
                     return CallStep {
-                        answer: Answer::Given(Tag(n as u64)),
+                        answer: Answer::Given(Tag(n)),
                         effect: fx,
                         part: after,
                         holds: holds,

@@ -74,7 +74,7 @@ fn call_with(
     let bits = flag::event_read();
     let fx = effect::root(p.scheme, bits);
     GenericStep {
-        answer: Answer::Given(Tag(n as u64)),
+        answer: Answer::Given(Tag(n)),
         effect: fx,
         part: after,
     }

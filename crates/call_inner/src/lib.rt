@@ -130,7 +130,7 @@ pub fn wake(
             let reply = v.reply;
             let fds = v.fds;
             let out = wake_decision::holds_in(reply, fds);
-            let after = part::vacated(p, n.0);
+            let after = part::vacated(p, n.0 as u64);
             return WakeStep {
                 answer: Answer::Replied,
                 reply: reply,

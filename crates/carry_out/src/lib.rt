@@ -31,7 +31,7 @@ pub fn slot_after(tag: u64, act: Act, new: Slot, old: Slot) -> Slot
 }
 
 // The chain afterwards: a vacated slot is its first.
-pub fn next_after(tag: u64, act: Act, next: u8, head: u8) -> u8
+pub fn next_after(tag: u64, act: Act, next: u64, head: u64) -> u64
     ensures { λ r. ⌜ r ≡ nextAfter (ltb tag 64) act next head ⌝ }
 {
     if 64 <= tag {
@@ -44,7 +44,7 @@ pub fn next_after(tag: u64, act: Act, next: u8, head: u8) -> u8
     }
 }
 
-pub fn head_after(tag: u64, act: Act, head: u8) -> u8
+pub fn head_after(tag: u64, act: Act, head: u64) -> u64
     ensures { λ r. ⌜ r ≡ headAfter (ltb tag 64) act tag head ⌝ }
 {
     if 64 <= tag {
@@ -53,6 +53,6 @@ pub fn head_after(tag: u64, act: Act, head: u8) -> u8
     match act {
         Act::Leave => head,
         Act::Store => head,
-        Act::Vacate => tag as u8,
+        Act::Vacate => tag,
     }
 }

@@ -47,7 +47,7 @@ fn close_at(fx: &mut [u64], at: usize, k: usize, d: Description)
 
 // One hold dropped, with its close where it was the last and one follows: k closes before it, so many after it.
 fn drop_step(
-    a: &mut [u16],
+    a: &mut [u64],
     d: Description,
     follows: bool,
     fx: &mut [u64],
@@ -71,7 +71,7 @@ fn drop_step(
 }
 
 // A list's holds dropped, the closes stored from word `at` in list order; says how many closes these are.
-pub fn drop_all(a: &mut [u16], l: List, follows: bool, fx: &mut [u64], at: usize) -> usize
+pub fn drop_all(a: &mut [u64], l: List, follows: bool, fx: &mut [u64], at: usize) -> usize
     ensures { λ r. ⌜ r ≡ length (only follows (lasts (now (a .entry)) (numbers l))) ⌝ }
     ensures { λ r. ⌜ now (a .exit) ≡ lessAll (now (a .entry)) (numbers l) ⌝ }
     ensures { λ r. ⌜ now (fx .exit) ≡ sets (now (fx .entry)) at (closes (only follows (lasts (now (a .entry)) (numbers l)))) ⌝ }

@@ -14,7 +14,7 @@ fn place(d: Description) -> usize
 }
 
 // How many holds a description has.
-pub fn count_at(a: &[u16], d: Description) -> u16
+pub fn count_at(a: &[u64], d: Description) -> u64
     ensures { λ r. ⌜ r ≡ getD (now (a .entry)) (d .0) 0 ⌝ }
 {
     let i = place(d);
@@ -25,7 +25,7 @@ pub fn count_at(a: &[u16], d: Description) -> u16
 }
 
 // One hold less; says whether it was the last.
-pub fn lower(a: &mut [u16], d: Description) -> bool
+pub fn lower(a: &mut [u64], d: Description) -> bool
     ensures { λ r. ⌜ r ≡ last (now (a .entry)) (d .0) ⌝ }
     ensures { λ r. ⌜ now (a .exit) ≡ less (now (a .entry)) (d .0) ⌝ }
 {
@@ -42,7 +42,7 @@ pub fn lower(a: &mut [u16], d: Description) -> bool
 }
 
 // One hold more; 65,535 stays.
-pub fn higher(a: &mut [u16], d: Description)
+pub fn higher(a: &mut [u64], d: Description)
     ensures { λ r. ⌜ now (a .exit) ≡ more (now (a .entry)) (d .0) ⌝ }
 {
     let i = place(d);
@@ -57,7 +57,7 @@ pub fn higher(a: &mut [u16], d: Description)
 }
 
 // One hold more for each entry of a list.
-pub fn raise_all(a: &mut [u16], l: List)
+pub fn raise_all(a: &mut [u64], l: List)
     ensures { λ r. ⌜ now (a .exit) ≡ moreAll (now (a .entry)) (numbers l) ⌝ }
 {
     let n = fd_list::size(l);

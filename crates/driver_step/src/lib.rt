@@ -40,7 +40,7 @@ pub struct ReadPart {
 
 pub fn wake(
     p: Part,
-    outside: &mut [u16; 64],
+    outside: &mut [u64; 64],
     words: &mut [u64; 1024],
     tag: Tag,
     caller: u32,
@@ -81,8 +81,8 @@ pub fn read(p: Part, words: &[u64; 1024], out: &mut [u8], flags: u32) -> ReadPar
 
 pub fn call_fdwrite(
     p: Part,
-    all: &mut [u16; 64],
-    outside: &mut [u16; 64],
+    all: &mut [u64; 64],
+    outside: &mut [u64; 64],
     metadata: &[u64],
     fds: &[u64],
 ) -> PartStep
@@ -112,8 +112,8 @@ pub fn call_fdwrite(
 
 pub fn call_fdread(
     p: Part,
-    all: &mut [u16; 64],
-    outside: &mut [u16; 64],
+    all: &mut [u64; 64],
+    outside: &mut [u64; 64],
     metadata: &[u64],
 ) -> PartStep
     ensures { λ r. ⌜ ((s : AnyState) (ws : Words ℕ) → Stands s (requestOf (now (metadata .entry)) % 64) p → outcome (said (r .answer)) (effectWords (r .effect)) (world (leaves s (requestOf (now (metadata .entry)) % 64) (r .part) (holdsWith (now (all .exit)) (now (outside .exit)))) ws) ≡ obtainCallOf (world (found s p (holdsWith (now (all .entry)) (now (outside .entry)))) ws) (now (metadata .entry))) ⌝ }

@@ -21,8 +21,8 @@ pub fn descriptor(
     v: Slot,
     tag: u64,
     fd: Handle,
-    all: &mut [u16; 64],
-    n: &mut [u16; 64],
+    all: &mut [u64; 64],
+    n: &mut [u64; 64],
     fx: &mut [u64],
     at: usize,
 ) -> Responded
@@ -34,7 +34,7 @@ pub fn descriptor(
     if held == 0 {
         return respond::refused(v, 22);
     }
-    let word = (held - 1) as u64;
+    let word = held - 1;
     handles::empty_handle(n, fd);
     let r = respond::respond(v, tag, Offer::Fd(word), all, fx, at);
     if r.number == 0 {
@@ -55,8 +55,8 @@ pub fn descriptor(
 pub fn obtain(
     v: Slot,
     fd: Handle,
-    all: &mut [u16; 64],
-    n: &mut [u16; 64],
+    all: &mut [u64; 64],
+    n: &mut [u64; 64],
     fx: &mut [u64],
     at: usize,
 ) -> Responded

@@ -17,8 +17,8 @@ ghost use Rattle.respond.specs.Respond.{AsDecided};
 pub fn handle_parsed(
     p: ParsedCqe,
     v: Slot,
-    all: &mut [u16; 64],
-    n: &mut [u16; 64],
+    all: &mut [u64; 64],
+    n: &mut [u64; 64],
     fx: &mut [u64],
     at: usize,
 ) -> Responded

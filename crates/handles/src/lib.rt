@@ -14,7 +14,7 @@ ghost use Rattle.handles.specs.Handles.{handlesWith, heldAt, isFree, int
 // Handle n is empty (0) or holds description d (d + 1).
 #[repr(C)]
 pub struct Handles {
-    pub at: [u16; 64],
+    pub at: [u64; 64],
 }
 
 // How many closes follow, and the list without its first.
@@ -24,12 +24,12 @@ pub struct Obtained {
 }
 
 // Nothing but what is known of so many words: there are 64.
-fn known(a: [u16; 64])
+fn known(a: [u64; 64])
     ensures { λ r. ⌜ length a ≡ 64 ⌝ }
 {}
 
 // What handle k holds; one over 63 is empty.
-pub fn held_at(n: &[u16; 64], k: Handle) -> u16
+pub fn held_at(n: &[u64; 64], k: Handle) -> u64
     ensures { λ r. ⌜ r ≡ heldAt (handlesWith (now (n .entry))) (k .0) ⌝ }
 {
     let a = *n;
@@ -61,12 +61,12 @@ pub fn put_into(n: Handles, k: Handle, d: Description) -> Handles
         return n;
     }
     let mut m = n;
-    m.at[i as usize] = d.0 as u16 + 1;
+    m.at[i as usize] = d.0 as u64 + 1;
     m
 }
 
 // Handle k is empty from now on.
-pub fn empty_handle(n: &mut [u16; 64], k: Handle)
+pub fn empty_handle(n: &mut [u64; 64], k: Handle)
     ensures { λ r. ⌜ handlesWith (now (n .exit)) ≡ emptied (handlesWith (now (n .entry))) (k .0) ⌝ }
 {
     let a = *n;
@@ -80,8 +80,8 @@ pub fn empty_handle(n: &mut [u16; 64], k: Handle)
 
 // The first of a list goes to handle k; where that is full or over 63, its hold is dropped.
 pub fn obtain(
-    all: &mut [u16; 64],
-    n: &mut [u16; 64],
+    all: &mut [u64; 64],
+    n: &mut [u64; 64],
     l: List,
     k: Handle,
     fx: &mut [u64],

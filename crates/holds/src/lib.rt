@@ -10,8 +10,8 @@ ghost use Rattle.holds.specs.Holds.{discardedOf, outsideOf, heldOf};
 // For each description all its holds, and how many of them are outside.
 #[repr(C)]
 pub struct Holds {
-    pub holds: [u16; 64],
-    pub outside: [u16; 64],
+    pub holds: [u64; 64],
+    pub outside: [u64; 64],
 }
 
 // A list's holds dropped; what follows of closes is discarded.
@@ -42,7 +42,7 @@ pub fn to_outside(h: Holds, l: List) -> Holds
 }
 
 // How many holds a description has.
-pub fn count_of(h: Holds, d: Description) -> u16
+pub fn count_of(h: Holds, d: Description) -> u64
     ensures { λ r. ⌜ r ≡ getD (h .holds) (d .0) 0 ⌝ }
 {
     let all = h.holds;
@@ -59,7 +59,7 @@ pub fn held_of(h: Holds, word: u64) -> DescriptionFound
 }
 
 // The same on the counts alone, `outside` those that are left.
-pub fn held_outside(all: &[u16], outside: &[u16], word: u64) -> DescriptionFound
+pub fn held_outside(all: &[u64], outside: &[u64], word: u64) -> DescriptionFound
     ensures { λ r. ⌜ r ≡ heldOf (now (all .entry)) (now (outside .entry)) word ⌝ }
 {
     let found = ids::description_of(word);

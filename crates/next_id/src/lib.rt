@@ -31,7 +31,7 @@ pub fn next_id(p: Part, caller: u32) -> NextIdStep
     let q = p.queue;
     let u = part::given(p, v, q);
     NextIdStep {
-        answer: Answer::Given(Tag(n as u64)),
+        answer: Answer::Given(Tag(n)),
         part: u,
     }
 }

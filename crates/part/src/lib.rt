@@ -8,8 +8,8 @@ ghost use Rattle.part.specs.Part.{givenOf, storedOf, vacatedOf, queuedOf
 #[repr(C)]
 pub struct Part {
     pub slot: Slot,
-    pub next: u8,
-    pub head: u8,
+    pub next: u64,
+    pub head: u64,
     pub queue: WaitQueue,
     pub scheme: u64,
 }
@@ -41,7 +41,7 @@ pub fn stored(p: Part, v: Slot, q: WaitQueue) -> Part
 }
 
 // The slot, whose number is n, becomes vacant and the first of the chain.
-pub fn vacated(p: Part, n: u8) -> Part
+pub fn vacated(p: Part, n: u64) -> Part
     ensures { λ r. ⌜ r ≡ vacatedOf p n ⌝ }
 {
     let v = slot::vacant();

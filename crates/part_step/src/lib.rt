@@ -40,17 +40,17 @@ fn second_word(list: &[u64]) -> u64
 }
 
 // The slot that an event looks at: a tag's, the request's, or the first vacant one. An event that looks at none may have any.
-pub fn place(r: Record, first: &[u64], head: u8) -> usize
+pub fn place(r: Record, first: &[u64], head: u64) -> usize
     ensures { λ o. ⌜ (o ≡ placeOf (r .kind) r (now (first .entry)) head) × (o < 64) ⌝ }
 {
     let a = r.words;
     let kind = r.kind;
     match kind {
-        6 => place_of(head as u64),
-        8 => place_of(head as u64),
-        9 => place_of(head as u64),
-        10 => place_of(head as u64),
-        11 => place_of(head as u64),
+        6 => place_of(head),
+        8 => place_of(head),
+        9 => place_of(head),
+        10 => place_of(head),
+        11 => place_of(head),
         17 => place_of(second_word(first)),
         18 => place_of(second_word(first)),
         _ => place_of(a.0),
@@ -60,8 +60,8 @@ pub fn place(r: Record, first: &[u64], head: u8) -> usize
 // The event of a record with its lists. A kind that is none of these is taken for a supply.
 pub fn one_effect(
     p: Part,
-    all: &mut [u16; 64],
-    outside: &mut [u16; 64],
+    all: &mut [u64; 64],
+    outside: &mut [u64; 64],
     words: &mut [u64; 1024],
     r: Record,
     first: &[u64],

@@ -68,7 +68,7 @@ pub fn provide_mmap(p: Part, tag: Tag, offset: u64, base: u64, count: u64) -> Pr
             part: p,
         },
         Phase::Fmap => {
-            let after = part::vacated(p, n.0);
+            let after = part::vacated(p, n.0 as u64);
             if v.ended {
                 return ProvideMmap {
                     answer: Answer::NoCaller,

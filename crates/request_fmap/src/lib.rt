@@ -68,7 +68,7 @@ pub fn request_fmap(
     let bits = flag::event_read();
     let fx = effect::root(p.scheme, bits);
     FmapStep {
-        answer: Answer::Given(Tag(n as u64)),
+        answer: Answer::Given(Tag(n)),
         effect: fx,
         part: after,
     }

@@ -45,7 +45,7 @@ fn unmap(span: PageSpan, fx: &mut [u64], at: usize) -> usize
 }
 
 // The span, then the list's closes; says how many words.
-fn release(v: Slot, gone: List, all: &mut [u16; 64], fx: &mut [u64], at: usize) -> usize
+fn release(v: Slot, gone: List, all: &mut [u64; 64], fx: &mut [u64], at: usize) -> usize
     requires { ⌜ at ≤ 0x2000_0000_0000_0000 ⌝ }
     ensures { λ r. ⌜ ((o : Words ℕ) → holdsWith (now (all .exit)) o ≡ dropped (holdsWith (now (all .entry)) o) (numbers gone)) ⌝ }
     ensures { λ r. ⌜ ((o : Words ℕ) → r ≡ length (releaseOf v (numbers gone) (holdsWith (now (all .entry)) o))) ⌝ }
@@ -64,7 +64,7 @@ fn stored_in(
     v: Slot,
     tag: u64,
     p: Parts,
-    all: &mut [u16; 64],
+    all: &mut [u64; 64],
     fx: &mut [u64],
     at: usize,
 ) -> Responded
@@ -88,7 +88,7 @@ fn stored_in(
 }
 
 // To one whose caller has ended: the slot is vacated, the reply's own holds are dropped after the list's.
-fn lost_in(v: Slot, p: Parts, all: &mut [u16; 64], fx: &mut [u64], at: usize) -> Responded
+fn lost_in(v: Slot, p: Parts, all: &mut [u64; 64], fx: &mut [u64], at: usize) -> Responded
     requires { ⌜ at ≤ 0x1000_0000_0000_0000 ⌝ }
     ensures { λ r. ⌜ ((o : Words ℕ) (n : Handles) → AsDecided r (holdsWith (now (all .exit)) o) n (lostOf v (numbers (p .gone)) (numbers (p .own)) (holdsWith (now (all .entry)) o) n)) ⌝ }
     ensures { λ r. ⌜ ((o : Words ℕ) (n : Handles) → now (fx .exit) ≡ sets (now (fx .entry)) at (lostOf v (numbers (p .gone)) (numbers (p .own)) (holdsWith (now (all .entry)) o) n .effects)) ⌝ }
@@ -134,7 +134,7 @@ pub fn respond(
     v: Slot,
     tag: u64,
     offer: Offer,
-    all: &mut [u16; 64],
+    all: &mut [u64; 64],
     fx: &mut [u64],
     at: usize,
 ) -> Responded

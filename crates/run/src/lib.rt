@@ -61,7 +61,7 @@ struct WholeTurned {
 
 fn wake_turn(
     p: Part,
-    outside: &mut [u16; 64],
+    outside: &mut [u64; 64],
     words: &mut [u64; 1024],
     r: Record,
     out: &mut [u8],
@@ -92,7 +92,7 @@ fn read_turn(p: Part, words: &[u64; 1024], r: Record, buf: &mut [u8], out: &mut 
     let a = r.words;
     let q = p.queue;
     let n = run_room::least(a.0, 8192);
-    let k = run_room::least(n as u64, q.len as usize * 64);
+    let k = wait_queue_receive::copied(n, q.len);
     let o = driver_step::read(p, words, &mut buf[..n], r.number);
     let answer = o.answer;
     let after = o.part;
@@ -106,8 +106,8 @@ fn read_turn(p: Part, words: &[u64; 1024], r: Record, buf: &mut [u8], out: &mut 
 // An event of at most one effect but the wake, with its lists.
 fn list_turn(
     p: Part,
-    all: &mut [u16; 64],
-    outside: &mut [u16; 64],
+    all: &mut [u64; 64],
+    outside: &mut [u64; 64],
     words: &mut [u64; 1024],
     r: Record,
     first: &[u64],
@@ -188,8 +188,8 @@ fn entry_of(rec: &[u8], r: Record) -> Cqe
 // A write of one entry, on the part at its tag; it is lent no more words than there are.
 fn entry_turn(
     p: Part,
-    all: &mut [u16; 64],
-    handles: &mut [u16; 64],
+    all: &mut [u64; 64],
+    handles: &mut [u64; 64],
     e: Cqe,
     r: Record,
     fx: &mut [u64],
@@ -213,8 +213,8 @@ fn entry_turn(
 // An event on its part. Its lists stand in the first of the words lent for them.
 fn turn(
     p: Part,
-    all: &mut [u16; 64],
-    outside: &mut [u16; 64],
+    all: &mut [u64; 64],
+    outside: &mut [u64; 64],
     words: &mut [u64; 1024],
     r: Record,
     first: &[u64],
@@ -318,7 +318,7 @@ fn state_turn(
 }
 
 // The lists of a record, into the words lent for them, and the slot that its event looks at.
-fn find(rec: &[u8], r: Record, head: u8, first: &mut [u64], second: &mut [u64]) -> usize
+fn find(rec: &[u8], r: Record, head: u64, first: &mut [u64], second: &mut [u64]) -> usize
     requires { ⌜ (255 ≤ length (now first)) × (255 ≤ length (now second)) ⌝ }
     ensures { λ o. ⌜ (o ≡ placeOf (r .kind) r (wordsAt (now (rec .entry)) (firstAt r) (r .first)) head) × (o < 64) ⌝ }
     ensures { λ o. ⌜ (length (now (first .exit)) ≡ length (now (first .entry))) × (take (r .first) (now (first .exit)) ≡ wordsAt (now (rec .entry)) (firstAt r) (r .first)) ⌝ }

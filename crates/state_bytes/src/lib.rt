@@ -16,20 +16,14 @@ ghost use Rattle.state_bytes.specs.StateBytes.{statusPair, statusWords, 
 // How many bytes it takes.
 pub const STATE_SIZE: usize = 1608;
 
-fn wide(x: u16) -> u64
-    ensures { λ r. ⌜ r ≡ x ⌝ }
-{
-    x as u64
-}
-
-fn put_counts(out: &mut [u8], at: usize, a: &[u16])
+fn put_counts(out: &mut [u8], at: usize, a: &[u64])
     requires { ⌜ (at ≤ 0x4000_0000_0000_0000) × (length (now a) ≤ 64) ⌝ }
     ensures { λ r. ⌜ now (out .exit) ≡ sets (now (out .entry)) at (bytesOf (now (a .entry))) ⌝ }
 {
     let n = a.len();
     let mut i = 0;
     while i < n {
-        le_put::put8(out, at + 8 * i, wide(a[i]));
+        le_put::put8(out, at + 8 * i, a[i]);
         i += 1;
     }
 }
@@ -92,7 +86,7 @@ pub fn put_state(out: &mut [u8], s: State)
     let d = s.driver;
     let n = d.handles;
     let q = d.queue;
-    le_put::put8(out, 0, q.len as u64);
+    le_put::put8(out, 0, q.len);
     put_holds(out, 8, h);
     put_outside(out, 520, h);
     put_handles(out, 1032, n);

@@ -32,8 +32,8 @@ pub fn next_id(p: Part, caller: u32) -> PartStep
 
 pub fn submit(
     p: Part,
-    all: &mut [u16; 64],
-    outside: &mut [u16; 64],
+    all: &mut [u64; 64],
+    outside: &mut [u64; 64],
     words: &mut [u64; 1024],
     tag: Tag,
     caller: u32,
@@ -69,8 +69,8 @@ pub fn submit(
 
 pub fn call(
     p: Part,
-    all: &mut [u16; 64],
-    outside: &mut [u16; 64],
+    all: &mut [u64; 64],
+    outside: &mut [u64; 64],
     words: &mut [u64; 1024],
     caller: u32,
     opcode: u64,

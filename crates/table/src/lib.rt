@@ -9,12 +9,12 @@ ghost use Rattle.table.specs.Table.{freshTable};
 #[repr(C)]
 pub struct Table {
     pub slots: [Slot; 64],
-    pub next: [u8; 64],
-    pub head: u8,
+    pub next: [u64; 64],
+    pub head: u64,
     pub holds: Holds,
 }
 
-const RISING: [u8; 64] = [
+const RISING: [u64; 64] = [
     1,
     2,
     3,

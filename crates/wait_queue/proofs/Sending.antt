@@ -1,9 +1,10 @@
 -- What `send` leaves, full or not. Assumes nothing.
-use mathlib.Core.Path.{_≡_, refl, sym, ap, _∙_}
+use mathlib.Core.Path.{_≡_, refl, sym, ap, ap₂, _∙_}
 use mathlib.Core.Bool.{Bool, true, false, cond}
 use mathlib.Core.List.{List, [], _∷_}
-use Prim.Native.Nat.{ℕ, suc, _+_, _<_, _≤_}
+use Prim.Native.Nat.{ℕ, suc, _+_, _*_, _%_, _<_, _≤_}
 use native.Mathlib.Omega.{arith}
+use native.Mathlib.Nat.{div-add-mod'}
 use lib.Dec.{leb}
 use lib.ListN.{set}
 use lib.Seq.{sets}
@@ -42,6 +43,10 @@ stores l k a b c d e f g h =
     p₇ : k + 7 ≡ suc (suc (suc (suc (suc (suc (suc k))))))
     p₇ = omega arith
 
+-- the place of the next entry, with a sum that fits its word
+pub place-fits : (f n : ℕ) → (f % 128 + n) % 128 * 8 ≡ (f + n) % 128 * 8
+place-fits f n = omega (arith, div-add-mod' f 128, div-add-mod' (f % 128 + n) 128, div-add-mod' (f + n) 128)
+
 module _ (q : WaitQueue) (ws : List ℕ) (e : Sqe) where
   sent-by : (b : Bool) → leb 128 (q .len) ≡ b → (sentIf b q ≡ sentOf q) × (cond b ws (sets ws (placeOf q) (sqeWords e)) ≡ sentWords q ws e)
   sent-by b p =
@@ -51,14 +56,14 @@ module _ (q : WaitQueue) (ws : List ℕ) (e : Sqe) where
   full h = sent-by true (le-leb 128 (q .len) h)
 
   pub queued :
-      (k : ℕ) → k ≡ headOf e → q .len < 128
+      (k p : ℕ) → k ≡ headOf e → p ≡ placeOf q → q .len < 128
       → (sentIf false q ≡ sentOf q)
-      × (set (set (set (set (set (set (set (set ws (placeOf q) k) (placeOf q + 1) (e .args .0)) (placeOf q + 2) (e .args .1)) (placeOf q + 3) (e .args .2)) (placeOf q + 4) (e .args .3)) (placeOf q + 5) (e .args .4)) (placeOf q + 6) (e .args .5)) (placeOf q + 7) (e .caller)
+      × (set (set (set (set (set (set (set (set ws p k) (p + 1) (e .args .0)) (p + 2) (e .args .1)) (p + 3) (e .args .2)) (p + 4) (e .args .3)) (p + 5) (e .args .4)) (p + 6) (e .args .5)) (p + 7) (e .caller)
       ≡ sentWords q ws e)
-  queued k p h =
+  queued k p d r h =
       let s = sent-by false (lt-leb 128 (q .len) h) in (
         s .0,
-        stores ws (placeOf q) k (e .args .0) (e .args .1) (e .args .2) (e .args .3) (e .args .4) (e .args .5) (e .caller)
-            ∙ ap (λ (w : ℕ). sets ws (placeOf q) (w ∷ e .args .0 ∷ e .args .1 ∷ e .args .2 ∷ e .args .3 ∷ e .args .4 ∷ e .args .5 ∷ e .caller ∷ [])) p
+        stores ws p k (e .args .0) (e .args .1) (e .args .2) (e .args .3) (e .args .4) (e .args .5) (e .caller)
+            ∙ ap₂ (λ (w j : ℕ). sets ws j (w ∷ e .args .0 ∷ e .args .1 ∷ e .args .2 ∷ e .args .3 ∷ e .args .4 ∷ e .args .5 ∷ e .caller ∷ [])) d r
             ∙ s .1,
       )

@@ -8,8 +8,8 @@ ghost use Rattle.wait_queue.specs.Queue.{headOf, sentOf, sentWords};
 // The place of the oldest entry and how many are unread.
 #[repr(C)]
 pub struct WaitQueue {
-    pub first: u8,
-    pub len: u8,
+    pub first: u64,
+    pub len: u64,
 }
 
 pub struct Sent {
@@ -34,7 +34,7 @@ pub fn send(q: WaitQueue, words: &mut [u64; 1024], e: Sqe) -> Sent
             queue: q,
         };
     }
-    let place = (q.first as usize + len as usize) % 128 * 8;
+    let place = ((q.first % 128 + len) % 128 * 8) as usize;
     let args = e.args;
     words[place] = head(e);
     words[place + 1] = args.0;

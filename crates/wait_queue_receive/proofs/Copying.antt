@@ -4,7 +4,7 @@ use mathlib.Core.Bool.{Bool, true, false}
 use mathlib.Core.List.{List, _∷_}
 use Prim.Native.Nat.{ℕ, suc, min, _+_, _-_, _*_, _/_, _%_, _<_, _≤_}
 use native.Mathlib.Omega.{arith}
-use native.Mathlib.Nat.{add-zero}
+use native.Mathlib.Nat.{add-zero, div-add-mod'}
 use lib.Dec.{eqb, ltb}
 use borrow.Author.Tests.{ltb-true, ltb-false, eq-eqb, ne-eqb}
 use lib.ListN.{length, getD, set, take, drop}
@@ -16,6 +16,13 @@ use Rattle.answer.specs.declared.Answer.the-variants.{Bytes}
 use Rattle.wait_queue_receive.specs.declared.Received.{Received}
 use Rattle.wait_queue.specs.Queue.{wordAt, wordsFrom, unread, removed}
 use Rattle.wait_queue_receive.specs.Receive.{emptyBy, emptyOf, receivedIf, receivedOf, copiedOf}
+
+-- places in the ring, with sums that fit a word
+pub word-fits : (f i : ℕ) → (f % 128 * 8 + i % 1024) % 1024 ≡ (f * 8 + i) % 1024
+word-fits f i = omega (arith, div-add-mod' f 128, div-add-mod' i 1024, div-add-mod' (f * 8 + i) 1024)
+
+pub first-fits : (f k : ℕ) → (f % 128 + k) % 128 ≡ (f + k) % 128
+first-fits f k = omega (arith, div-add-mod' f 128, div-add-mod' (f % 128 + k) 128, div-add-mod' (f + k) 128)
 
 -- one byte more of a list b
 module _ (l b : List ℕ) (at n : ℕ) where
@@ -141,9 +148,10 @@ module _ (q : WaitQueue) (ws out : List ℕ) (flags : ℕ) where
       nothing = omega (arith, e)
 
   pub some :
-      (r : List ℕ) (n : ℕ) → n ≡ min (length out) (q .len * 64) → (q .len ≡ 0 → ⊥) → r ≡ sets out 0 (take n (unread q ws))
-      → (_≡_ {A = Received} (record { answer = Bytes n; queue = removed q (n / 64) }) (receivedOf q (length out) flags)) × (r ≡ copiedOf q ws out)
-  some r n p ne e = (
-    ap (λ (k : ℕ). record { answer = Bytes k; queue = removed q (k / 64) }) p ∙ received-by false (ne-eqb (q .len) 0 ne),
+      (r : List ℕ) (n : ℕ) → n ≡ min (length out) (q .len * 64) → (q .len ≡ 0 → ⊥) → r ≡ sets out 0 (take n (unread q ws)) → (f : ℕ) → f ≡ (q .first + n / 64) % 128
+      → (_≡_ {A = Received} (record { answer = Bytes n; queue = record { first = f; len = q .len - n / 64 } }) (receivedOf q (length out) flags)) × (r ≡ copiedOf q ws out)
+  some r n p ne e f g = (
+    ap (λ (j : ℕ). record { answer = Bytes n; queue = record { first = j; len = q .len - n / 64 } }) g
+        ∙ ap (λ (k : ℕ). record { answer = Bytes k; queue = removed q (k / 64) }) p ∙ received-by false (ne-eqb (q .len) 0 ne),
     e ∙ ap (λ (k : ℕ). sets out 0 (take k (unread q ws))) p,
   )

@@ -16,10 +16,9 @@ pub struct Received {
 
 // Word number i of the unread ones.
 fn word_at(q: WaitQueue, words: &[u64; 1024], i: usize) -> u64
-    requires { ⌜ i ≤ 4096 ⌝ }
     ensures { λ r. ⌜ r ≡ wordAt q (now (words .entry)) i ⌝ }
 {
-    words[(q.first as usize * 8 + i) % 1024]
+    words[((q.first % 128) as usize * 8 + i % 1024) % 1024]
 }
 
 fn word_bytes(w: u64) -> [u8; 8]
@@ -80,13 +79,14 @@ fn empty(room: usize, flags: u32) -> Answer
     Answer::Again
 }
 
-fn least(a: usize, b: usize) -> usize
-    ensures { λ r. ⌜ r ≡ min a b ⌝ }
+// How many bytes of so many entries are copied into so much room. The product is made only where it fits.
+pub fn copied(room: usize, len: u64) -> usize
+    ensures { λ r. ⌜ r ≡ min room (len * 64) ⌝ }
 {
-    if a <= b {
-        return a;
+    if ((room / 64) as u64) < len {
+        return room;
     }
-    b
+    len as usize * 64
 }
 
 // `receive_into_user`: whole entries that were copied are removed, a part entry comes again.
@@ -100,14 +100,14 @@ pub fn receive(q: WaitQueue, words: &[u64; 1024], out: &mut [u8], flags: u32) ->
             queue: q,
         };
     }
-    let n = least(out.len(), len as usize * 64);
+    let n = copied(out.len(), len);
     copy(q, words, out, n);
-    let gone = n / 64;
+    let gone = (n / 64) as u64;
     Received {
         answer: Answer::Bytes(n as u64),
         queue: WaitQueue {
-            first: ((q.first as usize + gone) % 128) as u8,
-            len: len - gone as u8,
+            first: (q.first % 128 + gone) % 128,
+            len: len - gone,
         },
     }
 }

@@ -29,7 +29,7 @@ fn show(received: Received) {
         }
     }
     io::write_all(STDOUT_FILENO, b", left ");
-    number(queue.len as u64);
+    number(queue.len);
     io::write_all(STDOUT_FILENO, b"\n");
 }
 

@@ -64,7 +64,7 @@ pub fn holds_in(r: Reply, fds: List) -> List
 }
 
 // The decision on the tag's slot, with so many entries unread.
-pub fn decide(v: Slot, caller: u32, killed: u64, unread: u8) -> Decided
+pub fn decide(v: Slot, caller: u32, killed: u64, unread: u64) -> Decided
     ensures { λ r. ⌜ r ≡ decidedOf (phaseOf v) (wakeable v caller) (eqb killed 1) (v .canceling) (leb 128 unread) ⌝ }
 {
     let p = slot::phase_of(v);

@@ -141,8 +141,8 @@ pub fn write(s: State, fx: &mut [u64], bytes: &[u8]) -> WriteStep
 // A write that holds the entry e alone, on the part at its tag. Hold counts and handles are lent.
 pub fn entry(
     p: Part,
-    all: &mut [u16; 64],
-    handles: &mut [u16; 64],
+    all: &mut [u64; 64],
+    handles: &mut [u64; 64],
     fx: &mut [u64],
     e: Cqe,
 ) -> EntryStep

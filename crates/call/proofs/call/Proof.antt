@@ -78,9 +78,6 @@ event-read-requires c κs = search needs
 root-requires : tie.Need-root-requires
 root-requires c κs = search needs
 
-cast-t37 : tie.Need-cast-t37
-cast-t37 c = omega (arith, c .before .before .before .before .before .before .before .before .before .before .before .before .before .if1 .left)
-
 returns-6 : tie.Need-returns-6
 returns-6 c = let a = c .before .before .before .before .before .before .before .before .before .before .before .before .before .before .before .before .before .before .before .before .before .before .before .args in let g = taken-good (a .h) (a .fds .now) (ap (λ (t : Taken). t .answer) (sym (c .before .before .before .before .before .before .before .before .before .before .before .before .before .before .before .before .take-list .ensures)) ∙ c .before .before .before .before .before .before .before .before .before .before .before .before .before .before .enum-told4 .given .1) in λ s st. leads _ _ (given-is s (a .p) _ _ _ _ st (c .before .before .before .before .before .before .before .before .before .before .before .before .before .if1 .left) (c .before .before .given .ensures)) _ _ _ _ (called (found s (a .p) (a .h)) (a .words .now) (a .caller) (a .opcode) (a .args) (a .uid) (a .gid) (a .pid) (a .fds .now) (known-good (a .opcode) _ (sym (c .before .before .before .before .before .before .before .before .before .before .before .before .before .before .before .before .before .before .before .before .try-from-raw .ensures) ∙ c .before .before .before .before .before .before .before .before .before .before .before .before .before .before .before .before .before .before .raw .given .1) .0) (g .0) (g .1) (lt-leb _ _ (c .before .before .before .before .before .before .before .before .before .before .before .before .before .if1 .left)) (lt-leb _ _ (c .before .before .before .before .before .before .before .before .before .before .if2 .left)) _ (begun-is (found s (a .p) (a .h)) (a .words .now) _ _ _ _ (callEntry (a .opcode) (a .args) (a .uid) (a .gid) (a .pid)) _ _ _ _ (c .before .before .before .before .before .before .before .waiting .ensures ∙ ap (waitingOf (a .caller)) (ap (λ (t : Taken). t .list) (c .before .before .before .before .before .before .before .before .before .before .before .before .before .before .before .before .take-list .ensures) ∙ g .2)) (ap (λ (t : Taken). t .holds) (c .before .before .before .before .before .before .before .before .before .before .before .before .before .before .before .before .take-list .ensures)) (entry-is (a .opcode) _ (a .args) (a .uid) (a .gid) (a .pid) _ _ (known-good (a .opcode) _ (sym (c .before .before .before .before .before .before .before .before .before .before .before .before .before .before .before .before .before .before .before .before .try-from-raw .ensures) ∙ c .before .before .before .before .before .before .before .before .before .before .before .before .before .before .before .before .before .before .raw .given .1) .1) (c .before .before .before .before .before .before .uid-gid-hack-merge .ensures)) (ap (λ (t : Sent). t .queue) (c .before .before .before .before .send .ensures .0)) (c .before .before .before .before .send .ensures .1) (rooted s _ _ _ _ (c .root .ensures) (st .2) (c .before .event-read .ensures))))
 
@@ -108,5 +105,4 @@ call-spec =
     given-requires
     event-read-requires
     root-requires
-    cast-t37
     returns-6)

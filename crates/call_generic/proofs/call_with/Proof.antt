@@ -54,9 +54,6 @@ event-read-requires c κs = search needs
 root-requires : tie.Need-root-requires
 root-requires c κs = search needs
 
-cast-t29 : tie.Need-cast-t29
-cast-t29 c = omega (arith, c .before .before .before .before .before .before .before .before .before .before .before .before .if3 .left)
-
 returns-5 : tie.Need-returns-5
 returns-5 c = let a = c .before .before .before .before .before .before .before .before .before .before .before .before .before .before .before .before .before .before .args in λ s h st. leads _ _ (given-is s (a .p) _ _ _ h st (c .before .before .before .before .before .before .before .before .before .before .before .before .if3 .left) (c .before .before .given .ensures)) _ _ _ _ (called (found s (a .p) h) (a .words .now) (a .op) (a .caller) (a .pid) (a .fds .now) (a .base) (a .len) (a .metadata .now) (c .before .before .before .before .before .before .before .before .before .before .before .before .before .before .if1 .left) (c .before .before .before .before .before .before .before .before .before .before .before .before .before .if2 .left) (lt-leb _ _ (c .before .before .before .before .before .before .before .before .before .before .before .before .if3 .left)) (lt-leb _ _ (c .before .before .before .before .before .before .before .before .before .if4 .left)) _ (begun-is (found s (a .p) h) (a .words .now) _ _ h _ (genericEntry (a .op) (a .pid) (a .fds .now) (a .base) (a .len) (a .metadata .now)) _ _ _ _ (c .before .before .before .before .before .before .before .waiting .ensures ∙ ap (waitingOf (a .caller)) (c .before .before .before .before .before .before .before .before .empty .ensures)) refl (c .before .before .before .before .before .before .entry .ensures) (ap (λ (t : Sent). t .queue) (c .before .before .before .before .send .ensures .0)) (c .before .before .before .before .send .ensures .1) (rooted s _ _ _ _ (c .root .ensures) (st .2) (c .before .event-read .ensures))))
 
@@ -77,5 +74,4 @@ call-with-spec =
     given-requires
     event-read-requires
     root-requires
-    cast-t29
     returns-5)

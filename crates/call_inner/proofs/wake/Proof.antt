@@ -79,11 +79,14 @@ enum-told-4 c = search needs
 holds-in-requires : tie.Need-holds-in-requires
 holds-in-requires c κs = search needs
 
+cast-vacated : tie.Need-cast-vacated
+cast-vacated c = search needs
+
 vacated-requires : tie.Need-vacated-requires
 vacated-requires c κs = search needs
 
 returns-6 : tie.Need-returns-6
-returns-6 c = let a = c .before .before .before .before .before .before .before .before .before .before .before .before .before .before .before .before .args in λ s h long st. leads _ _ (vacated-at s (a .tag) _ (c .before .before .before .before .before .before .before .before .before .before .before .slot-of .ensures) (c .before .before .before .before .before .before .before .before .before .if2 .left) (a .p) st _ _ (c .vacated .ensures)) _ _ _ _ (handed (found s (a .p) h) (a .words .now) (a .tag) (a .caller) (a .killed) (a .base) (a .count) _ (c .before .before .before .before .before .before .before .before .before .before .before .before .before .before .before .none .ensures) _ (c .before .before .before .before .before .before .before .before .before .before .before .slot-of .ensures) (c .before .before .before .before .before .before .before .before .before .before .before .before .if1 .left) (c .before .before .before .before .before .before .before .before .before .if2 .left) (a .p .slot) (slot-is s (a .tag) _ (c .before .before .before .before .before .before .before .before .before .before .before .slot-of .ensures) (c .before .before .before .before .before .before .before .before .before .if2 .left) (a .p) st) _ (c .before .before .before .before .before .before .decide .ensures) _ _ (c .before .before .before .before .enum-told4 .given .1) refl (c .before .holds-in .ensures h long))
+returns-6 c = let a = c .before .before .before .before .before .before .before .before .before .before .before .before .before .before .before .before .before .args in λ s h long st. leads _ _ (vacated-at s (a .tag) _ (c .before .before .before .before .before .before .before .before .before .before .before .before .slot-of .ensures) (c .before .before .before .before .before .before .before .before .before .before .if2 .left) (a .p) st _ _ (c .vacated .ensures)) _ _ _ _ (handed (found s (a .p) h) (a .words .now) (a .tag) (a .caller) (a .killed) (a .base) (a .count) _ (c .before .before .before .before .before .before .before .before .before .before .before .before .before .before .before .before .none .ensures) _ (c .before .before .before .before .before .before .before .before .before .before .before .before .slot-of .ensures) (c .before .before .before .before .before .before .before .before .before .before .before .before .before .if1 .left) (c .before .before .before .before .before .before .before .before .before .before .if2 .left) (a .p .slot) (slot-is s (a .tag) _ (c .before .before .before .before .before .before .before .before .before .before .before .before .slot-of .ensures) (c .before .before .before .before .before .before .before .before .before .before .if2 .left) (a .p) st) _ (c .before .before .before .before .before .before .before .decide .ensures) _ _ (c .before .before .before .before .before .enum-told4 .given .1) refl (c .before .before .holds-in .ensures h long))
 
 pub wake-spec : {M : Type 1} → statement M
 wake-spec =
@@ -112,5 +115,6 @@ wake-spec =
     returns-5
     enum-told-4
     holds-in-requires
+    cast-vacated
     vacated-requires
     returns-6)

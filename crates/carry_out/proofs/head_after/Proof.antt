@@ -20,9 +20,6 @@ enum-told-2 c = search needs
 enum-told-3 : tie.Need-enum-told-3
 enum-told-3 c = search needs
 
-cast-result : tie.Need-cast-result
-cast-result c = search needs
-
 returns-2 : tie.Need-returns-2
 returns-2 c = let a = c .before .before .before .args in head-is (a .tag) true (a .act) Leave (a .head) _ (lt-ltb (a .tag) 64 (c .before .before .if1 .left)) (c .enum-told .given .1) refl
 
@@ -34,5 +31,4 @@ returns-4 c = let a = c .before .before .before .args in head-is (a .tag) true (
 
 pub head-after-spec : {M : Type 1} → statement M
 head-after-spec =
-    tie.close
-    (tie.spec returns enum-told enum-told-2 enum-told-3 cast-result returns-2 returns-3 returns-4)
+    tie.close (tie.spec returns enum-told enum-told-2 enum-told-3 returns-2 returns-3 returns-4)

@@ -19,9 +19,6 @@ returns c = let a = c .before .before .before .before .before .args in three (λ
 sub-word : tie.Need-sub-word
 sub-word c = search needs
 
-cast-word : tie.Need-cast-word
-cast-word c = search needs
-
 empty-handle-requires : tie.Need-empty-handle-requires
 empty-handle-requires c κs = search needs
 
@@ -43,8 +40,8 @@ is-closing-requires c κs = search needs
 drop-all-requires : tie.Need-drop-all-requires
 drop-all-requires c κs = search needs
 
-mul-t29 : tie.Need-mul-t29
-mul-t29 c = search needs
+mul-t28 : tie.Need-mul-t28
+mul-t28 c = search needs
 
 same-length-2 : tie.Need-same-length-2
 same-length-2 c = search needs
@@ -60,7 +57,6 @@ descriptor-spec =
     refused-requires
     returns
     sub-word
-    cast-word
     empty-handle-requires
     respond-requires
     same-length
@@ -68,6 +64,6 @@ descriptor-spec =
     one-or-none-requires
     is-closing-requires
     drop-all-requires
-    mul-t29
+    mul-t28
     same-length-2
     returns-3)

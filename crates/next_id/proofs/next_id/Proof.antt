@@ -18,11 +18,8 @@ placeholder-requires c κs = search needs
 given-requires : tie.Need-given-requires
 given-requires c κs = search needs
 
-cast-t9 : tie.Need-cast-t9
-cast-t9 c = search needs
-
 returns-2 : tie.Need-returns-2
 returns-2 c = let a = c .before .before .before .before .args in λ s h ws st. leads _ _ (given-is s (a .p) _ _ _ h st (c .before .before .before .if1 .left) (c .given .ensures)) _ _ ws _ (given (found s (a .p) h) (a .caller) ws _ (lt-leb _ _ (c .before .before .before .if1 .left)) (c .before .before .placeholder .ensures))
 
 pub next-id-spec : {M : Type 1} → statement M
-next-id-spec = tie.close (tie.spec returns placeholder-requires given-requires cast-t9 returns-2)
+next-id-spec = tie.close (tie.spec returns placeholder-requires given-requires returns-2)

@@ -46,11 +46,14 @@ enum-told-4 c = search needs
 enum-told-5 : tie.Need-enum-told-5
 enum-told-5 c = search needs
 
+cast-vacated : tie.Need-cast-vacated
+cast-vacated c = search needs
+
 vacated-requires : tie.Need-vacated-requires
 vacated-requires c κs = search needs
 
 returns-5 : tie.Need-returns-5
-returns-5 c = let a = c .before .before .before .before .before .before .before .before .before .before .before .before .args in λ s h ws st. leads _ _ (vacated-at s (a .tag) _ (c .before .before .before .before .before .before .before .before .slot-of .ensures) (c .before .before .before .before .before .before .if4 .left) (a .p) st _ h (c .before .vacated .ensures)) _ _ ws _ (supplied (found s (a .p) h) (a .tag .0) (a .offset) (a .base) (a .count) ws (eq-eqb _ _ (c .before .before .before .before .before .before .before .before .before .before .before .if1 .left)) (eq-eqb _ _ (c .before .before .before .before .before .before .before .before .before .before .if2 .left)) (eq-eqb _ _ (c .before .before .before .before .before .before .before .before .before .if3 .left)) (a .p .slot) (slot-is s (a .tag) _ (c .before .before .before .before .before .before .before .before .slot-of .ensures) (c .before .before .before .before .before .before .if4 .left) (a .p) st ∙ slot-in (s .table) (a .tag) _ (c .before .before .before .before .before .before .before .before .slot-of .ensures) (c .before .before .before .before .before .before .if4 .left)) _ (c .before .before .before .before .phase-of .ensures) (c .before .before .enum-told5 .given .1) _ (vacate-in (found s (a .p) h .table) (a .tag) _ (c .before .before .before .before .before .before .before .before .slot-of .ensures) vacantSlot refl (c .before .before .before .before .before .before .if4 .left)) _ (c .if5 .taken))
+returns-5 c = let a = c .before .before .before .before .before .before .before .before .before .before .before .before .before .args in λ s h ws st. leads _ _ (vacated-at s (a .tag) _ (c .before .before .before .before .before .before .before .before .before .slot-of .ensures) (c .before .before .before .before .before .before .before .if4 .left) (a .p) st _ h (c .before .vacated .ensures)) _ _ ws _ (supplied (found s (a .p) h) (a .tag .0) (a .offset) (a .base) (a .count) ws (eq-eqb _ _ (c .before .before .before .before .before .before .before .before .before .before .before .before .if1 .left)) (eq-eqb _ _ (c .before .before .before .before .before .before .before .before .before .before .before .if2 .left)) (eq-eqb _ _ (c .before .before .before .before .before .before .before .before .before .before .if3 .left)) (a .p .slot) (slot-is s (a .tag) _ (c .before .before .before .before .before .before .before .before .before .slot-of .ensures) (c .before .before .before .before .before .before .before .if4 .left) (a .p) st ∙ slot-in (s .table) (a .tag) _ (c .before .before .before .before .before .before .before .before .before .slot-of .ensures) (c .before .before .before .before .before .before .before .if4 .left)) _ (c .before .before .before .before .before .phase-of .ensures) (c .before .before .before .enum-told5 .given .1) _ (vacate-in (found s (a .p) h .table) (a .tag) _ (c .before .before .before .before .before .before .before .before .before .slot-of .ensures) vacantSlot refl (c .before .before .before .before .before .before .before .if4 .left)) _ (c .if5 .taken))
 
 returns-6 : tie.Need-returns-6
 returns-6 c = let a = c .before .before .before .before .before .before .before .before .before .before .args in λ s h ws st. stays s (a .tag .0 % 64) (a .p) st h _ _ ws _ (in-phase (found s (a .p) h) (a .tag .0) (a .offset) (a .base) (a .count) ws (eq-eqb _ _ (c .before .before .before .before .before .before .before .before .before .if1 .left)) (eq-eqb _ _ (c .before .before .before .before .before .before .before .before .if2 .left)) (eq-eqb _ _ (c .before .before .before .before .before .before .before .if3 .left)) (a .p .slot) (slot-is s (a .tag) _ (c .before .before .before .before .before .before .slot-of .ensures) (c .before .before .before .before .if4 .left) (a .p) st ∙ slot-in (s .table) (a .tag) _ (c .before .before .before .before .before .before .slot-of .ensures) (c .before .before .before .before .if4 .left)) _ (c .before .before .phase-of .ensures) Vacant (c .enum-told .given .1))
@@ -65,7 +68,7 @@ returns-9 : tie.Need-returns-9
 returns-9 c = let a = c .before .before .before .before .before .before .before .before .before .before .args in λ s h ws st. stays s (a .tag .0 % 64) (a .p) st h _ _ ws _ (in-phase (found s (a .p) h) (a .tag .0) (a .offset) (a .base) (a .count) ws (eq-eqb _ _ (c .before .before .before .before .before .before .before .before .before .if1 .left)) (eq-eqb _ _ (c .before .before .before .before .before .before .before .before .if2 .left)) (eq-eqb _ _ (c .before .before .before .before .before .before .before .if3 .left)) (a .p .slot) (slot-is s (a .tag) _ (c .before .before .before .before .before .before .slot-of .ensures) (c .before .before .before .before .if4 .left) (a .p) st ∙ slot-in (s .table) (a .tag) _ (c .before .before .before .before .before .before .slot-of .ensures) (c .before .before .before .before .if4 .left)) _ (c .before .before .phase-of .ensures) Responded (c .enum-told4 .given .1))
 
 returns-10 : tie.Need-returns-10
-returns-10 c = let a = c .before .before .before .before .before .before .before .before .before .before .before .before .args in λ s h ws st. leads _ _ (vacated-at s (a .tag) _ (c .before .before .before .before .before .before .before .before .slot-of .ensures) (c .before .before .before .before .before .before .if4 .left) (a .p) st _ h (c .before .vacated .ensures)) _ _ ws _ (supplied (found s (a .p) h) (a .tag .0) (a .offset) (a .base) (a .count) ws (eq-eqb _ _ (c .before .before .before .before .before .before .before .before .before .before .before .if1 .left)) (eq-eqb _ _ (c .before .before .before .before .before .before .before .before .before .before .if2 .left)) (eq-eqb _ _ (c .before .before .before .before .before .before .before .before .before .if3 .left)) (a .p .slot) (slot-is s (a .tag) _ (c .before .before .before .before .before .before .before .before .slot-of .ensures) (c .before .before .before .before .before .before .if4 .left) (a .p) st ∙ slot-in (s .table) (a .tag) _ (c .before .before .before .before .before .before .before .before .slot-of .ensures) (c .before .before .before .before .before .before .if4 .left)) _ (c .before .before .before .before .phase-of .ensures) (c .before .before .enum-told5 .given .1) _ (vacate-in (found s (a .p) h .table) (a .tag) _ (c .before .before .before .before .before .before .before .before .slot-of .ensures) vacantSlot refl (c .before .before .before .before .before .before .if4 .left)) _ (c .if5 .left))
+returns-10 c = let a = c .before .before .before .before .before .before .before .before .before .before .before .before .before .args in λ s h ws st. leads _ _ (vacated-at s (a .tag) _ (c .before .before .before .before .before .before .before .before .before .slot-of .ensures) (c .before .before .before .before .before .before .before .if4 .left) (a .p) st _ h (c .before .vacated .ensures)) _ _ ws _ (supplied (found s (a .p) h) (a .tag .0) (a .offset) (a .base) (a .count) ws (eq-eqb _ _ (c .before .before .before .before .before .before .before .before .before .before .before .before .if1 .left)) (eq-eqb _ _ (c .before .before .before .before .before .before .before .before .before .before .before .if2 .left)) (eq-eqb _ _ (c .before .before .before .before .before .before .before .before .before .before .if3 .left)) (a .p .slot) (slot-is s (a .tag) _ (c .before .before .before .before .before .before .before .before .before .slot-of .ensures) (c .before .before .before .before .before .before .before .if4 .left) (a .p) st ∙ slot-in (s .table) (a .tag) _ (c .before .before .before .before .before .before .before .before .before .slot-of .ensures) (c .before .before .before .before .before .before .before .if4 .left)) _ (c .before .before .before .before .before .phase-of .ensures) (c .before .before .before .enum-told5 .given .1) _ (vacate-in (found s (a .p) h .table) (a .tag) _ (c .before .before .before .before .before .before .before .before .before .slot-of .ensures) vacantSlot refl (c .before .before .before .before .before .before .before .if4 .left)) _ (c .if5 .left))
 
 pub provide-mmap-spec : {M : Type 1} → statement M
 provide-mmap-spec =
@@ -82,6 +85,7 @@ provide-mmap-spec =
     enum-told-3
     enum-told-4
     enum-told-5
+    cast-vacated
     vacated-requires
     returns-5
     returns-6

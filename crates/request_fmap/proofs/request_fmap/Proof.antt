@@ -46,9 +46,6 @@ event-read-requires c κs = search needs
 root-requires : tie.Need-root-requires
 root-requires c κs = search needs
 
-cast-t28 : tie.Need-cast-t28
-cast-t28 c = search needs
-
 returns-3 : tie.Need-returns-3
 returns-3 c = let a = c .before .before .before .before .before .before .before .before .before .before .before .before .before .before .args in λ s h st. leads _ _ (given-is s (a .p) _ _ _ h st (c .before .before .before .before .before .before .before .before .before .before .before .before .if1 .left) (c .before .before .given .ensures)) _ _ _ _ (requested (found s (a .p) h) (a .words .now) (a .caller) (a .id) (a .pages) (a .flags) (a .uid) (a .gid) (a .pid) (lt-leb _ _ (c .before .before .before .before .before .before .before .before .before .before .before .before .if1 .left)) (lt-leb _ _ (c .before .before .before .before .before .before .before .before .before .if2 .left)) _ (begun-is (found s (a .p) h) (a .words .now) _ _ h _ (fmapEntry (a .id) (a .pages) (a .flags) (a .uid) (a .gid) (a .pid)) _ _ _ _ (c .before .before .before .before .before .before .before .before .map-request .ensures) refl (entry-is (found s (a .p) h) (a .words .now) (a .caller) (a .id) (a .pages) (a .flags) (a .uid) (a .gid) (a .pid) _ _ _ (c .before .before .before .before .before .before .request-mmap .ensures) (c .before .before .before .before .before .before .before .uid-gid-hack-merge .ensures)) (ap (λ (t : Sent). t .queue) (c .before .before .before .before .send .ensures .0)) (c .before .before .before .before .send .ensures .1) (rooted s _ _ _ _ (c .root .ensures) (st .2) (c .before .event-read .ensures))))
 
@@ -67,5 +64,4 @@ request-fmap-spec =
     given-requires
     event-read-requires
     root-requires
-    cast-t28
     returns-3)

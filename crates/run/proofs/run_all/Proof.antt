@@ -105,6 +105,9 @@ mul-v c = search needs
 array-copy-out-v-2 : tie.Need-array-copy-out-v-2 Inv-loop μ-loop
 array-copy-out-v-2 c = let a = c .before .before .before .before .before .before .before .before .before .before .before .before .before .before .before .before .before .before .args in let l = c .before .before .before .before .before .before .before .before .before .before .before .loop in omega (arith, whole (a .scheme) (a .events .now) (a .out .now) (a .fx .now) (a .end) (l .out) (l .fx) (l .words) (stateOf (l .own) (l .slots) (l .next) (l .head) (l .all) (l .outside) (handlesWith (l .handles)) (l .queue)) (l .at) (l .j) (l .inv .0) .slots)
 
+mul-t72 : tie.Need-mul-t72 Inv-loop μ-loop
+mul-t72 c = search needs
+
 array-read-t81 : tie.Need-array-read-t81 Inv-loop μ-loop
 array-read-t81 c = let a = c .before .before .before .before .before .before .before .before .before .before .before .before .before .before .before .before .before .before .before .args in let l = c .before .before .before .before .before .before .before .before .before .before .before .before .loop in omega (arith, whole (a .scheme) (a .events .now) (a .out .now) (a .fx .now) (a .end) (l .out) (l .fx) (l .words) (stateOf (l .own) (l .slots) (l .next) (l .head) (l .all) (l .outside) (handlesWith (l .handles)) (l .queue)) (l .at) (l .j) (l .inv .0) .next)
 
@@ -125,6 +128,9 @@ mul-slots c = omega arith
 
 array-set-from-slots : tie.Need-array-set-from-slots Inv-loop μ-loop
 array-set-from-slots c = let a = c .before .before .before .before .before .before .before .before .before .before .before .before .before .before .before .before .before .before .before .before .before .before .before .before .before .before .before .before .before .before .before .args in let l = c .before .before .before .before .before .before .before .before .before .before .before .before .before .before .before .before .before .before .before .before .before .before .before .before .loop in omega (arith, whole (a .scheme) (a .events .now) (a .out .now) (a .fx .now) (a .end) (l .out) (l .fx) (l .words) (stateOf (l .own) (l .slots) (l .next) (l .head) (l .all) (l .outside) (handlesWith (l .handles)) (l .queue)) (l .at) (l .j) (l .inv .0) .slots)
+
+mul-next : tie.Need-mul-next Inv-loop μ-loop
+mul-next c = search needs
 
 array-write-next : tie.Need-array-write-next Inv-loop μ-loop
 array-write-next c = let a = c .before .before .before .before .before .before .before .before .before .before .before .before .before .before .before .before .before .before .before .before .before .before .before .before .before .before .before .before .before .before .before .args in let l = c .before .before .before .before .before .before .before .before .before .before .before .before .before .before .before .before .before .before .before .before .before .before .before .before .loop in omega (arith, whole (a .scheme) (a .events .now) (a .out .now) (a .fx .now) (a .end) (l .out) (l .fx) (l .words) (stateOf (l .own) (l .slots) (l .next) (l .head) (l .all) (l .outside) (handlesWith (l .handles)) (l .queue)) (l .at) (l .j) (l .inv .0) .next)
@@ -204,6 +210,9 @@ array-copy-out-v-3 c = let a = c .before .before .before .before .before .before
 known-requires : tie.Need-known-requires Inv-loop μ-loop
 known-requires c κs = search needs
 
+mul-t53 : tie.Need-mul-t53 Inv-loop μ-loop
+mul-t53 c = search needs
+
 array-read-t129 : tie.Need-array-read-t129 Inv-loop μ-loop
 array-read-t129 c = let a = c .before .before .before .before .before .before .before .before .before .before .before .before .before .before .before .before .before .before .before .before .before .before .before .before .before .args in let l = c .before .before .before .before .before .before .before .before .before .before .before .before .before .before .before .before .before .before .loop in omega (arith, c .before .before .before .before .find .ensures .0 .1, whole (a .scheme) (a .events .now) (a .out .now) (a .fx .now) (a .end) (l .out) (l .fx) (l .words) (stateOf (l .own) (l .slots) (l .next) (l .head) (l .all) (l .outside) (handlesWith (l .handles)) (l .queue)) (l .at) (l .j) (l .inv .0) .next)
 
@@ -230,6 +239,9 @@ mul-slots-2 c = omega (arith, c .before .before .before .before .before .before 
 
 array-set-from-slots-2 : tie.Need-array-set-from-slots-2 Inv-loop μ-loop
 array-set-from-slots-2 c = let a = c .before .before .before .before .before .before .before .before .before .before .before .before .before .before .before .before .before .before .before .before .before .before .before .before .before .before .before .before .before .before .before .before .before .before .before .before .before .args in let l = c .before .before .before .before .before .before .before .before .before .before .before .before .before .before .before .before .before .before .before .before .before .before .before .before .before .before .before .before .before .before .loop in omega (arith, c .before .before .before .before .before .before .before .before .before .before .before .before .before .before .before .before .find .ensures .0 .1, whole (a .scheme) (a .events .now) (a .out .now) (a .fx .now) (a .end) (l .out) (l .fx) (l .words) (stateOf (l .own) (l .slots) (l .next) (l .head) (l .all) (l .outside) (handlesWith (l .handles)) (l .queue)) (l .at) (l .j) (l .inv .0) .slots)
+
+mul-next-2 : tie.Need-mul-next-2 Inv-loop μ-loop
+mul-next-2 c = search needs
 
 array-write-next-2 : tie.Need-array-write-next-2 Inv-loop μ-loop
 array-write-next-2 c = let a = c .before .before .before .before .before .before .before .before .before .before .before .before .before .before .before .before .before .before .before .before .before .before .before .before .before .before .before .before .before .before .before .before .before .before .before .before .before .args in let l = c .before .before .before .before .before .before .before .before .before .before .before .before .before .before .before .before .before .before .before .before .before .before .before .before .before .before .before .before .before .before .loop in omega (arith, c .before .before .before .before .before .before .before .before .before .before .before .before .before .before .before .before .find .ensures .0 .1, whole (a .scheme) (a .events .now) (a .out .now) (a .fx .now) (a .end) (l .out) (l .fx) (l .words) (stateOf (l .own) (l .slots) (l .next) (l .head) (l .all) (l .outside) (handlesWith (l .handles)) (l .queue)) (l .at) (l .j) (l .inv .0) .next)
@@ -303,6 +315,7 @@ run-all-spec =
     cast-n
     mul-v
     array-copy-out-v-2
+    mul-t72
     array-read-t81
     sub-entry-turn
     part-entry-turn-start
@@ -310,6 +323,7 @@ run-all-spec =
     entry-turn-requires
     mul-slots
     array-set-from-slots
+    mul-next
     array-write-next
     add-j-2
     add-at-2
@@ -336,6 +350,7 @@ run-all-spec =
     mul-v-2
     array-copy-out-v-3
     known-requires
+    mul-t53
     array-read-t129
     slice-aggregate-turn
     slice-aggregate-turn-2
@@ -345,6 +360,7 @@ run-all-spec =
     turn-requires
     mul-slots-2
     array-set-from-slots-2
+    mul-next-2
     array-write-next-2
     add-j-4
     add-at-4

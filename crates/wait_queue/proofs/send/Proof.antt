@@ -1,17 +1,11 @@
 -- `wait_queue::send` meets its contract. Assumes nothing.
-use Rattle.wait_queue.proofs.Sending.{full, queued}
+use Rattle.wait_queue.proofs.Sending.{full, place-fits, queued}
 use borrow.Author.Needs.{needs}
 use Rattle.wait_queue.proofs.send.Statement.{statement}
 use Rattle.wait_queue.proofs.send.Tie as tie
 
 returns : tie.Need-returns
 returns c = full (c .before .args .q) (c .before .args .words .now) (c .before .args .e) (c .if1 .taken)
-
-cast-place : tie.Need-cast-place
-cast-place c = search needs
-
-cast-place-2 : tie.Need-cast-place-2
-cast-place-2 c = search needs
 
 add-place : tie.Need-add-place
 add-place c = search needs
@@ -91,20 +85,18 @@ mul-words-8 c = search needs
 element-write-words-8 : tie.Need-element-write-words-8
 element-write-words-8 c = search needs
 
-add-t31 : tie.Need-add-t31
-add-t31 c = search needs
+add-t12 : tie.Need-add-t12
+add-t12 c = search needs
 
 returns-2 : tie.Need-returns-2
 returns-2 c =
-    queued (c .before .before .before .before .args .q) (c .before .before .before .before .args .words .now) (c .before .before .before .before .args .e) _ (c .head .ensures) (c .before .before .before .if1 .left)
+    queued (c .before .before .before .before .args .q) (c .before .before .before .before .args .words .now) (c .before .before .before .before .args .e) _ _ (c .head .ensures) (place-fits _ _) (c .before .before .before .if1 .left)
 
 pub send-spec : {M : Type 1} → statement M
 send-spec =
     tie.close
     (tie.spec
     returns
-    cast-place
-    cast-place-2
     add-place
     mul-place
     head-requires
@@ -131,5 +123,5 @@ send-spec =
     add-words-7
     mul-words-8
     element-write-words-8
-    add-t31
+    add-t12
     returns-2)

@@ -1,5 +1,5 @@
 -- `wait_queue_receive::receive` meets its contract. Assumes nothing.
-use Rattle.wait_queue_receive.proofs.Copying.{none, some}
+use Rattle.wait_queue_receive.proofs.Copying.{none, some, first-fits}
 use borrow.Author.Needs.{needs}
 use Rattle.wait_queue_receive.proofs.receive.Statement.{statement}
 use Rattle.wait_queue_receive.proofs.receive.Tie as tie
@@ -10,40 +10,25 @@ empty-requires c κs = search needs
 returns : tie.Need-returns
 returns c = none (c .before .before .before .args .q) (c .before .before .before .args .words .now) (c .before .before .before .args .out .now) (c .before .before .before .args .flags) _ (c .empty .ensures) (c .before .if1 .taken)
 
-cast-least : tie.Need-cast-least
-cast-least c = search needs
-
-mul-least : tie.Need-mul-least
-mul-least c = search needs
-
-least-requires : tie.Need-least-requires
-least-requires c κs = search needs
+copied-requires : tie.Need-copied-requires
+copied-requires c κs = search needs
 
 copy-requires : tie.Need-copy-requires
 copy-requires c κs = search needs
 
-cast-t11 : tie.Need-cast-t11
-cast-t11 c = search needs
+add-t18 : tie.Need-add-t18
+add-t18 c = search needs
 
-add-t12 : tie.Need-add-t12
-add-t12 c = search needs
-
-cast-t19 : tie.Need-cast-t19
-cast-t19 c = search needs
-
-cast-t20 : tie.Need-cast-t20
-cast-t20 c = search needs
-
-sub-t21 : tie.Need-sub-t21
-sub-t21 c = search needs
+sub-t20 : tie.Need-sub-t20
+sub-t20 c = search needs
 
 same-length : tie.Need-same-length
 same-length c = search needs
 
 returns-2 : tie.Need-returns-2
 returns-2 c =
-    some (c .before .before .before .before .before .before .before .before .args .q) (c .before .before .before .before .before .before .before .before .args .words .now) (c .before .before .before .before .before .before .before .before .args .out .now) (c .before .before .before .before .before .before .before .before .args .flags) _ _ (c .before .before .before .before .before .least .ensures)
-    (c .before .before .before .before .before .before .if1 .left) (c .before .before .before .copy .ensures)
+    some (c .before .before .before .before .before .before .before .before .args .q) (c .before .before .before .before .before .before .before .before .args .words .now) (c .before .before .before .before .before .before .before .before .args .out .now) (c .before .before .before .before .before .before .before .before .args .flags) _ _ (c .before .before .before .before .before .copied .ensures)
+    (c .before .before .before .before .before .before .if1 .left) (c .before .before .before .copy .ensures) _ (first-fits _ _)
 
 pub receive-spec : {M : Type 1} → statement M
 receive-spec =
@@ -51,14 +36,9 @@ receive-spec =
     (tie.spec
     empty-requires
     returns
-    cast-least
-    mul-least
-    least-requires
+    copied-requires
     copy-requires
-    cast-t11
-    add-t12
-    cast-t19
-    cast-t20
-    sub-t21
+    add-t18
+    sub-t20
     same-length
     returns-2)

@@ -64,6 +64,9 @@ handle-parsed-requires c κs = search needs
 slot-after-requires : tie.Need-slot-after-requires Inv-loop μ-loop
 slot-after-requires c κs = search needs
 
+mul-next : tie.Need-mul-next Inv-loop μ-loop
+mul-next c = search needs
+
 element-copy-out-next : tie.Need-element-copy-out-next Inv-loop μ-loop
 element-copy-out-next c = search needs
 
@@ -78,6 +81,9 @@ mul-w c = search needs
 
 element-set-from-w : tie.Need-element-set-from-w Inv-loop μ-loop
 element-set-from-w c = search needs
+
+mul-t : tie.Need-mul-t Inv-loop μ-loop
+mul-t c = search needs
 
 element-write-t : tie.Need-element-write-t Inv-loop μ-loop
 element-write-t c = search needs
@@ -103,8 +109,8 @@ loop-less c = omega (arith, c .before .before .before .before .before .before .b
 loop-again : tie.Need-loop-again Inv-loop μ-loop
 loop-again c = let a = c .before .before .before .before .before .before .before .before .before .before .before .before .before .before .before .before .before .before .before .before .before .before .before .before .before .before .before .before .before .before .before .before .args in let l = c .before .before .before .before .before .before .before .before .before .before .before .before .before .before .before .before .before .before .before .before .loop in (omega (arith, c .before .before .before .before .before .before .before .before .before .before .before .before .before .before .before .before .before .before .before .loop-test .taken), omega (arith, l .inv .1, c .before .before .before .before .before .before .before .before .before .handle-parsed .ensures .1 .1), lent-length (c .before .before .before .before .before .before .before .before .before .before .before .before .before .before .before .before .parse-cqe .result) (c .before .before .before .before .before .before .before .before .before .before .before .before .before .look .result) (holdsWith (l .all) (a .s .table .holds .outside)) (handlesWith (l .handles)) _ (l .fx) (l .j) (c .before .before .before .before .before .before .before .before .before .handle-parsed .ensures .1 .0 (a .s .table .holds .outside)) ∙ l .inv .2, λ ws. goes-on-as (a .s) ws (a .fx .now) (a .bytes .now) _ (l .fx) (tableWith (l .t) (holdsWith (l .all) (a .s .table .holds .outside))) (driverWith (a .s .driver) (handlesWith (l .handles))) (l .i) (l .j) (l .inv .3 ws) (c .before .before .before .before .before .before .before .before .before .before .before .before .before .before .before .before .before .before .before .loop-test .taken) (c .before .before .before .before .before .before .before .before .before .before .before .before .before .before .before .before .before .cqe .result) (c .before .before .before .before .before .before .before .before .before .before .before .before .before .before .before .before .before .cqe .ensures ∙ ap cqeOf (part-is (a .bytes .now) (16 * l .i))) (c .before .before .before .before .before .before .before .before .before .before .before .before .before .before .before .before .parse-cqe .result) (c .before .before .before .before .before .before .before .before .before .before .before .before .before .before .before .before .parse-cqe .ensures) (c .before .before .before .before .before .before .before .before .before .before .before .before .before .look .result) (c .before .before .before .before .before .before .before .before .before .before .before .before .before .look .ensures) _ _ _ (c .before .before .before .before .before .before .before .before .before .handle-parsed .ensures .0 (a .s .table .holds .outside)) _ (c .before .before .before .before .before .before .before .before .before .handle-parsed .ensures .1 .0 (a .s .table .holds .outside)) _ _ _ (c .before .before .before .before .before .slot-after .ensures) (c .before .before .before .next-after .ensures) (c .before .before .head-after .ensures) (c .if2 .left), l .inv .4)
 
-mul-t65 : tie.Need-mul-t65 Inv-loop μ-loop
-mul-t65 c = search needs
+mul-t64 : tie.Need-mul-t64 Inv-loop μ-loop
+mul-t64 c = search needs
 
 same-length-2 : tie.Need-same-length-2 Inv-loop μ-loop
 same-length-2 c = search needs
@@ -132,11 +138,13 @@ write-spec =
     look-requires
     handle-parsed-requires
     slot-after-requires
+    mul-next
     element-copy-out-next
     next-after-requires
     head-after-requires
     mul-w
     element-set-from-w
+    mul-t
     element-write-t
     add-j
     stop-requires
@@ -145,6 +153,6 @@ write-spec =
     add-i
     loop-less
     loop-again
-    mul-t65
+    mul-t64
     same-length-2
     returns-3)
