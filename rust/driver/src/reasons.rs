@@ -6,11 +6,11 @@ use tilgurap::{Cqe, Description, Handle, Layer, Opcode, Refusal, SlotState, Tag}
 /// Why a list is refused, where it is.
 fn list(layer: &Layer, list: &[u64]) -> Option<String> {
     for d in list {
-        let wanted = list.iter().filter(|other| *other == d).count();
+        let wanted = list.iter().filter(|other| *other == d).count() as u64;
         if *d > 63 {
             return Some(format!("description {d} is over 63"));
         }
-        if wanted > usize::from(layer.holds(Description(*d)).outside) {
+        if wanted > layer.holds(Description(*d)).outside {
             return Some(format!(
                 "the host has too few holds of description {d} to send it"
             ));

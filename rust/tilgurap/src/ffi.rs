@@ -50,8 +50,8 @@ pub struct Slot {
 #[derive(Clone, Copy, Debug, PartialEq, Eq)]
 #[repr(C)]
 pub struct Holds {
-    pub holds: [u16; 64],
-    pub outside: [u16; 64],
+    pub holds: [u64; 64],
+    pub outside: [u64; 64],
 }
 
 /// The slots, and the chain of vacated ones.
@@ -59,8 +59,8 @@ pub struct Holds {
 #[repr(C)]
 pub struct Table {
     pub slots: [Slot; 64],
-    pub next: [u8; 64],
-    pub head: u8,
+    pub next: [u64; 64],
+    pub head: u64,
     pub holds: Holds,
 }
 
@@ -68,14 +68,14 @@ pub struct Table {
 #[derive(Clone, Copy, Debug, PartialEq, Eq)]
 #[repr(C)]
 pub struct Handles {
-    pub at: [u16; 64],
+    pub at: [u64; 64],
 }
 
 #[derive(Clone, Copy, Debug, PartialEq, Eq)]
 #[repr(C)]
 pub struct WaitQueue {
-    pub first: u8,
-    pub len: u8,
+    pub first: u64,
+    pub len: u64,
 }
 
 #[derive(Clone, Copy, Debug, PartialEq, Eq)]
@@ -190,10 +190,10 @@ pub struct Cqe {
 pub struct Args(pub [u64; 6]);
 
 const _: () = assert!(size_of::<Slot>() == 72 && size_of::<List>() == 17);
-const _: () = assert!(size_of::<Table>() == 4_936 && size_of::<Driver>() == 144);
-const _: () = assert!(size_of::<State>() == 5_080);
-const _: () = assert!(size_of::<StepWords>() == 5_120 && size_of::<WakeWords>() == 5_160);
-const _: () = assert!(size_of::<ReadState>() == 5_096 && size_of::<Completed>() == 5_104);
+const _: () = assert!(size_of::<Table>() == 6_152 && size_of::<Driver>() == 536);
+const _: () = assert!(size_of::<State>() == 6_688);
+const _: () = assert!(size_of::<StepWords>() == 6_728 && size_of::<WakeWords>() == 6_768);
+const _: () = assert!(size_of::<ReadState>() == 6_704 && size_of::<Completed>() == 6_712);
 const _: () = assert!(size_of::<Regular>() == 24 && size_of::<OpenedWords>() == 24);
 const _: () = assert!(size_of::<Args>() == 48);
 #[cfg(feature = "script")]

@@ -557,13 +557,13 @@ impl Layer {
     pub fn handle(&self, handle: Handle) -> Option<Description> {
         let handles = &self.steps.state.driver.handles.at;
         let held = handles.get(usize::try_from(handle.0).ok()?)?;
-        held.checked_sub(1).map(|d| Description(u64::from(d)))
+        held.checked_sub(1).map(Description)
     }
 
     /// How many hold a description: 0 where it is not open.
     pub fn holds(&self, description: Description) -> Holds {
         let counts = &self.steps.state.table.holds;
-        let at = |of: &[u16; 64]| {
+        let at = |of: &[u64; 64]| {
             let place = usize::try_from(description.0).ok();
             place.and_then(|d| of.get(d)).copied().unwrap_or(0)
         };

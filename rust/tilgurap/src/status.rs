@@ -114,7 +114,7 @@ pub struct Status {
 #[derive(Clone, Copy, Debug, PartialEq, Eq)]
 pub struct Holds {
     /// All of them: the host's, the driver's handles' and the calls'.
-    pub all: u16,
+    pub all: u64,
     /// The host's own.
-    pub outside: u16,
+    pub outside: u64,
 }

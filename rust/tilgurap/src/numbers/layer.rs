@@ -244,10 +244,10 @@ impl Layer {
         });
         State {
             slots,
-            queue: u64::from(state.driver.queue.len),
-            holds: state.table.holds.holds.map(u64::from),
-            outside: state.table.holds.outside.map(u64::from),
-            handles: (state.driver.handles.at).map(|held| held.checked_sub(1).map(u64::from)),
+            queue: state.driver.queue.len,
+            holds: state.table.holds.holds,
+            outside: state.table.holds.outside,
+            handles: (state.driver.handles.at).map(|held| held.checked_sub(1)),
             status: self.layer.steps.status(),
         }
     }
