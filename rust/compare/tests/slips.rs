@@ -72,7 +72,7 @@ const SLIPS: [Slip; 18] = [
                 let table = &mut layer.parts_mut().table;
                 table.slots[*tag as usize].state = 0;
                 table.next[*tag as usize] = table.head;
-                table.head = *tag as u8;
+                table.head = *tag;
             }
         },
         most: FEW,
@@ -107,10 +107,10 @@ const SLIPS: [Slip; 18] = [
         after: |before, layer, _, _| {
             let (old, table) = (before.parts().table.head, &mut layer.parts_mut().table);
             // a slot came to the front of one that had been vacated before
-            let (first, second) = (usize::from(table.head), usize::from(old));
+            let (first, second) = (table.head as usize, old as usize);
             if table.head != old && first < 64 && second < 64 && table.next[first] == old {
                 table.next[first] = table.next[second];
-                table.next[second] = first as u8;
+                table.next[second] = first as u64;
                 table.head = old;
             }
         },
