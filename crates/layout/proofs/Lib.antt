@@ -1,0 +1,4 @@
+pub mod Regions
+pub mod Back
+pub mod Slots
+pub mod Worlds

@@ -1,0 +1,3 @@
+pub mod Layout
+pub mod Fits
+pub mod Store

@@ -1,0 +1,1 @@
+// The state as words: where each thing stands. Definitions and laws so far.
