@@ -21,10 +21,10 @@ use Rattle.wait_queue.specs.Queue.{placeOf}
 use Rattle.wait_queue.proofs.Unread.{getD-sets-before, getD-sets-after}
 use Rattle.events.specs.World.{World, tableOf, holdsOf, queueOf, handlesOf, schemeOf, withTable, withQueue, withHolds, withHandles, queued}
 use Rattle.layout.specs.Layout.{slotPlace, chainPlace, headPlace, allPlace, outsidePlace, schemePlace, firstPlace, unreadPlace, handlePlace, queuePlace, slotOf, slotWords, slotsFrom, part, built, plainOf}
-use Rattle.layout.specs.Fits.{SlotFits}
+use Rattle.layout.specs.Fits.{SlotFits, SlotsFit, Fits}
 use Rattle.layout.specs.Store.{Store, put, give, vacate, send, queue, outside, all, handles, putWords, giveWords, vacateWords, sendPlace, sendWords, stored, storedAll, changed, changedAll, StoreFits, StoresFit}
 use Rattle.layout.proofs.Regions.{part-after, part-before, part-in, part-at, part-length}
-use Rattle.layout.proofs.Back.{vacant-fits}
+use Rattle.layout.proofs.Back.{slot-fits, vacant-fits}
 use Rattle.layout.proofs.Slots.{slots-same, slots-store, slots-at}
 
 -- updates of one field
@@ -284,3 +284,27 @@ pub stored-all-plain : (ss : List Store) (ws : List ℕ) → length ws ≡ 2060 
 stored-all-plain [] ws size f = refl
 stored-all-plain (s ∷ ss) ws size f =
     stored-all-plain ss (stored ws s) (stored-length ws s ∙ size) (f .1) ∙ ap (λ (w : World). changedAll w ss) (stored-plain ws size s (f .0))
+
+-- what is read from any words fits them
+slots-long : (k at : ℕ) (ws : List ℕ) → length (slotsFrom k at ws) ≡ k
+unfolding slotsFrom
+slots-long zero at ws = refl
+slots-long (suc k) at ws = ap suc (slots-long k (12 + at) ws)
+
+slots-fit : (k at : ℕ) (ws : List ℕ) → SlotsFit (slotsFrom k at ws)
+unfolding slotsFrom
+slots-fit zero at ws = tt
+slots-fit (suc k) at ws = (slot-fits ws at, slots-fit k (12 + at) ws)
+
+pub plain-fits : (ws : List ℕ) → length ws ≡ 2060 → Fits (plainOf ws)
+unfolding plainOf
+plain-fits ws size =
+    record {
+      slots = slots-long 64 0 ws;
+      each = slots-fit 64 0 ws;
+      next = part-length 768 64 ws (omega (arith, size));
+      all = part-length 840 64 ws (omega (arith, size));
+      outside = part-length 904 64 ws (omega (arith, size));
+      handles = part-length 972 64 ws (omega (arith, size));
+      words = part-length 1036 1024 ws (omega (arith, size));
+    }

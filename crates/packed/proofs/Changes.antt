@@ -84,7 +84,7 @@ vacate-holds t n = go (ltb n 64)
     go false = refl
 
 -- a list is taken from the outside holds alone
-taken-all : (w : World) (ds : List ℕ) → takenHolds w ds ≡ holdsWith (holdsOf w .holds) (takenHolds w ds .outside)
+pub taken-all : (w : World) (ds : List ℕ) → takenHolds w ds ≡ holdsWith (holdsOf w .holds) (takenHolds w ds .outside)
 taken-all w ds = go (any (bad (holdsOf w) ds) ds) (ltb 16 (length ds))
   where
     go :
@@ -133,13 +133,13 @@ module _ (w : World) where
       go act.Vacate = refl
 
 module _ (w : World) (e : Cqe) where
-  abbrev decided : Decision
+  abbrev pub decided : Decision
   decided = decisionOf (parsedOf e) (slotIn w (e .tag)) (holdsOf w) (handlesOf w)
 
-  abbrev left : World
+  abbrev pub left : World
   left = after w (e .tag) decided
 
-  abbrev entered : Bool → Entered
+  abbrev pub entered : Bool → Entered
   entered b = cond b (accepted (decided .effects) left) (rejected (decided .number) (decided .effects) left)
 
 write-leaves : (es : List Cqe) (w : World) (n : ℕ) (fx : List ℕ) → Leaves w (writeOn w es n fx) (writeStores w es)

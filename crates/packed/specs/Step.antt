@@ -35,3 +35,8 @@ plainRun w (e ∷ es) = seen (step w e) (step w e .world) ∷ plainRun (step w e
 -- every slot vacant, queue and handles empty, no description open; scheme number and the queue's words as given
 abbrev pub freshWords : ℕ → List ℕ → List ℕ
 freshWords scheme words = packedOf (freshWorld scheme words)
+
+-- the words that a run leaves
+abbrev pub wordsRun : List ℕ → List Event → List ℕ
+wordsRun ws [] = ws
+wordsRun ws (e ∷ es) = wordsRun (wordsAfter ws e) es

@@ -76,7 +76,7 @@ actStores act.Store n v = put n v ∷ []
 actStores act.Vacate n v = vacate n ∷ []
 
 abbrev pub decidedStores : ℕ → Decision → List Store
-decidedStores n d = actStores (d .act) n (d .slot) ++ counts (d .holds) ++ handles (d .handles .at) ∷ []
+decidedStores n d = actStores (d .act) n (d .slot) ++ (counts (d .holds) ++ handles (d .handles .at) ∷ [])
 
 abbrev pub entryStores : World → Cqe → List Store
 entryStores w e = decidedStores (e .tag) (decisionOf (parsedOf e) (slotIn w (e .tag)) (holdsOf w) (handlesOf w))
