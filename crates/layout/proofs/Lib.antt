@@ -2,3 +2,4 @@ pub mod Regions
 pub mod Back
 pub mod Slots
 pub mod Worlds
+pub mod Packs

@@ -28,19 +28,19 @@ use Rattle.layout.proofs.Back.{slot-fits, vacant-fits}
 use Rattle.layout.proofs.Slots.{slots-same, slots-store, slots-at}
 
 -- updates of one field
-abbrev headed : World → ℕ → World
+abbrev pub headed : World → ℕ → World
 headed w x = withTable w (record { slots = tableOf w .slots; next = tableOf w .next; head = x; holds = tableOf w .holds })
 
-abbrev chained : World → ℕ → ℕ → World
+abbrev pub chained : World → ℕ → ℕ → World
 chained w n x = withTable w (record { slots = tableOf w .slots; next = set (tableOf w .next) n x; head = tableOf w .head; holds = tableOf w .holds })
 
-abbrev lengthened : World → ℕ → World
+abbrev pub lengthened : World → ℕ → World
 lengthened w x = withQueue w (record { first = queueOf w .first; len = x }) (w .words)
 
-abbrev putIn : World → ℕ → Slot → World
+abbrev pub putIn : World → ℕ → Slot → World
 putIn w n v = withTable w (storedIn (tableOf w) n v)
 
-sets-all : (l vs : List ℕ) → length l ≡ length vs → sets l 0 vs ≡ vs
+pub sets-all : (l vs : List ℕ) → length l ≡ length vs → sets l 0 vs ≡ vs
 sets-all l vs e = sets-eq vs l 0 (omega (arith, e)) ∙ ap (λ (m : List ℕ). vs ++ m) none ∙ append-nil vs
   where
     none : drop (0 + length vs) l ≡ []
@@ -92,7 +92,7 @@ module _ (ws : List ℕ) where
   queue-is = refl
 
   module _ (size : length ws ≡ 2060) where
-    put-plain : (n : ℕ) (v : Slot) → SlotFits v → n < 64 → plainOf (putWords ws n v) ≡ putIn (plainOf ws) n v
+    pub put-plain : (n : ℕ) (v : Slot) → SlotFits v → n < 64 → plainOf (putWords ws n v) ≡ putIn (plainOf ws) n v
     unfolding plainOf
     put-plain n v r b =
         ap (λ (k : ℕ). plainOf (sets ws k (slotWords v))) plain

@@ -151,13 +151,20 @@ abbrev pub slotsWords : List Slot → List ℕ
 slotsWords [] = []
 slotsWords (v ∷ vs) = slotWords v ++ slotsWords vs
 
+-- one part after the other
+abbrev pub laid : List (List ℕ) → List ℕ
+laid [] = []
+laid (l ∷ ls) = l ++ laid ls
+
 unfoldable pub packedOf : World → List ℕ
 packedOf w =
-    slotsWords (tableOf w .slots)
-    ++ tableOf w .next
-    ++ (tableOf w .head ∷ replicate 7 0)
-    ++ holdsOf w .holds
-    ++ holdsOf w .outside
-    ++ (schemeOf w ∷ queueOf w .first ∷ queueOf w .len ∷ 0 ∷ [])
-    ++ handlesOf w .at
-    ++ w .words
+    laid
+    (slotsWords (tableOf w .slots)
+    ∷ tableOf w .next
+    ∷ (tableOf w .head ∷ replicate 7 0)
+    ∷ holdsOf w .holds
+    ∷ holdsOf w .outside
+    ∷ (schemeOf w ∷ queueOf w .first ∷ queueOf w .len ∷ 0 ∷ [])
+    ∷ handlesOf w .at
+    ∷ w .words
+    ∷ [])

@@ -5,13 +5,13 @@ use mathlib.Core.Bool.{Bool, true, false, cond, _||_, true≢false}
 use mathlib.Core.List.{List, [], _∷_, _++_}
 use native.Mathlib.Omega.{arith}
 use lib.Dec.{ltb, eqb}
-use lib.ListN.{getD, drop, length}
+use lib.ListN.{getD, drop, length, replicate}
 use lib.Seq.{getD-drop}
 use Rattle.counts.proofs.Laws.{lessAll-length, moreAll-length}
 use Rattle.fd_list.specs.Lists.{numbers, listOf}
 use Rattle.schemev2.specs.declared.Cqe.{Cqe}
 use Rattle.schemev2.specs.Entry.{cqeOf}
-use Rattle.slot.specs.Slots.{noFds, withFdsOf}
+use Rattle.slot.specs.Slots.{noFds, vacantSlot, withFdsOf}
 use Rattle.events.specs.World.{World, freshWorld, tableOf, holdsOf, handlesOf, slotIn, phaseIn}
 use Rattle.events.specs.Submit.{takenHolds, badOpcode, badList, longList, reserveRows, submitRows, callRows, genericRows, stdfsRows, fmapRows, queueRows}
 use Rattle.events.specs.Wake.{wakeable, wakeRows}
@@ -21,14 +21,15 @@ use Rattle.events.specs.Descriptors.{requestOf, requestRows, listRows}
 use Rattle.events.specs.Supply.{pageRows}
 use Rattle.events.specs.Event.{DriverEvent, hostPut, reserve, submit, call, generic, stdfs, fmap, close, detach, wake, read, write, move, obtain, supply, Event, hostOpen, hostCopy, hostDrop, hostEnded, on, step}
 use Rattle.events.proofs.Checked.{Passed, checked-cases}
-use Rattle.layout.specs.Layout.{plainOf}
-use Rattle.layout.specs.Fits.{Fits}
-use Rattle.layout.specs.Store.{storedAll, changedAll, StoresFit}
-use Rattle.layout.proofs.Back.{none-fits}
-use Rattle.layout.proofs.Worlds.{plain-fits, stored-all-length, stored-all-plain}
+use Rattle.layout.specs.Layout.{plainOf, packedOf}
+use Rattle.layout.specs.Fits.{SlotsFit, Fits}
+use Rattle.layout.specs.Store.{Store, stored, storedAll, StoresFit}
+use Rattle.layout.proofs.Back.{none-fits, vacant-fits}
+use Rattle.layout.proofs.Worlds.{plain-fits, stored-plain, stored-length, stored-all-length, stored-all-plain}
+use Rattle.layout.proofs.Packs.{fits-long, packed-long, plain-packed, stored-packed}
 use Rattle.packed.specs.Stores.{counts, entryStores, goneOn, writeStores, driverStores, storesOf}
-use Rattle.packed.specs.Step.{wordsAfter, Seen, seen, packedRun, plainRun, freshWords}
-use Rattle.packed.specs.Agree.{DriverEventFits, EventFits, EventsFit, StepsAgree}
+use Rattle.packed.specs.Step.{wordsAfter, Seen, seen, packedRun, plainRun, wordsRun, freshWords}
+use Rattle.packed.specs.Agree.{DriverEventFits, EventFits, EventsFit, StepsAgree, LayoutsAgree, WordsReturn}
 use Rattle.packed.proofs.Changes.{event-leaves, decided, left, entered, after-is}
 use Rattle.packed.proofs.Fit.{Small, append-fits, made-fits, fds-changed, slot-in-fits, entry-fits, unless-fits, taken-long, all-long, listed-fits, woken-fits, supplied-fits, marks-fit, open-fits, copy-fits, drop-fits, put-fits}
 
@@ -121,3 +122,40 @@ runs-agree (e ∷ es) g ws size =
     let s = steps-agree ws size e (g .0) in
     ap₂ {C = List Seen} (λ (u : World) (l : List Seen). seen (step (plainOf ws) e) u ∷ l) s
     (runs-agree es (g .1) (wordsAfter ws e) (after-long ws e ∙ size) ∙ ap (λ (u : World). plainRun u es) s)
+
+-- a fresh state
+vacant-all : (n : ℕ) → SlotsFit (replicate n vacantSlot)
+vacant-all zero = tt
+vacant-all (suc n) = (vacant-fits, vacant-all n)
+
+fresh-fits : (scheme : ℕ) (words : List ℕ) → length words ≡ 1024 → Fits (freshWorld scheme words)
+fresh-fits scheme words h = record { slots = refl; each = vacant-all 64; next = refl; all = refl; outside = refl; handles = refl; words = h }
+
+fresh-long : (scheme : ℕ) (words : List ℕ) → length words ≡ 1024 → length (freshWords scheme words) ≡ 2060
+fresh-long scheme words h = packed-long (freshWorld scheme words) (fits-long (freshWorld scheme words) (fresh-fits scheme words h))
+
+fresh-plain : (scheme : ℕ) (words : List ℕ) → length words ≡ 1024 → plainOf (freshWords scheme words) ≡ freshWorld scheme words
+fresh-plain scheme words h = plain-packed (freshWorld scheme words) (fresh-fits scheme words h)
+
+pub layouts-agree : LayoutsAgree
+layouts-agree scheme words h es g =
+    runs-agree es g (freshWords scheme words) (fresh-long scheme words h) ∙ ap (λ (u : World). plainRun u es) (fresh-plain scheme words h)
+
+-- no word holds anything but what the plain state has
+abbrev Returns : List ℕ → Type 0
+Returns ws = packedOf (plainOf ws) ≡ ws
+
+stored-returns : (ss : List Store) → StoresFit ss → (ws : List ℕ) → length ws ≡ 2060 → Returns ws → Returns (storedAll ws ss)
+stored-returns [] g ws size r = r
+stored-returns (s ∷ ss) g ws size r =
+    stored-returns ss (g .1) (stored ws s) (stored-length ws s ∙ size)
+    (ap packedOf (stored-plain ws size s (g .0)) ∙ sym (stored-packed (plainOf ws) (plain-fits ws size) s (g .0)) ∙ ap (λ (xs : List ℕ). stored xs s) r)
+
+run-returns : (es : List Event) → EventsFit es → (ws : List ℕ) → length ws ≡ 2060 → Returns ws → Returns (wordsRun ws es)
+run-returns [] g ws size r = r
+run-returns (e ∷ es) g ws size r =
+    run-returns es (g .1) (wordsAfter ws e) (after-long ws e ∙ size) (stored-returns (storesOf (plainOf ws) e) (event-fits ws size e (g .0)) ws size r)
+
+pub words-return : WordsReturn
+words-return scheme words h es g =
+    run-returns es g (freshWords scheme words) (fresh-long scheme words h) (ap packedOf (fresh-plain scheme words h))
