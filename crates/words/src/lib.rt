@@ -1,0 +1,258 @@
+// The state as 2,060 words, changed in place: the one crate that knows where each thing stands (crate layout has its definitions).
+// Each function reads or stores one thing, on any words; no slot reads as vacant, and a store to none is nothing.
+use fd_list::List;
+use ids::Description;
+use ids::SlotNo;
+use schemev2::Sqe;
+use slot::PageSpan;
+use slot::Reply;
+use slot::Slot;
+ghost use mathlib.Core.Path.{_≡_};
+ghost use Prim.Native.Nat.{_<_, _≤_, _+_, _*_};
+ghost use lib.ListN.{length, getD};
+ghost use lib.Seq.{sets};
+ghost use Rattle.schemev2.specs.Entry.{sqeWords};
+ghost use Rattle.wait_queue.specs.Queue.{headOf};
+ghost use Rattle.events.specs.World.{tableOf, queueOf, schemeOf, slotIn};
+ghost use Rattle.layout.specs.Layout.{one as oneOf, slotOf, fdsFrom, marksWord, replyWord, lowWord, highWord, plainOf, slotWords};
+ghost use Rattle.layout.specs.Store.{stored, put as putStore, give as giveStore, vacate as vacateStore, send as sendStore};
+
+// A slot has twelve words, from 0 on; the chain of vacated slots has one for each.
+const CHAIN: usize = 768;
+const HEAD: usize = 832;
+const SCHEME: usize = 968;
+const FIRST: usize = 969;
+const UNREAD: usize = 970;
+const QUEUE: usize = 1036;
+
+pub fn head(s: &[u64; 2060]) -> u64
+    ensures { λ r. ⌜ r ≡ tableOf (plainOf (now (s .entry))) .head ⌝ }
+{
+    s[HEAD]
+}
+
+pub fn scheme(s: &[u64; 2060]) -> u64
+    ensures { λ r. ⌜ r ≡ schemeOf (plainOf (now (s .entry))) ⌝ }
+{
+    s[SCHEME]
+}
+
+pub fn unread(s: &[u64; 2060]) -> u64
+    ensures { λ r. ⌜ r ≡ queueOf (plainOf (now (s .entry))) .len ⌝ }
+{
+    s[UNREAD]
+}
+
+fn list_of(low: u64, high: u64, n: u64) -> List
+    ensures { λ r. ⌜ r ≡ fdsFrom low high n ⌝ }
+{
+    let b = low / 0x1_0000_0000;
+    let d = high / 0x1_0000_0000;
+    List {
+        at: [
+            Description((low % 256) as u8),
+            Description((low / 0x100 % 256) as u8),
+            Description((low / 0x1_0000 % 256) as u8),
+            Description((low / 0x100_0000 % 256) as u8),
+            Description((b % 256) as u8),
+            Description((b / 0x100 % 256) as u8),
+            Description((b / 0x1_0000 % 256) as u8),
+            Description((b / 0x100_0000 % 256) as u8),
+            Description((high % 256) as u8),
+            Description((high / 0x100 % 256) as u8),
+            Description((high / 0x1_0000 % 256) as u8),
+            Description((high / 0x100_0000 % 256) as u8),
+            Description((d % 256) as u8),
+            Description((d / 0x100 % 256) as u8),
+            Description((d / 0x1_0000 % 256) as u8),
+            Description((d / 0x100_0000 % 256) as u8),
+        ],
+        len: (n % 256) as u8,
+    }
+}
+
+// The slot in the twelve words from `at` on.
+fn slot_at(s: &[u64; 2060], at: usize) -> Slot
+    requires { ⌜ at + 12 ≤ 2060 ⌝ }
+    ensures { λ r. ⌜ r ≡ slotOf (now (s .entry)) at ⌝ }
+{
+    let w = s[at];
+    let r = s[at + 6];
+    let list = list_of(s[at + 9], s[at + 10], s[at + 11]);
+    Slot {
+        state: (w % 256) as u8,
+        caller: (s[at + 1] % 4294967296) as u32,
+        canceling: w / 256 % 2 == 1,
+        ended: w / 512 % 2 == 1,
+        returned: w / 1024 % 2 == 1,
+        span: PageSpan {
+            base: s[at + 4],
+            count: s[at + 5],
+        },
+        reply: Reply {
+            kind: (r % 256) as u8,
+            extra0: (r / 256 % 256) as u8,
+            notice: r / 65536 % 2 == 1,
+            word: s[at + 7],
+        },
+        fds: list,
+    }
+}
+
+// Slot n.
+pub fn load(s: &[u64; 2060], n: SlotNo) -> Slot
+    ensures { λ r. ⌜ r ≡ slotIn (plainOf (now (s .entry))) (n .0) ⌝ }
+{
+    let i = n.0 as usize;
+    if i < 64 {
+        return slot_at(s, 12 * i);
+    }
+    slot::vacant()
+}
+
+fn one(b: bool) -> u64
+    ensures { λ r. ⌜ r ≡ oneOf b ⌝ }
+    ensures { λ r. ⌜ r ≤ 1 ⌝ }
+{
+    if b {
+        return 1;
+    }
+    0
+}
+
+fn four(a: u8, b: u8, c: u8, d: u8) -> u64
+    ensures { λ r. ⌜ r ≡ a + b * 0x100 + c * 0x1_0000 + d * 0x100_0000 ⌝ }
+    ensures { λ r. ⌜ r < 0x1_0000_0000 ⌝ }
+{
+    (a as u64) + (b as u64) * 0x100 + (c as u64) * 0x1_0000 + (d as u64) * 0x100_0000
+}
+
+fn low_word(l: List) -> u64
+    ensures { λ r. ⌜ r ≡ lowWord l ⌝ }
+{
+    let at = l.at;
+    let a = four(at[0].0, at[1].0, at[2].0, at[3].0);
+    let b = four(at[4].0, at[5].0, at[6].0, at[7].0);
+    a + b * 0x1_0000_0000
+}
+
+fn high_word(l: List) -> u64
+    ensures { λ r. ⌜ r ≡ highWord l ⌝ }
+{
+    let at = l.at;
+    let a = four(at[8].0, at[9].0, at[10].0, at[11].0);
+    let b = four(at[12].0, at[13].0, at[14].0, at[15].0);
+    a + b * 0x1_0000_0000
+}
+
+fn marks_word(v: Slot) -> u64
+    ensures { λ r. ⌜ r ≡ marksWord v ⌝ }
+{
+    let a = one(v.canceling);
+    let b = one(v.ended);
+    let c = one(v.returned);
+    (v.state as u64) + a * 256 + b * 512 + c * 1024
+}
+
+fn reply_word(r: Reply) -> u64
+    ensures { λ o. ⌜ o ≡ replyWord r ⌝ }
+{
+    let a = one(r.notice);
+    (r.kind as u64) + (r.extra0 as u64) * 256 + a * 65536
+}
+
+// A slot in the twelve words from `at` on.
+fn store(s: &mut [u64; 2060], at: usize, v: Slot)
+    requires { ⌜ at + 12 ≤ 2060 ⌝ }
+    ensures { λ r. ⌜ now (s .exit) ≡ sets (now (s .entry)) at (slotWords v) ⌝ }
+{
+    let marks = marks_word(v);
+    let reply = reply_word(v.reply);
+    let low = low_word(v.fds);
+    let high = high_word(v.fds);
+    s[at] = marks;
+    s[at + 1] = v.caller as u64;
+    s[at + 2] = 0;
+    s[at + 3] = 0;
+    s[at + 4] = v.span.base;
+    s[at + 5] = v.span.count;
+    s[at + 6] = reply;
+    s[at + 7] = v.reply.word;
+    s[at + 8] = 0;
+    s[at + 9] = low;
+    s[at + 10] = high;
+    s[at + 11] = v.fds.len as u64;
+}
+
+// Slot n becomes v.
+pub fn put(s: &mut [u64; 2060], n: SlotNo, v: Slot)
+    ensures { λ r. ⌜ now (s .exit) ≡ stored (now (s .entry)) (putStore (n .0) v) ⌝ }
+{
+    let i = n.0 as usize;
+    if i < 64 {
+        store(s, 12 * i, v);
+    }
+}
+
+// The first of the chain becomes v and leaves it.
+pub fn give(s: &mut [u64; 2060], v: Slot)
+    ensures { λ r. ⌜ now (s .exit) ≡ stored (now (s .entry)) (giveStore v) ⌝ }
+{
+    let n = s[HEAD];
+    if n < 64 {
+        let i = n as usize;
+        let after = s[CHAIN + i];
+        store(s, 12 * i, v);
+        s[HEAD] = after;
+    }
+}
+
+// Slot n is vacant, and first in the chain.
+pub fn vacate(s: &mut [u64; 2060], n: SlotNo)
+    ensures { λ r. ⌜ now (s .exit) ≡ stored (now (s .entry)) (vacateStore (n .0)) ⌝ }
+{
+    let i = n.0 as usize;
+    if i < 64 {
+        let v = slot::vacant();
+        let first = s[HEAD];
+        store(s, 12 * i, v);
+        s[CHAIN + i] = first;
+        s[HEAD] = i as u64;
+    }
+}
+
+// Opcode, flags, the reserved bytes and the tag as one word.
+fn start(e: Sqe) -> u64
+    ensures { λ r. ⌜ r ≡ headOf e ⌝ }
+{
+    (e.opcode as u64) + (e.sqe_flags as u64) * 0x100 + (e.tag as u64) * 0x1_0000_0000
+}
+
+// An entry in the eight words from `at` on.
+fn store_entry(s: &mut [u64; 2060], at: usize, e: Sqe)
+    requires { ⌜ at + 8 ≤ 2060 ⌝ }
+    ensures { λ r. ⌜ now (s .exit) ≡ sets (now (s .entry)) at (sqeWords e) ⌝ }
+{
+    let args = e.args;
+    let first = start(e);
+    s[at] = first;
+    s[at + 1] = args.0;
+    s[at + 2] = args.1;
+    s[at + 3] = args.2;
+    s[at + 4] = args.3;
+    s[at + 5] = args.4;
+    s[at + 6] = args.5;
+    s[at + 7] = e.caller;
+}
+
+// One entry more in the queue, where there is room.
+pub fn send(s: &mut [u64; 2060], e: Sqe)
+    ensures { λ r. ⌜ now (s .exit) ≡ stored (now (s .entry)) (sendStore e) ⌝ }
+{
+    let len = s[UNREAD];
+    if len < 128 {
+        let place = ((s[FIRST] % 128 + len) % 128 * 8) as usize;
+        store_entry(s, QUEUE + place, e);
+        s[UNREAD] = len + 1;
+    }
+}
