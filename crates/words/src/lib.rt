@@ -3,17 +3,19 @@
 use fd_list::List;
 use ids::Description;
 use ids::SlotNo;
+use ids::Tag;
 use schemev2::Sqe;
 use slot::PageSpan;
 use slot::Reply;
 use slot::Slot;
 ghost use mathlib.Core.Path.{_≡_};
-ghost use Prim.Native.Nat.{_<_, _≤_, _+_, _*_};
+ghost use Prim.Native.Nat.{min, _<_, _≤_, _+_, _*_};
 ghost use lib.ListN.{length, getD};
 ghost use lib.Seq.{sets};
 ghost use Rattle.schemev2.specs.Entry.{sqeWords};
 ghost use Rattle.wait_queue.specs.Queue.{headOf};
-ghost use Rattle.events.specs.World.{tableOf, queueOf, schemeOf, slotIn};
+ghost use Rattle.events.specs.World.{tableOf, queueOf, schemeOf, slotIn, queueFull};
+ghost use Rattle.events.specs.Submit.{tableFull};
 ghost use Rattle.layout.specs.Layout.{one as oneOf, slotOf, fdsFrom, marksWord, replyWord, lowWord, highWord, plainOf, slotWords};
 ghost use Rattle.layout.specs.Store.{stored, put as putStore, give as giveStore, vacate as vacateStore, send as sendStore};
 
@@ -25,10 +27,11 @@ const FIRST: usize = 969;
 const UNREAD: usize = 970;
 const QUEUE: usize = 1036;
 
-pub fn head(s: &[u64; 2060]) -> u64
-    ensures { λ r. ⌜ r ≡ tableOf (plainOf (now (s .entry))) .head ⌝ }
+// The first vacant slot; none where all are occupied.
+pub fn head(s: &[u64; 2060]) -> SlotNo
+    ensures { λ r. ⌜ r .0 ≡ min (tableOf (plainOf (now (s .entry))) .head) 64 ⌝ }
 {
-    s[HEAD]
+    ids::slot_of(Tag(s[HEAD]))
 }
 
 pub fn scheme(s: &[u64; 2060]) -> u64
@@ -41,6 +44,20 @@ pub fn unread(s: &[u64; 2060]) -> u64
     ensures { λ r. ⌜ r ≡ queueOf (plainOf (now (s .entry))) .len ⌝ }
 {
     s[UNREAD]
+}
+
+// No slot is vacant.
+pub fn is_full(s: &[u64; 2060]) -> bool
+    ensures { λ r. ⌜ r ≡ tableFull (plainOf (now (s .entry))) ⌝ }
+{
+    64 <= s[HEAD]
+}
+
+// 128 entries are unread.
+pub fn queue_full(s: &[u64; 2060]) -> bool
+    ensures { λ r. ⌜ r ≡ queueFull (plainOf (now (s .entry))) ⌝ }
+{
+    128 <= s[UNREAD]
 }
 
 fn list_of(low: u64, high: u64, n: u64) -> List
