@@ -1,11 +1,11 @@
-// Hold counts of the descriptions, lent as a slice: one hold less or more, and one more for each entry of a list.
+// Hold counts of the descriptions, lent as a slice: one hold less or more, and for each entry of a list.
 // A description past the end has no holds.
 use fd_list::List;
 use ids::Description;
 ghost use mathlib.Core.Path.{_≡_};
 ghost use lib.ListN.{getD};
 ghost use Rattle.fd_list.specs.Lists.{numbers};
-ghost use Rattle.counts.specs.Counts.{less, more, moreAll, last};
+ghost use Rattle.counts.specs.Counts.{less, more, lessAll, moreAll, last};
 
 fn place(d: Description) -> usize
     ensures { λ r. ⌜ r ≡ d .0 ⌝ }
@@ -65,6 +65,19 @@ pub fn raise_all(a: &mut [u64], l: List)
     while i < n {
         let d = fd_list::pick(l, i);
         higher(a, d);
+        i += 1;
+    }
+}
+
+// One hold less for each entry of a list.
+pub fn lower_all(a: &mut [u64], l: List)
+    ensures { λ r. ⌜ now (a .exit) ≡ lessAll (now (a .entry)) (numbers l) ⌝ }
+{
+    let n = fd_list::size(l);
+    let mut i = 0;
+    while i < n {
+        let d = fd_list::pick(l, i);
+        lower(a, d);
         i += 1;
     }
 }

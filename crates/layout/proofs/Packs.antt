@@ -220,8 +220,7 @@ module _ (w : World) (f : Long w) where
   unfolding packedOf
   packed-long =
       let a = slotsWords (tableOf w .slots) in
-      omega
-      (
+      omega (
         arith,
         first-part,
         f .next,

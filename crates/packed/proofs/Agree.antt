@@ -95,9 +95,9 @@ module _ (ws : List ℕ) (size : length ws ≡ 2060) where
   driver-fits (move ms ds) g =
       unless-fits w f (listRows w ds) _
       (λ p.
-        checked-cases StoresFit (λ k. counts (dropped (takenHolds w ds) ds)) (requestRows w 1 ms) _
-        (λ k. (taken-long w f ds, (lessAll-length ds (takenHolds w ds .holds) ∙ all-long w f ds, tt)))
-        (λ q. (fds-changed (slotIn w (requestOf ms)) (listOf ds) (slot-in-fits w f (requestOf ms)) (listed-fits w f ds (p .0) (p .1 .0)), (taken-long w f ds, (lessAll-length (numbers (slotIn w (requestOf ms) .fds)) (takenHolds w ds .holds) ∙ all-long w f ds, tt)))))
+      checked-cases StoresFit (λ k. counts (dropped (takenHolds w ds) ds)) (requestRows w 1 ms) _
+      (λ k. (taken-long w f ds, (lessAll-length ds (takenHolds w ds .holds) ∙ all-long w f ds, tt)))
+      (λ q. (fds-changed (slotIn w (requestOf ms)) (listOf ds) (slot-in-fits w f (requestOf ms)) (listed-fits w f ds (p .0) (p .1 .0)), (taken-long w f ds, (lessAll-length (numbers (slotIn w (requestOf ms) .fds)) (takenHolds w ds .holds) ∙ all-long w f ds, tt)))))
   driver-fits (obtain ms) g =
       unless-fits w f (requestRows w 0 ms) _
       (λ p. (fds-changed (slotIn w (requestOf ms)) noFds (slot-in-fits w f (requestOf ms)) none-fits, (moreAll-length (numbers (slotIn w (requestOf ms) .fds)) (holdsOf w .outside) ∙ f .outside, tt)))

@@ -90,7 +90,7 @@ taken-all w ds = go (any (bad (holdsOf w) ds) ds) (ltb 16 (length ds))
     go :
         (a b : Bool)
         → let h : Holds = cond a (takenAs take.BadArgument [] (holdsOf w)) (cond b (takenAs take.TooMany [] (holdsOf w)) (takenAs take.Taken ds (holdsWith (holdsOf w .holds) (lessAll (holdsOf w .outside) ds)))) .holds in
-          h ≡ holdsWith (holdsOf w .holds) (h .outside)
+        h ≡ holdsWith (holdsOf w .holds) (h .outside)
     go true b = refl
     go false true = refl
     go false false = refl
@@ -231,8 +231,8 @@ module _ (w : World) where
   move-leaves :
       (ms ds : List ℕ)
       → Leaves w (checked (refuse (broughtBack w ds)) (requestRows w 1 ms) (moved w (requestOf ms) ds))
-        (checked (λ k. counts (dropped (takenHolds w ds) ds)) (requestRows w 1 ms)
-        (put (requestOf ms) (withFdsOf (slotIn w (requestOf ms)) (listOf ds)) ∷ counts (dropped (takenHolds w ds) (numbers (slotIn w (requestOf ms) .fds)))))
+      (checked (λ k. counts (dropped (takenHolds w ds) ds)) (requestRows w 1 ms)
+      (put (requestOf ms) (withFdsOf (slotIn w (requestOf ms)) (listOf ds)) ∷ counts (dropped (takenHolds w ds) (numbers (slotIn w (requestOf ms) .fds)))))
   move-leaves ms ds =
       both-checked (Leaves w) (refuse (broughtBack w ds)) (λ k. counts (dropped (takenHolds w ds) ds)) (requestRows w 1 ms) (moved w (requestOf ms) ds)
       (put (requestOf ms) (withFdsOf (slotIn w (requestOf ms)) (listOf ds)) ∷ counts (dropped (takenHolds w ds) (numbers (slotIn w (requestOf ms) .fds))))

@@ -358,6 +358,6 @@ module _ (w : World) (f : Fits w) where
       go :
           (b : Bool)
           → let r : HoldPut = cond b (put-hold BadArgument (handlesOf w) (holdsOf w)) (put-hold Done (into (handlesOf w) k d) (inside (holdsOf w) d)) in
-            StoresFit (counts (r .holds) ++ handles (r .handles .at) ∷ [])
+          StoresFit (counts (r .holds) ++ handles (r .handles .at) ∷ [])
       go true = (f .outside, (f .all, (f .handles, tt)))
       go false = (less-length (holdsOf w .outside) d ∙ f .outside, (f .all, (length-set (handlesOf w .at) k (suc d) ∙ f .handles, tt)))

@@ -33,23 +33,23 @@ checked-passed f (r ∷ rs) x p = ap (λ (b : Bool). cond b (f (r .number)) (che
 
 -- an event whose step and stores go by the same rows
 module _
-  (ws : List ℕ) (e : Event) (rows : List Row) (o : Outcome) (ss : List Store)
-  (is : step (plainOf ws) e ≡ checked (refuse (plainOf ws)) rows o) (stores : storesOf (plainOf ws) e ≡ unless rows ss)
+    (ws : List ℕ) (e : Event) (rows : List Row) (o : Outcome) (ss : List Store)
+    (is : step (plainOf ws) e ≡ checked (refuse (plainOf ws)) rows o) (stores : storesOf (plainOf ws) e ≡ unless rows ss)
   where
-  pub turned : (k : ℕ) → Due rows k → (a : Answer) (fx : List ℕ) → a ≡ no k → fx ≡ [] → Does ws ws e a fx
-  turned k d a fx p q =
-      let r : step (plainOf ws) e ≡ refuse (plainOf ws) k = is ∙ checked-due (refuse (plainOf ws)) rows o k d in
-      record {
-        answer = p ∙ sym (ap (λ (x : Outcome). x .answer) r);
-        effects = q ∙ sym (ap (λ (x : Outcome). x .effects) r);
-        words = sym (ap (storedAll ws) (stores ∙ checked-due (λ j. []) rows ss k d));
-      }
+    pub turned : (k : ℕ) → Due rows k → (a : Answer) (fx : List ℕ) → a ≡ no k → fx ≡ [] → Does ws ws e a fx
+    turned k d a fx p q =
+        let r : step (plainOf ws) e ≡ refuse (plainOf ws) k = is ∙ checked-due (refuse (plainOf ws)) rows o k d in
+        record {
+          answer = p ∙ sym (ap (λ (x : Outcome). x .answer) r);
+          effects = q ∙ sym (ap (λ (x : Outcome). x .effects) r);
+          words = sym (ap (storedAll ws) (stores ∙ checked-due (λ j. []) rows ss k d));
+        }
 
-  pub carried : Passed rows → (xs : List ℕ) (a : Answer) (fx : List ℕ) → a ≡ o .answer → fx ≡ o .effects → xs ≡ storedAll ws ss → Does ws xs e a fx
-  carried p xs a fx q g h =
-      let r : step (plainOf ws) e ≡ o = is ∙ checked-passed (refuse (plainOf ws)) rows o p in
-      record {
-        answer = q ∙ sym (ap (λ (x : Outcome). x .answer) r);
-        effects = g ∙ sym (ap (λ (x : Outcome). x .effects) r);
-        words = h ∙ sym (ap (storedAll ws) (stores ∙ checked-passed (λ j. []) rows ss p));
-      }
+    pub carried : Passed rows → (xs : List ℕ) (a : Answer) (fx : List ℕ) → a ≡ o .answer → fx ≡ o .effects → xs ≡ storedAll ws ss → Does ws xs e a fx
+    carried p xs a fx q g h =
+        let r : step (plainOf ws) e ≡ o = is ∙ checked-passed (refuse (plainOf ws)) rows o p in
+        record {
+          answer = q ∙ sym (ap (λ (x : Outcome). x .answer) r);
+          effects = g ∙ sym (ap (λ (x : Outcome). x .effects) r);
+          words = h ∙ sym (ap (storedAll ws) (stores ∙ checked-passed (λ j. []) rows ss p));
+        }

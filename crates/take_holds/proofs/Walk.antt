@@ -158,3 +158,10 @@ full-not h left at i b = rw (le-ltb 16 i b) refl
 
 pub refused-is : (h : Holds) (a : TakeAnswer) (l : Sent) → l ≡ listOf [] → record { answer = a; list = l; holds = h } ≡ takenAs a [] h
 refused-is h a l e = rw e refl
+
+-- a list that was looked at
+pub told : (a : TakeAnswer) (l : Sent) (h : Holds) (W : Taken) → record { answer = a; list = l; holds = h } ≡ W → (a ≡ W .answer) × (l ≡ W .list)
+told a l h W e = (ap (λ (t : Taken). t .answer) e, ap (λ (t : Taken). t .list) e)
+
+pub told-none : (a : TakeAnswer) (l : Sent) (h : Holds) (W : Taken) → l ≡ listOf [] → takenAs a [] h ≡ W → (a ≡ W .answer) × (l ≡ W .list)
+told-none a l h W q e = (ap (λ (t : Taken). t .answer) e, q ∙ ap (λ (t : Taken). t .list) e)

@@ -5,6 +5,7 @@ use ids::Description;
 use ids::DescriptionFound;
 ghost use mathlib.Core.Path.{_≡_};
 ghost use mathlib.Core.List.{[]};
+ghost use Rattle.holds.specs.Holds.{holdsWith};
 ghost use Rattle.take_holds.specs.Take.{takenAs, takeOf};
 
 pub enum TakeAnswer {
@@ -68,5 +69,54 @@ pub fn take_list(h: Holds, words: &[u64]) -> Taken
             holds: all,
             outside: left,
         },
+    }
+}
+
+// What a list is refused for, or the list.
+pub struct Looked {
+    pub answer: TakeAnswer,
+    pub list: List,
+}
+
+// The list against the counts of all holds and of outside ones: nothing is taken yet.
+pub fn look(all: &[u64], outside: [u64; 64], words: &[u64]) -> Looked
+    ensures { λ r. ⌜ (r .answer ≡ takeOf (holdsWith (now (all .entry)) outside) (now (words .entry)) .answer) × (r .list ≡ takeOf (holdsWith (now (all .entry)) outside) (now (words .entry)) .list) ⌝ }
+{
+    let mut left = outside;
+    let zero = Description(0);
+    let mut list = List {
+        at: [zero; 16],
+        len: 0,
+    };
+    let mut i = 0;
+    while i < words.len() {
+        let next = holds::held_outside(all, &left, words[i]);
+        match next {
+            DescriptionFound::Outside => {
+                let none = fd_list::empty();
+                return Looked {
+                    answer: TakeAnswer::BadArgument,
+                    list: none,
+                };
+            }
+            DescriptionFound::At(d) => {
+                counts::lower(&mut left, d);
+                let longer = fd_list::with(list, i, d);
+                list = longer;
+            }
+        }
+        i += 1;
+    }
+    if 16 < i {
+        let none = fd_list::empty();
+        return Looked {
+            answer: TakeAnswer::TooMany,
+            list: none,
+        };
+    }
+    list.len = i as u8;
+    Looked {
+        answer: TakeAnswer::Taken,
+        list: list,
     }
 }

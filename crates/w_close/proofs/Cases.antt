@@ -17,18 +17,18 @@ use Rattle.step.proofs.Rows.{turned, carried}
 
 -- an event that queues the entry f, with the root's event and these flags
 module _
-  (ws : List ℕ) (e : Event) (flags : ℕ) (f : Sqe)
-  (is : step (plainOf ws) e ≡ checked (refuse (plainOf ws)) (queueRows (plainOf ws)) (notified (plainOf ws) flags f))
-  (stores : storesOf (plainOf ws) e ≡ unless (queueRows (plainOf ws)) (send f ∷ []))
+    (ws : List ℕ) (e : Event) (flags : ℕ) (f : Sqe)
+    (is : step (plainOf ws) e ≡ checked (refuse (plainOf ws)) (queueRows (plainOf ws)) (notified (plainOf ws) flags f))
+    (stores : storesOf (plainOf ws) e ≡ unless (queueRows (plainOf ws)) (send f ∷ []))
   where
-  abbrev w : World
-  w = plainOf ws
+    abbrev w : World
+    w = plainOf ws
 
-  pub full : queueFull w ≡ true → (a : Answer) (fx : List ℕ) → a ≡ no 203 → fx ≡ [] → Does ws ws e a fx
-  full q = turned ws e (queueRows w) (notified w flags f) (send f ∷ []) is stores 203 (rw q refl)
+    pub full : queueFull w ≡ true → (a : Answer) (fx : List ℕ) → a ≡ no 203 → fx ≡ [] → Does ws ws e a fx
+    full q = turned ws e (queueRows w) (notified w flags f) (send f ∷ []) is stores 203 (rw q refl)
 
-  pub queued :
-      (bits : ℕ) (g : Sqe) (xs fx : List ℕ) (a : Answer) → queueFull w ≡ false → bits ≡ flags → g ≡ f → a ≡ ok 0 → fx ≡ rootEffect w bits → xs ≡ storedAll ws (send g ∷ [])
-      → Does ws xs e a fx
-  queued bits g xs fx a q b h p r x =
-      carried ws e (queueRows w) (notified w flags f) (send f ∷ []) is stores (q, tt) xs a fx p (r ∙ ap (rootEffect w) b) (x ∙ ap (λ (y : Sqe). storedAll ws (send y ∷ [])) h)
+    pub queued :
+        (bits : ℕ) (g : Sqe) (xs fx : List ℕ) (a : Answer) → queueFull w ≡ false → bits ≡ flags → g ≡ f → a ≡ ok 0 → fx ≡ rootEffect w bits → xs ≡ storedAll ws (send g ∷ [])
+        → Does ws xs e a fx
+    queued bits g xs fx a q b h p r x =
+        carried ws e (queueRows w) (notified w flags f) (send f ∷ []) is stores (q, tt) xs a fx p (r ∙ ap (rootEffect w) b) (x ∙ ap (λ (y : Sqe). storedAll ws (send y ∷ [])) h)

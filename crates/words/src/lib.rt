@@ -2,29 +2,50 @@
 // Each function reads or stores one thing, on any words; no slot reads as vacant, and a store to none is nothing.
 use fd_list::List;
 use ids::Description;
+use ids::DescriptionFound;
+use ids::Handle;
 use ids::SlotNo;
 use ids::Tag;
 use schemev2::Sqe;
 use slot::PageSpan;
 use slot::Reply;
 use slot::Slot;
+use take_holds::Looked;
+use take_holds::TakeAnswer;
 ghost use mathlib.Core.Path.{_≡_};
 ghost use Prim.Native.Nat.{min, _<_, _≤_, _+_, _*_};
-ghost use lib.ListN.{length, getD};
+ghost use lib.ListN.{length, getD, set};
 ghost use lib.Seq.{sets};
+ghost use Rattle.closes.specs.Closes.{only, closes};
+ghost use Rattle.counts.specs.Counts.{less, more, lessAll, moreAll, lasts};
+ghost use Rattle.fd_list.specs.Lists.{numbers};
+ghost use Rattle.handles.specs.Handles.{heldAt, into, emptied};
+ghost use Rattle.holds.specs.Holds.{heldOf};
 ghost use Rattle.schemev2.specs.Entry.{sqeWords};
+ghost use Rattle.take_holds.specs.Take.{takeOf};
 ghost use Rattle.wait_queue.specs.Queue.{headOf};
-ghost use Rattle.events.specs.World.{tableOf, queueOf, schemeOf, slotIn, queueFull};
+ghost use Rattle.events.specs.World.{tableOf, holdsOf, handlesOf, queueOf, schemeOf, slotIn, queueFull};
 ghost use Rattle.events.specs.Submit.{tableFull};
 ghost use Rattle.layout.specs.Layout.{one as oneOf, slotOf, fdsFrom, marksWord, replyWord, lowWord, highWord, plainOf, slotWords};
-ghost use Rattle.layout.specs.Store.{stored, put as putStore, give as giveStore, vacate as vacateStore, send as sendStore};
+ghost use Rattle.layout.specs.Store.{stored, put as putStore, give as giveStore, vacate as vacateStore, send as sendStore, outside as outsideStore, all as allStore, handles as handlesStore};
 
 // A slot has twelve words, from 0 on; the chain of vacated slots has one for each.
 const CHAIN: usize = 768;
+
 const HEAD: usize = 832;
+
+const ALL: usize = 840;
+
+const OUTSIDE: usize = 904;
+
 const SCHEME: usize = 968;
+
 const FIRST: usize = 969;
+
 const UNREAD: usize = 970;
+
+const HANDLES: usize = 972;
+
 const QUEUE: usize = 1036;
 
 // The first vacant slot; none where all are occupied.
@@ -272,4 +293,218 @@ pub fn send(s: &mut [u64; 2060], e: Sqe)
         store_entry(s, QUEUE + place, e);
         s[UNREAD] = len + 1;
     }
+}
+
+// Nothing but what is known of so many words: there are 2,060.
+fn known(a: [u64; 2060])
+    ensures { λ r. ⌜ length a ≡ 2060 ⌝ }
+{}
+
+fn sized(s: &[u64; 2060])
+    ensures { λ r. ⌜ length (now (s .entry)) ≡ 2060 ⌝ }
+{
+    let a = *s;
+    known(a);
+}
+
+// The counts of outside holds.
+fn outside(s: &[u64; 2060]) -> [u64; 64]
+    ensures { λ r. ⌜ r ≡ holdsOf (plainOf (now (s .entry))) .outside ⌝ }
+{
+    sized(s);
+    let mut a = [0; 64];
+    let mut i = 0;
+    while i < 64 {
+        a[i] = s[OUTSIDE + i];
+        i += 1;
+    }
+    a
+}
+
+// A list against the counts: what it is refused for, or the list; nothing is taken yet.
+pub fn look(s: &[u64; 2060], fds: &[u64]) -> Looked
+    ensures { λ r. ⌜ (r .answer ≡ takeOf (holdsOf (plainOf (now (s .entry)))) (now (fds .entry)) .answer) × (r .list ≡ takeOf (holdsOf (plainOf (now (s .entry)))) (now (fds .entry)) .list) ⌝ }
+{
+    sized(s);
+    if fds.len() == 0 {
+        let none = fd_list::empty();
+        return Looked {
+            answer: TakeAnswer::Taken,
+            list: none,
+        };
+    }
+    let out = outside(s);
+    let t = &s[..];
+    let all = &t[ALL..OUTSIDE];
+    take_holds::look(all, out, fds)
+}
+
+// The description that a word names, if it is open and has an outside hold.
+pub fn held(s: &[u64; 2060], word: u64) -> DescriptionFound
+    ensures { λ r. ⌜ r ≡ heldOf (holdsOf (plainOf (now (s .entry))) .holds) (holdsOf (plainOf (now (s .entry))) .outside) word ⌝ }
+{
+    sized(s);
+    let t = &s[..];
+    let all = &t[ALL..OUTSIDE];
+    let out = &t[OUTSIDE..SCHEME];
+    holds::held_outside(all, out, word)
+}
+
+// How many holds a description has.
+pub fn holds_of(s: &[u64; 2060], d: Description) -> u64
+    ensures { λ r. ⌜ r ≡ getD (holdsOf (plainOf (now (s .entry))) .holds) (d .0) 0 ⌝ }
+{
+    sized(s);
+    let t = &s[..];
+    let all = &t[ALL..OUTSIDE];
+    counts::count_at(all, d)
+}
+
+fn take_in(s: &mut [u64], l: List)
+    requires { ⌜ length (now s) ≡ 2060 ⌝ }
+    ensures { λ r. ⌜ now (s .exit) ≡ stored (now (s .entry)) (outsideStore (lessAll (holdsOf (plainOf (now (s .entry))) .outside) (numbers l))) ⌝ }
+{
+    counts::lower_all(&mut s[OUTSIDE..SCHEME], l);
+}
+
+// A list's holds leave the outside ones.
+pub fn take(s: &mut [u64; 2060], l: List)
+    ensures { λ r. ⌜ now (s .exit) ≡ stored (now (s .entry)) (outsideStore (lessAll (holdsOf (plainOf (now (s .entry))) .outside) (numbers l))) ⌝ }
+{
+    sized(s);
+    take_in(s, l);
+}
+
+fn give_back_in(s: &mut [u64], l: List)
+    requires { ⌜ length (now s) ≡ 2060 ⌝ }
+    ensures { λ r. ⌜ now (s .exit) ≡ stored (now (s .entry)) (outsideStore (moreAll (holdsOf (plainOf (now (s .entry))) .outside) (numbers l))) ⌝ }
+{
+    counts::raise_all(&mut s[OUTSIDE..SCHEME], l);
+}
+
+// A list's holds become outside holds.
+pub fn to_outside(s: &mut [u64; 2060], l: List)
+    ensures { λ r. ⌜ now (s .exit) ≡ stored (now (s .entry)) (outsideStore (moreAll (holdsOf (plainOf (now (s .entry))) .outside) (numbers l))) ⌝ }
+{
+    sized(s);
+    give_back_in(s, l);
+}
+
+fn drop_in(s: &mut [u64], l: List, follows: bool, fx: &mut [u64], at: usize) -> usize
+    requires { ⌜ length (now s) ≡ 2060 ⌝ }
+    ensures { λ r. ⌜ r ≡ length (only follows (lasts (holdsOf (plainOf (now (s .entry))) .holds) (numbers l))) ⌝ }
+    ensures { λ r. ⌜ now (s .exit) ≡ stored (now (s .entry)) (allStore (lessAll (holdsOf (plainOf (now (s .entry))) .holds) (numbers l))) ⌝ }
+    ensures { λ r. ⌜ now (fx .exit) ≡ sets (now (fx .entry)) at (closes (only follows (lasts (holdsOf (plainOf (now (s .entry))) .holds) (numbers l)))) ⌝ }
+    ensures { λ r. ⌜ r ≤ 16 ⌝ }
+{
+    closes::drop_all(&mut s[ALL..OUTSIDE], l, follows, fx, at)
+}
+
+// A list's holds dropped, the closes that follow stored in the lent words from `at` on; says how many closes these are.
+pub fn drop_all(s: &mut [u64; 2060], l: List, follows: bool, fx: &mut [u64], at: usize) -> usize
+    ensures { λ r. ⌜ r ≡ length (only follows (lasts (holdsOf (plainOf (now (s .entry))) .holds) (numbers l))) ⌝ }
+    ensures { λ r. ⌜ now (s .exit) ≡ stored (now (s .entry)) (allStore (lessAll (holdsOf (plainOf (now (s .entry))) .holds) (numbers l))) ⌝ }
+    ensures { λ r. ⌜ now (fx .exit) ≡ sets (now (fx .entry)) at (closes (only follows (lasts (holdsOf (plainOf (now (s .entry))) .holds) (numbers l)))) ⌝ }
+    ensures { λ r. ⌜ r ≤ 16 ⌝ }
+{
+    sized(s);
+    drop_in(s, l, follows, fx, at)
+}
+
+fn lower_in(s: &mut [u64], d: Description)
+    requires { ⌜ length (now s) ≡ 2060 ⌝ }
+    ensures { λ r. ⌜ now (s .exit) ≡ stored (now (s .entry)) (outsideStore (less (holdsOf (plainOf (now (s .entry))) .outside) (d .0))) ⌝ }
+{
+    counts::lower(&mut s[OUTSIDE..SCHEME], d);
+}
+
+// One outside hold less.
+pub fn lower_outside(s: &mut [u64; 2060], d: Description)
+    ensures { λ r. ⌜ now (s .exit) ≡ stored (now (s .entry)) (outsideStore (less (holdsOf (plainOf (now (s .entry))) .outside) (d .0))) ⌝ }
+{
+    sized(s);
+    lower_in(s, d);
+}
+
+fn lower_all_in(s: &mut [u64], d: Description)
+    requires { ⌜ length (now s) ≡ 2060 ⌝ }
+    ensures { λ r. ⌜ now (s .exit) ≡ stored (now (s .entry)) (allStore (less (holdsOf (plainOf (now (s .entry))) .holds) (d .0))) ⌝ }
+{
+    counts::lower(&mut s[ALL..OUTSIDE], d);
+}
+
+// One hold less of all.
+pub fn lower(s: &mut [u64; 2060], d: Description)
+    ensures { λ r. ⌜ now (s .exit) ≡ stored (now (s .entry)) (allStore (less (holdsOf (plainOf (now (s .entry))) .holds) (d .0))) ⌝ }
+{
+    sized(s);
+    lower_all_in(s, d);
+}
+
+fn raise_in(s: &mut [u64], d: Description)
+    requires { ⌜ length (now s) ≡ 2060 ⌝ }
+    ensures { λ r. ⌜ now (s .exit) ≡ stored (now (s .entry)) (outsideStore (more (holdsOf (plainOf (now (s .entry))) .outside) (d .0))) ⌝ }
+{
+    counts::higher(&mut s[OUTSIDE..SCHEME], d);
+}
+
+// One outside hold more.
+pub fn raise_outside(s: &mut [u64; 2060], d: Description)
+    ensures { λ r. ⌜ now (s .exit) ≡ stored (now (s .entry)) (outsideStore (more (holdsOf (plainOf (now (s .entry))) .outside) (d .0))) ⌝ }
+{
+    sized(s);
+    raise_in(s, d);
+}
+
+fn raise_all_in(s: &mut [u64], d: Description)
+    requires { ⌜ length (now s) ≡ 2060 ⌝ }
+    ensures { λ r. ⌜ now (s .exit) ≡ stored (now (s .entry)) (allStore (more (holdsOf (plainOf (now (s .entry))) .holds) (d .0))) ⌝ }
+{
+    counts::higher(&mut s[ALL..OUTSIDE], d);
+}
+
+// One hold more of all.
+pub fn raise(s: &mut [u64; 2060], d: Description)
+    ensures { λ r. ⌜ now (s .exit) ≡ stored (now (s .entry)) (allStore (more (holdsOf (plainOf (now (s .entry))) .holds) (d .0))) ⌝ }
+{
+    sized(s);
+    raise_all_in(s, d);
+}
+
+// What handle k holds: 0, or the description and 1; one over 63 is empty.
+pub fn held_at(s: &[u64; 2060], k: Handle) -> u64
+    ensures { λ r. ⌜ r ≡ heldAt (handlesOf (plainOf (now (s .entry)))) (k .0) ⌝ }
+{
+    sized(s);
+    let i = k.0;
+    if i < 64 {
+        let j = i as usize;
+        return s[HANDLES + j];
+    }
+    0
+}
+
+fn set_handle(s: &mut [u64; 2060], k: Handle, v: u64)
+    ensures { λ r. ⌜ now (s .exit) ≡ stored (now (s .entry)) (handlesStore (set (handlesOf (plainOf (now (s .entry))) .at) (k .0) v)) ⌝ }
+{
+    sized(s);
+    let i = k.0;
+    if i < 64 {
+        let j = i as usize;
+        s[HANDLES + j] = v;
+    }
+}
+
+// Handle k holds d from now on.
+pub fn put_into(s: &mut [u64; 2060], k: Handle, d: Description)
+    ensures { λ r. ⌜ now (s .exit) ≡ stored (now (s .entry)) (handlesStore (into (handlesOf (plainOf (now (s .entry)))) (k .0) (d .0) .at)) ⌝ }
+{
+    set_handle(s, k, d.0 as u64 + 1);
+}
+
+// Handle k is empty from now on.
+pub fn empty_handle(s: &mut [u64; 2060], k: Handle)
+    ensures { λ r. ⌜ now (s .exit) ≡ stored (now (s .entry)) (handlesStore (emptied (handlesOf (plainOf (now (s .entry)))) (k .0) .at)) ⌝ }
+{
+    set_handle(s, k, 0);
 }

@@ -36,7 +36,7 @@ cast-t13 : tie.Need-cast-t13
 cast-t13 c = search needs
 
 returns : tie.Need-returns
-returns c = 
+returns c =
     let a = c .before .before .before .before .before .before .before .before .before .before .before .args in
     (ap ok (c .before .before .before .before .before .before .before .before .before .head .ensures), (c .before .root .ensures ∙ ap₂ rootWords (c .before .before .before .before .before .before .before .scheme .ensures) (c .before .before .event-read .ensures), c .before .before .before .send .ensures ∙ ap (λ (xs : List ℕ). stored xs (send (a .e))) (c .before .before .before .before .before .give .ensures)))
 

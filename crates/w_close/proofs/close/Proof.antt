@@ -42,7 +42,7 @@ notified-requires : tie.Need-notified-requires
 notified-requires c κs = search needs
 
 returns-2 : tie.Need-returns-2
-returns-2 c = 
+returns-2 c =
     let a = c .before .before .before .before .before .before .before .before .args in
     queued (a .s .now) (on (close (a .id))) (eventRead + eventHup) (closeEntry (a .id)) refl refl _ _ _ _ _ (is (c .before .before .before .before .before .before .queue-full .ensures) (c .before .before .before .before .before .if1 .left)) (ap₂ _+_ (c .before .before .before .event-read .ensures) (c .before .before .event-hup .ensures)) (ap (λ op. sqe op 0 0 (args6 (a .id) 0 0 0 0 0) 0) (c .before .before .before .before .close-msg .ensures)) (c .notified .ensures .0) (c .notified .ensures .1 .0) (c .notified .ensures .1 .1)
 

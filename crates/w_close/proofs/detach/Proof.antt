@@ -34,7 +34,7 @@ notified-requires : tie.Need-notified-requires
 notified-requires c κs = search needs
 
 returns-2 : tie.Need-returns-2
-returns-2 c = 
+returns-2 c =
     let a = c .before .before .before .before .before .before .before .args in
     queued (a .s .now) (on (detach (a .id) (a .pid))) eventRead (detachEntry (a .id) (a .pid)) refl refl _ _ _ _ _ (is (c .before .before .before .before .before .queue-full .ensures) (c .before .before .before .before .if1 .left)) (c .before .before .event-read .ensures) (ap (λ op. sqe op 0 0 (args6 (a .id) 0 0 0 0 0) (a .pid)) (c .before .before .before .detach .ensures)) (c .notified .ensures .0) (c .notified .ensures .1 .0) (c .notified .ensures .1 .1)
 

@@ -34,7 +34,7 @@ turned-down-requires : tie.Need-turned-down-requires
 turned-down-requires c κs = search needs
 
 returns : tie.Need-returns
-returns c = 
+returns c =
     let a = c .before .before .before .before .args in
     let ws : List ℕ = a .s .now in
     let w : World = plainOf ws in
@@ -50,7 +50,7 @@ turned-down-requires-2 : tie.Need-turned-down-requires-2
 turned-down-requires-2 c κs = search needs
 
 returns-2 : tie.Need-returns-2
-returns-2 c = 
+returns-2 c =
     let a = c .before .before .before .before .before .before .before .args in
     let ws : List ℕ = a .s .now in
     let w : World = plainOf ws in
@@ -78,7 +78,7 @@ begun-requires : tie.Need-begun-requires
 begun-requires c κs = search needs
 
 returns-3 : tie.Need-returns-3
-returns-3 c = 
+returns-3 c =
     let a = c .before .before .before .before .before .before .before .before .before .before .before .before .before .before .args in
     let ws : List ℕ = a .s .now in
     let w : World = plainOf ws in

@@ -132,7 +132,7 @@ element-write-s-12 : tie.Need-element-write-s-12
 element-write-s-12 c = search needs
 
 returns : tie.Need-returns
-returns c = 
+returns c =
     let b = c .before .before .before .before .before .before .args in
     let v = b .v in
     twelve (b .s .now) (b .at) _ (v .caller) 0 0 (v .span .base) (v .span .count) _ (v .reply .word) 0 _ _ (v .fds .len) _ _ _ _ (c .before .before .before .before .before .marks-word .ensures) (c .before .before .before .before .reply-word .ensures) (c .before .before .before .low-word .ensures) (c .before .before .high-word .ensures)

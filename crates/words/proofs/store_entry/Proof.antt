@@ -78,7 +78,7 @@ element-write-s-8 : tie.Need-element-write-s-8
 element-write-s-8 c = search needs
 
 returns : tie.Need-returns
-returns c = 
+returns c =
     let b = c .before .before .args in
     let e = b .e in
     eight (b .s .now) (b .at) _ (e .args .0) (e .args .1) (e .args .2) (e .args .3) (e .args .4) (e .args .5) (e .caller) _ (c .start .ensures)

@@ -1,0 +1,95 @@
+-- Counts and handles among the words: a part that was lent and came back, and one of its words. Assumes nothing.
+use Prim.Native.Nat.{ℕ, suc, _+_, _<_, _≤_}
+use mathlib.Core.Path.{_≡_, refl, sym, ap, ap₂, _∙_}
+use mathlib.Core.List.{List, [], _∷_, _++_}
+use native.Mathlib.Omega.{arith}
+use native.Mathlib.Numerals.{add-one}
+use lib.ListN.{getD, set, take, drop, length, List·getD-eq-default}
+use lib.Seq.{sets, set-out, take-suc, take-suc-set, take-all}
+use Rattle.fd_list.specs.declared.List.{List as Fds}
+use Rattle.fd_list.specs.Lists.{listOf}
+use Rattle.handles.specs.Handles.{heldAt}
+use Rattle.holds.specs.Holds.{holdsWith}
+use Rattle.take_holds.specs.declared.Taken.{Taken}
+use Rattle.take_holds.specs.declared.TakeAnswer.{TakeAnswer}
+use Rattle.take_holds.specs.declared.TakeAnswer.the-variants as take
+use Rattle.take_holds.specs.Take.{takeOf}
+use Rattle.events.specs.World.{holdsOf, handlesOf}
+use Rattle.layout.specs.Layout.{part, plainOf}
+use Rattle.layout.specs.Store.{stored, outside, all, handles}
+use Rattle.layout.proofs.Regions.{part-at, part-length, same-part, one-part, relent}
+use Rattle.layout.proofs.Worlds.{outside-is, handles-is}
+
+module _ (ws : List ℕ) where
+  pub all-lent : take 64 (drop 840 ws) ≡ holdsOf (plainOf ws) .holds
+  unfolding plainOf part
+  all-lent = refl
+
+  pub outside-lent : take 64 (drop 904 ws) ≡ holdsOf (plainOf ws) .outside
+  unfolding plainOf part
+  outside-lent = refl
+
+  pub looked :
+      (ds xs ys : List ℕ) (a : TakeAnswer) (l : Fds) → xs ≡ holdsOf (plainOf ws) .holds → ys ≡ holdsOf (plainOf ws) .outside
+      → (a ≡ takeOf (holdsWith xs ys) ds .answer) × (l ≡ takeOf (holdsWith xs ys) ds .list)
+      → (a ≡ takeOf (holdsOf (plainOf ws)) ds .answer) × (l ≡ takeOf (holdsOf (plainOf ws)) ds .list)
+  looked ds xs ys a l ea eo e =
+      let q : takeOf (holdsWith xs ys) ds ≡ takeOf (holdsOf (plainOf ws)) ds = λ i. takeOf (holdsWith (ea i) (eo i)) ds in
+      (e .0 ∙ ap (λ (t : Taken). t .answer) q, e .1 ∙ ap (λ (t : Taken). t .list) q)
+
+  -- a list of none
+  pub looked-none : (ds : List ℕ) (l : Fds) → length ds ≡ 0 → l ≡ listOf [] → (take.Taken ≡ takeOf (holdsOf (plainOf ws)) ds .answer) × (l ≡ takeOf (holdsOf (plainOf ws)) ds .list)
+  looked-none [] l h e = (refl, e)
+  looked-none (d ∷ ds) l h e = absurd (omega (arith, h))
+
+  module _ (size : length ws ≡ 2060) where
+    part-long : (a : ℕ) → a + 64 ≤ 2060 → length (take 64 (drop a ws)) ≡ 64
+    unfolding part
+    part-long a h = part-length a 64 ws (omega (arith, h, size))
+
+    -- changed by f, which keeps its length
+    pub outside-back :
+        (f : List ℕ → List ℕ) → ((l : List ℕ) → length (f l) ≡ length l) → (ys : List ℕ) → ys ≡ f (take 64 (drop 904 ws))
+        → take 904 ws ++ (ys ++ drop 64 (drop 904 ws)) ≡ stored ws (outside (f (holdsOf (plainOf ws) .outside)))
+    outside-back f k ys e =
+        relent ws 904 64 ys (omega (arith, size)) (ap length e ∙ k (take 64 (drop 904 ws)) ∙ part-long 904 (omega arith)) ∙ ap (sets ws 904) (e ∙ ap f outside-lent)
+
+    pub all-back :
+        (f : List ℕ → List ℕ) → ((l : List ℕ) → length (f l) ≡ length l) → (ys : List ℕ) → ys ≡ f (take 64 (drop 840 ws))
+        → take 840 ws ++ (ys ++ drop 64 (drop 840 ws)) ≡ stored ws (all (f (holdsOf (plainOf ws) .holds)))
+    all-back f k ys e =
+        relent ws 840 64 ys (omega (arith, size)) (ap length e ∙ k (take 64 (drop 840 ws)) ∙ part-long 840 (omega arith)) ∙ ap (sets ws 840) (e ∙ ap f all-lent)
+
+    out-long : length (part 904 64 ws) ≡ 64
+    out-long = part-length 904 64 ws (omega (arith, size))
+
+    -- the outside counts copied one after the other
+    pub copy-more :
+        (a : List ℕ) (i : ℕ) → i < 64 → length a ≡ 64 → take i a ≡ take i (part 904 64 ws) → take (i + 1) (set a i (getD ws (904 + i) 0)) ≡ take (i + 1) (part 904 64 ws)
+    copy-more a i b h e =
+        rw (add-one i)
+        (take-suc-set a i (getD ws (904 + i) 0) (omega (arith, h))
+        ∙ ap (λ (l : List ℕ). l ++ (getD ws (904 + i) 0 ∷ [])) e
+        ∙ ap (λ (x : ℕ). take i (part 904 64 ws) ++ (x ∷ [])) (sym (part-at 904 64 ws i b))
+        ∙ sym (take-suc (part 904 64 ws) i 0 (omega (arith, out-long))))
+
+    pub copy-end : (a : List ℕ) (i : ℕ) → 64 ≤ i → length a ≡ 64 → take i a ≡ take i (part 904 64 ws) → a ≡ holdsOf (plainOf ws) .outside
+    copy-end a i b h e = sym (take-all i a (omega (arith, h))) ∙ e ∙ take-all i (part 904 64 ws) (omega (arith, out-long)) ∙ outside-is ws
+
+    -- one handle
+    handles-long : length (handlesOf (plainOf ws) .at) ≡ 64
+    handles-long = ap length (sym (handles-is ws)) ∙ part-length 972 64 ws (omega (arith, size))
+
+    pub handle-in : (k : ℕ) → k < 64 → getD ws (972 + k) 0 ≡ heldAt (handlesOf (plainOf ws)) k
+    handle-in k b = sym (part-at 972 64 ws k b) ∙ ap (λ (l : List ℕ). getD l k 0) (handles-is ws)
+
+    pub handle-none : (k : ℕ) → 64 ≤ k → 0 ≡ heldAt (handlesOf (plainOf ws)) k
+    handle-none k b = let h : length (handlesOf (plainOf ws) .at) ≤ k = omega (arith, b, handles-long) in sym (List·getD-eq-default (handlesOf (plainOf ws) .at) 0 h)
+
+    pub handle-set : (k v : ℕ) → k < 64 → set ws (972 + k) v ≡ stored ws (handles (set (handlesOf (plainOf ws) .at) k v))
+    handle-set k v b = one-part ws 972 64 k v b (omega (arith, size)) ∙ ap (λ (l : List ℕ). sets ws 972 (set l k v)) (handles-is ws)
+
+    pub handle-kept : (k v : ℕ) → 64 ≤ k → ws ≡ stored ws (handles (set (handlesOf (plainOf ws) .at) k v))
+    handle-kept k v b =
+        sym (same-part ws 972 64 (omega (arith, size)))
+        ∙ ap (sets ws 972) (handles-is ws ∙ sym (set-out (handlesOf (plainOf ws) .at) k v (omega (arith, b, handles-long))))
