@@ -78,10 +78,10 @@ module _ (ws : List ℕ) (size : length ws ≡ 2060) where
   driver-fits (reserve c) g = unless-fits w f (reserveRows w) _ (λ p. (made-fits 1 c noFds (omega arith) g none-fits, tt))
   driver-fits (submit n c op fl args pid ds) g =
       unless-fits w f (submitRows w n c op ds) _
-      (λ p. (made-fits 2 c (listOf ds) (omega arith) g (listed-fits w f ds (or-false (badOpcode op) (badList w ds) (p .0)) (p .1 .0)), (taken-long w f ds, (tt, tt))))
+      (λ p. (taken-long w f ds, (made-fits 2 c (listOf ds) (omega arith) g (listed-fits w f ds (or-false (badOpcode op) (badList w ds) (p .0)) (p .1 .0)), (tt, tt))))
   driver-fits (call c op args uid gid pid ds) g =
       unless-fits w f (callRows w op ds) _
-      (λ p. (made-fits 2 c (listOf ds) (omega arith) g (listed-fits w f ds (or-false (badOpcode op) (badList w ds) (p .0)) (p .1 .0)), (taken-long w f ds, (tt, tt))))
+      (λ p. (taken-long w f ds, (made-fits 2 c (listOf ds) (omega arith) g (listed-fits w f ds (or-false (badOpcode op) (badList w ds) (p .0)) (p .1 .0)), (tt, tt))))
   driver-fits (generic c pid fds base len ms) g = unless-fits w f (genericRows w fds) _ (λ p. (made-fits 2 c noFds (omega arith) g none-fits, (tt, tt)))
   driver-fits (stdfs c pid fds base len ms) g = unless-fits w f (stdfsRows w fds ms) _ (λ p. (made-fits 2 c noFds (omega arith) g none-fits, (tt, tt)))
   driver-fits (fmap c id pages flags uid gid pid) g = unless-fits w f (fmapRows w) _ (λ p. (made-fits 4 c noFds (omega arith) g none-fits, (tt, tt)))
@@ -97,10 +97,10 @@ module _ (ws : List ℕ) (size : length ws ≡ 2060) where
       (λ p.
       checked-cases StoresFit (λ k. counts (dropped (takenHolds w ds) ds)) (requestRows w 1 ms) _
       (λ k. (taken-long w f ds, (lessAll-length ds (takenHolds w ds .holds) ∙ all-long w f ds, tt)))
-      (λ q. (fds-changed (slotIn w (requestOf ms)) (listOf ds) (slot-in-fits w f (requestOf ms)) (listed-fits w f ds (p .0) (p .1 .0)), (taken-long w f ds, (lessAll-length (numbers (slotIn w (requestOf ms) .fds)) (takenHolds w ds .holds) ∙ all-long w f ds, tt)))))
+      (λ q. (taken-long w f ds, (lessAll-length (numbers (slotIn w (requestOf ms) .fds)) (takenHolds w ds .holds) ∙ all-long w f ds, (fds-changed (slotIn w (requestOf ms)) (listOf ds) (slot-in-fits w f (requestOf ms)) (listed-fits w f ds (p .0) (p .1 .0)), tt)))))
   driver-fits (obtain ms) g =
       unless-fits w f (requestRows w 0 ms) _
-      (λ p. (fds-changed (slotIn w (requestOf ms)) noFds (slot-in-fits w f (requestOf ms)) none-fits, (moreAll-length (numbers (slotIn w (requestOf ms) .fds)) (holdsOf w .outside) ∙ f .outside, tt)))
+      (λ p. (moreAll-length (numbers (slotIn w (requestOf ms) .fds)) (holdsOf w .outside) ∙ f .outside, (fds-changed (slotIn w (requestOf ms)) noFds (slot-in-fits w f (requestOf ms)) none-fits, tt)))
   driver-fits (supply n offset base count) g = unless-fits w f (pageRows offset base count) _ (λ p. supplied-fits w f (phaseIn w n) n)
 
   event-fits : (e : Event) → EventFits e → StoresFit (storesOf w e)

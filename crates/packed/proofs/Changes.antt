@@ -31,7 +31,7 @@ use Rattle.table.specs.declared.Table.{Table}
 use Rattle.table.specs.Table.{noSlot, slotAt, putAt, givenOut, vacateAt, stored, vacated}
 use Rattle.take_holds.specs.declared.TakeAnswer.the-variants as take
 use Rattle.take_holds.specs.Take.{takenAs, takeOf, bad}
-use Rattle.events.specs.World.{World, tableOf, holdsOf, handlesOf, slotIn, phaseIn, withTable, withHolds, tableWith, queueFull, queued}
+use Rattle.events.specs.World.{World, tableOf, holdsOf, handlesOf, slotIn, phaseIn, withTable, withHolds, withHandles, tableWith, queueFull, queued}
 use Rattle.events.specs.Outcome.{Outcome, outcome, Row, checked, refuse}
 use Rattle.events.specs.Submit.{takenHolds, tableFull, reserveRows, submitRows, callRows, genericRows, stdfsRows, fmapRows, queueRows, reserved, submitEntry, submitted, callEntry, genericEntry, stdMeta, fmapEntry, closeEntry, detachEntry, notified, begun}
 use Rattle.events.specs.Wake.{responseOf, heldIn, wakeable, wakeRows, blockedBy, waitedBy, wokenBy}
@@ -68,18 +68,18 @@ Leaves w o ss = o .world ≡ changedAll w ss
 turned : (w : World) (rows : List Row) (o : Outcome) (ss : List Store) → (Passed rows → Leaves w o ss) → Leaves w (checked (refuse w) rows o) (unless rows ss)
 turned w rows o ss f = both-checked (Leaves w) (refuse w) (λ k. []) rows o ss (λ k. refl) f
 
--- counts of a table whose slots change
-put-holds : (t : Table) (n : ℕ) (v : Slot) → putAt t n v .holds ≡ t .holds
-put-holds t n v = go (ltb n 64)
+-- counts and slots of a table change in either order
+put-with : (t : Table) (h : Holds) (n : ℕ) (v : Slot) → tableWith (putAt t n v) h ≡ putAt (tableWith t h) n v
+put-with t h n v = go (ltb n 64)
   where
-    go : (b : Bool) → cond b (stored t n v) t .holds ≡ t .holds
+    go : (b : Bool) → tableWith (cond b (stored t n v) t) h ≡ cond b (stored (tableWith t h) n v) (tableWith t h)
     go true = refl
     go false = refl
 
-vacate-holds : (t : Table) (n : ℕ) → vacateAt t n .holds ≡ t .holds
-vacate-holds t n = go (ltb n 64)
+vacate-with : (t : Table) (h : Holds) (n : ℕ) → tableWith (vacateAt t n) h ≡ vacateAt (tableWith t h) n
+vacate-with t h n = go (ltb n 64)
   where
-    go : (b : Bool) → cond b (vacated t n) t .holds ≡ t .holds
+    go : (b : Bool) → tableWith (cond b (vacated t n) t) h ≡ cond b (vacated (tableWith t h) n) (tableWith t h)
     go true = refl
     go false = refl
 
@@ -113,8 +113,7 @@ module _ (w : World) where
   woken-leaves Placeholder n killed span = refl
   woken-leaves Waiting n killed span = waited-leaves (eqb killed 1) n span
   woken-leaves Responded n killed span =
-      let o : List ℕ = outsideOf (holdsOf w) (heldIn (responseOf (slotIn w n))) .outside in
-      ap (λ (h : Holds). withTable w (tableWith (vacateAt (tableOf w) n) (holdsWith (h .holds) o))) (sym (vacate-holds (tableOf w) n))
+      ap (withTable w) (vacate-with (tableOf w) (outsideOf (holdsOf w) (heldIn (responseOf (slotIn w n)))) n)
   woken-leaves Fmap n killed span = refl
 
   supplied-leaves : (p : Phase) (n : ℕ) → Leaves w (suppliedBy p w n) (suppliedStores p n)
@@ -129,8 +128,8 @@ module _ (w : World) where
     where
       go : (a : Act) → after w n (record { number = d .number; act = a; slot = d .slot; holds = d .holds; handles = d .handles; effects = d .effects }) ≡ changedAll w (decidedStores n (record { number = d .number; act = a; slot = d .slot; holds = d .holds; handles = d .handles; effects = d .effects }))
       go act.Leave = refl
-      go act.Store = refl
-      go act.Vacate = refl
+      go act.Store = ap (λ (t : Table). withHandles (withTable w t) (d .handles)) (put-with (tableOf w) (d .holds) n (d .slot))
+      go act.Vacate = ap (λ (t : Table). withHandles (withTable w t) (d .handles)) (vacate-with (tableOf w) (d .holds) n)
 
 module _ (w : World) (e : Cqe) where
   abbrev pub decided : Decision
@@ -213,41 +212,40 @@ module _ (w : World) (c : ℕ) (long : length (tableOf w .slots) ≡ 64) where
       ∙ sym (marks-leave 64 0 refl)
 
 module _ (w : World) where
-  -- a slot and the outside counts, and an entry
-  placed : (n : ℕ) (v : Slot) (h : Holds) → h ≡ holdsWith (holdsOf w .holds) (h .outside) → withTable w (tableWith (putAt (tableOf w) n v) h) ≡ changedAll w (put n v ∷ outside (h .outside) ∷ [])
-  placed n v h e =
-      ap (λ (x : Holds). withTable w (tableWith (putAt (tableOf w) n v) x)) (e ∙ ap (λ (x : Holds). holdsWith (x .holds) (h .outside)) (sym (put-holds (tableOf w) n v)))
+  -- the counts of a list, and a slot
+  placed : (n : ℕ) (v : Slot) (h : Holds) → h ≡ holdsWith (holdsOf w .holds) (h .outside) → withTable w (tableWith (putAt (tableOf w) n v) h) ≡ changedAll w (outside (h .outside) ∷ put n v ∷ [])
+  placed n v h e = ap (withTable w) (put-with (tableOf w) h n v ∙ ap (λ (x : Holds). putAt (tableWith (tableOf w) x) n v) e)
 
-  submit-leaves : (n c : ℕ) (ds : List ℕ) (e : Sqe) → Leaves w (submitted w n c ds e) (put n (waitingOf c (listOf ds)) ∷ taken w ds ∷ send e ∷ [])
+  submit-leaves : (n c : ℕ) (ds : List ℕ) (e : Sqe) → Leaves w (submitted w n c ds e) (taken w ds ∷ put n (waitingOf c (listOf ds)) ∷ send e ∷ [])
   submit-leaves n c ds e = ap (λ (x : World). queued x e) (placed n (waitingOf c (listOf ds)) (takenHolds w ds) (taken-all w ds))
 
   call-leaves :
       (v : Slot) (ds : List ℕ) (e : ℕ → Sqe) → tableFull w ≡ false
-      → Leaves w (begun w v (takenHolds w ds) e) (give v ∷ taken w ds ∷ send (e (tableOf w .head)) ∷ [])
+      → Leaves w (begun w v (takenHolds w ds) e) (taken w ds ∷ give v ∷ send (e (tableOf w .head)) ∷ [])
   call-leaves v ds e q =
-      ap (λ (h : Holds). queued (withTable w (tableWith (givenOut (tableOf w) v) h)) (e (tableOf w .head))) (taken-all w ds)
-      ∙ ap (λ (b : Bool). queued (changed (cond b w (withTable w (givenOut (tableOf w) v))) (taken w ds)) (e (tableOf w .head))) (sym q)
+      ap (λ (h : Holds). queued (withTable w (givenOut (tableWith (tableOf w) h) v)) (e (tableOf w .head))) (taken-all w ds)
+      ∙ ap (λ (b : Bool). queued (cond b (changed w (taken w ds)) (withTable w (givenOut (tableOf (changed w (taken w ds))) v))) (e (tableOf w .head))) (sym q)
 
   move-leaves :
       (ms ds : List ℕ)
       → Leaves w (checked (refuse (broughtBack w ds)) (requestRows w 1 ms) (moved w (requestOf ms) ds))
       (checked (λ k. counts (dropped (takenHolds w ds) ds)) (requestRows w 1 ms)
-      (put (requestOf ms) (withFdsOf (slotIn w (requestOf ms)) (listOf ds)) ∷ counts (dropped (takenHolds w ds) (numbers (slotIn w (requestOf ms) .fds)))))
+      (counts (dropped (takenHolds w ds) (numbers (slotIn w (requestOf ms) .fds))) ++ put (requestOf ms) (withFdsOf (slotIn w (requestOf ms)) (listOf ds)) ∷ []))
   move-leaves ms ds =
       both-checked (Leaves w) (refuse (broughtBack w ds)) (λ k. counts (dropped (takenHolds w ds) ds)) (requestRows w 1 ms) (moved w (requestOf ms) ds)
-      (put (requestOf ms) (withFdsOf (slotIn w (requestOf ms)) (listOf ds)) ∷ counts (dropped (takenHolds w ds) (numbers (slotIn w (requestOf ms) .fds))))
-      (λ k. refl) (λ p. refl)
+      (counts (dropped (takenHolds w ds) (numbers (slotIn w (requestOf ms) .fds))) ++ put (requestOf ms) (withFdsOf (slotIn w (requestOf ms)) (listOf ds)) ∷ [])
+      (λ k. refl) (λ p. ap (withTable w) (put-with (tableOf w) (dropped (takenHolds w ds) (numbers (slotIn w (requestOf ms) .fds))) (requestOf ms) (withFdsOf (slotIn w (requestOf ms)) (listOf ds))))
 
   driver-leaves : (e : DriverEvent) → Leaves w (driverStep w e) (driverStores w e)
   driver-leaves (hostPut d k) = refl
   driver-leaves (reserve c) = turned w (reserveRows w) (reserved w c) (give (placeholderOf c) ∷ []) (λ p. rw (p .0) refl)
   driver-leaves (submit n c op fl args pid ds) =
       let e : Sqe = submitEntry n op fl args pid in
-      turned w (submitRows w n c op ds) (submitted w n c ds e) (put n (waitingOf c (listOf ds)) ∷ taken w ds ∷ send e ∷ []) (λ p. submit-leaves n c ds e)
+      turned w (submitRows w n c op ds) (submitted w n c ds e) (taken w ds ∷ put n (waitingOf c (listOf ds)) ∷ send e ∷ []) (λ p. submit-leaves n c ds e)
   driver-leaves (call c op args uid gid pid ds) =
       let v : Slot = waitingOf c (listOf ds) in
       let e : (ℕ → Sqe) = callEntry op args uid gid pid in
-      turned w (callRows w op ds) (begun w v (takenHolds w ds) e) (give v ∷ taken w ds ∷ send (e (tableOf w .head)) ∷ []) (λ p. call-leaves v ds e (p .1 .1 .0))
+      turned w (callRows w op ds) (begun w v (takenHolds w ds) e) (taken w ds ∷ give v ∷ send (e (tableOf w .head)) ∷ []) (λ p. call-leaves v ds e (p .1 .1 .0))
   driver-leaves (generic c pid fds base len ms) =
       let v : Slot = waitingOf c noFds in
       let e : (ℕ → Sqe) = genericEntry opcode.call pid fds base len ms in
@@ -273,7 +271,7 @@ module _ (w : World) where
       turned w (listRows w ds) (checked (refuse (broughtBack w ds)) (requestRows w 1 ms) (moved w (requestOf ms) ds)) _ (λ p. move-leaves ms ds)
   driver-leaves (obtain ms) =
       let v : Slot = slotIn w (requestOf ms) in
-      turned w (requestRows w 0 ms) (givenUp w (requestOf ms)) (put (requestOf ms) (withFdsOf v noFds) ∷ outside (outsideOf (holdsOf w) (numbers (v .fds)) .outside) ∷ [])
+      turned w (requestRows w 0 ms) (givenUp w (requestOf ms)) (outside (outsideOf (holdsOf w) (numbers (v .fds)) .outside) ∷ put (requestOf ms) (withFdsOf v noFds) ∷ [])
       (λ p. placed (requestOf ms) (withFdsOf v noFds) (outsideOf (holdsOf w) (numbers (v .fds))) refl)
   driver-leaves (supply n offset base count) =
       turned w (pageRows offset base count) (suppliedBy (phaseIn w n) w n) (suppliedStores (phaseIn w n) n) (λ p. supplied-leaves w (phaseIn w n) n)

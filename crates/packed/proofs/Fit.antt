@@ -249,7 +249,7 @@ append-fits [] ts f g = g
 append-fits (s ∷ ss) ts f g = (f .0, append-fits ss ts (f .1) g)
 
 pub decided-fits : (n : ℕ) (d : Decision) → DecisionFits d → StoresFit (decidedStores n d)
-decided-fits n d f = append-fits (actStores (d .act) n (d .slot)) (counts (d .holds) ++ handles (d .handles .at) ∷ []) (go (d .act)) (f .outside, (f .all, (f .handles, tt)))
+decided-fits n d f = (f .outside, (f .all, (f .handles, go (d .act))))
   where
     go : (a : Act) → StoresFit (actStores a n (d .slot))
     go act.Leave = tt
@@ -302,7 +302,7 @@ module _ (w : World) (f : Fits w) where
       waited : (b : Bool) → StoresFit (waitedStores b w n span)
       waited true = let v = slot-in-fits w f n in (record { state = v .state; caller = v .caller; kind = v .kind; extra0 = v .extra0; fds = v .fds }, tt)
       waited false = blocked (slotIn w n .canceling) (queueFull w)
-  woken-fits Responded n killed span = (tt, (moreAll-length (heldIn (responseOf (slotIn w n))) (holdsOf w .outside) ∙ f .outside, tt))
+  woken-fits Responded n killed span = (moreAll-length (heldIn (responseOf (slotIn w n))) (holdsOf w .outside) ∙ f .outside, (tt, tt))
   woken-fits Fmap n killed span = tt
 
   pub supplied-fits : (p : Phase) (n : ℕ) → StoresFit (suppliedStores p n)

@@ -1,4 +1,4 @@
--- What each event stores, in order. A refusal stores nothing, but for the named cases: a descriptor response and a move that are
+-- What each event stores: counts and handles first, then a slot, then an entry. A refusal stores nothing, but for the named cases: a descriptor response and a move that are
 -- refused by the tag have dropped a hold.
 use Prim.Native.Nat.{ℕ, zero, suc}
 use mathlib.Core.Bool.{Bool, true, false, not, cond, _&&_}
@@ -66,7 +66,7 @@ wokenStores Vacant w n killed span = []
 wokenStores Placeholder w n killed span = []
 wokenStores Waiting w n killed span = waitedStores (eqb killed 1) w n span
 wokenStores Responded w n killed span =
-    vacate n ∷ outside (outsideOf (holdsOf w) (heldIn (responseOf (slotIn w n))) .outside) ∷ []
+    outside (outsideOf (holdsOf w) (heldIn (responseOf (slotIn w n))) .outside) ∷ vacate n ∷ []
 wokenStores Fmap w n killed span = []
 
 -- a completion entry: its decision carried out at its tag
@@ -76,7 +76,7 @@ actStores act.Store n v = put n v ∷ []
 actStores act.Vacate n v = vacate n ∷ []
 
 abbrev pub decidedStores : ℕ → Decision → List Store
-decidedStores n d = actStores (d .act) n (d .slot) ++ (counts (d .holds) ++ handles (d .handles .at) ∷ [])
+decidedStores n d = outside (d .holds .outside) ∷ all (d .holds .holds) ∷ handles (d .handles .at) ∷ actStores (d .act) n (d .slot)
 
 abbrev pub entryStores : World → Cqe → List Store
 entryStores w e = decidedStores (e .tag) (decisionOf (parsedOf e) (slotIn w (e .tag)) (holdsOf w) (handlesOf w))
@@ -103,9 +103,9 @@ driverStores w (hostPut d k) =
     counts (putOf (holdsOf w) (handlesOf w) d k .holds) ++ handles (putOf (holdsOf w) (handlesOf w) d k .handles .at) ∷ []
 driverStores w (reserve c) = unless (reserveRows w) (give (placeholderOf c) ∷ [])
 driverStores w (submit n c op fl args pid ds) =
-    unless (submitRows w n c op ds) (put n (waitingOf c (listOf ds)) ∷ taken w ds ∷ send (submitEntry n op fl args pid) ∷ [])
+    unless (submitRows w n c op ds) (taken w ds ∷ put n (waitingOf c (listOf ds)) ∷ send (submitEntry n op fl args pid) ∷ [])
 driverStores w (call c op args uid gid pid ds) =
-    unless (callRows w op ds) (give (waitingOf c (listOf ds)) ∷ taken w ds ∷ send (callEntry op args uid gid pid (tableOf w .head)) ∷ [])
+    unless (callRows w op ds) (taken w ds ∷ give (waitingOf c (listOf ds)) ∷ send (callEntry op args uid gid pid (tableOf w .head)) ∷ [])
 driverStores w (generic c pid fds base len ms) =
     unless (genericRows w fds) (give (waitingOf c noFds) ∷ send (genericEntry opcode.call pid fds base len ms (tableOf w .head)) ∷ [])
 driverStores w (stdfs c pid fds base len ms) =
@@ -121,10 +121,10 @@ driverStores w (write words bs) = unless (writeRows words bs) (writeStores w (en
 driverStores w (move ms ds) =
     unless (listRows w ds)
     (checked (λ k. counts (dropped (takenHolds w ds) ds)) (requestRows w 1 ms)
-    (put (requestOf ms) (withFdsOf (slotIn w (requestOf ms)) (listOf ds)) ∷ counts (dropped (takenHolds w ds) (numbers (slotIn w (requestOf ms) .fds)))))
+    (counts (dropped (takenHolds w ds) (numbers (slotIn w (requestOf ms) .fds))) ++ put (requestOf ms) (withFdsOf (slotIn w (requestOf ms)) (listOf ds)) ∷ []))
 driverStores w (obtain ms) =
     unless (requestRows w 0 ms)
-    (put (requestOf ms) (withFdsOf (slotIn w (requestOf ms)) noFds) ∷ outside (outsideOf (holdsOf w) (numbers (slotIn w (requestOf ms) .fds)) .outside) ∷ [])
+    (outside (outsideOf (holdsOf w) (numbers (slotIn w (requestOf ms) .fds)) .outside) ∷ put (requestOf ms) (withFdsOf (slotIn w (requestOf ms)) noFds) ∷ [])
 driverStores w (supply n offset base count) = unless (pageRows offset base count) (suppliedStores (phaseIn w n) n)
 
 abbrev pub storesOf : World → Event → List Store

@@ -12,12 +12,7 @@ use Rattle.events.proofs.Checked.{Passed}
 use Rattle.layout.specs.Layout.{plainOf}
 use Rattle.layout.specs.Store.{Store, storedAll}
 use Rattle.packed.specs.Stores.{unless, storesOf}
-use Rattle.step.specs.Does.{Does}
-
--- the row that is due first
-abbrev pub Due : List Row → ℕ → Type 0
-Due [] k = _≡_ {A = ℕ} 0 1
-Due (r ∷ rs) k = cond (r .due) (r .number ≡ k) (Due rs k)
+use Rattle.step.specs.Does.{Due, Does}
 
 pub checked-due : {A : Type 0} (f : ℕ → A) (rows : List Row) (x : A) (k : ℕ) → Due rows k → checked f rows x ≡ f k
 checked-due f [] x k d = absurd (omega (arith, d))

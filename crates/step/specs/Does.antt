@@ -2,8 +2,9 @@
 -- read from them, and every word afterwards is the one that the step on words stores.
 use Prim.Native.Nat.{ℕ}
 use mathlib.Core.Path.{_≡_}
-use mathlib.Core.List.{List}
-use Rattle.events.specs.Outcome.{Answer}
+use mathlib.Core.Bool.{cond}
+use mathlib.Core.List.{List, [], _∷_}
+use Rattle.events.specs.Outcome.{Answer, Row}
 use Rattle.events.specs.Event.{Event, step}
 use Rattle.layout.specs.Layout.{plainOf}
 use Rattle.packed.specs.Step.{wordsAfter}
@@ -13,3 +14,8 @@ pub record Does (ws xs : List ℕ) (e : Event) (a : Answer) (fx : List ℕ) : Ty
   pub answer : a ≡ step (plainOf ws) e .answer
   pub effects : fx ≡ step (plainOf ws) e .effects
   pub words : xs ≡ wordsAfter ws e
+
+-- the row that is due first
+abbrev pub Due : List Row → ℕ → Type 0
+Due [] k = _≡_ {A = ℕ} 0 1
+Due (r ∷ rs) k = cond (r .due) (r .number ≡ k) (Due rs k)
