@@ -1,3 +1,4 @@
 pub mod Rows
 pub mod Tests
 pub mod Given
+pub mod Frames

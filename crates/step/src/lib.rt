@@ -1,6 +1,7 @@
-// The ends that events share: turned down; an entry of its own queued; a slot given out and its entry queued.
+// The ends that events share: turned down; an entry of its own queued; a slot given out, or changed, and its entry queued.
 use answer::Answer;
 use effect::Effect;
+use ids::SlotNo;
 use ids::Tag;
 use schemev2::Sqe;
 use slot::Slot;
@@ -11,7 +12,7 @@ ghost use Rattle.effect.specs.Effect.{effectWords};
 ghost use Rattle.events.specs.World.{tableOf};
 ghost use Rattle.events.specs.Outcome.{said, ok, rootEffect, readable};
 ghost use Rattle.layout.specs.Layout.{plainOf};
-ghost use Rattle.layout.specs.Store.{storedAll, give as giveStore, send as sendStore};
+ghost use Rattle.layout.specs.Store.{storedAll, put as putStore, give as giveStore, send as sendStore};
 
 // What an event answers, with at most one effect.
 pub struct Step {
@@ -60,6 +61,23 @@ pub fn begun(s: &mut [u64; 2060], v: Slot, e: Sqe) -> Step
     let fx = effect::root(scheme, bits);
     Step {
         answer: Answer::Given(Tag(n.0 as u64)),
+        effect: fx,
+    }
+}
+
+// A slot changes and an entry is queued, with the root's event.
+pub fn went_on(s: &mut [u64; 2060], n: SlotNo, v: Slot, e: Sqe, answer: Answer) -> Step
+    ensures { λ r. ⌜ r .answer ≡ answer ⌝ }
+    ensures { λ r. ⌜ effectWords (r .effect) ≡ readable (plainOf (now (s .entry))) ⌝ }
+    ensures { λ r. ⌜ now (s .exit) ≡ storedAll (now (s .entry)) (putStore (n .0) v ∷ sendStore e ∷ []) ⌝ }
+{
+    let scheme = words::scheme(s);
+    words::put(s, n, v);
+    words::send(s, e);
+    let bits = flag::event_read();
+    let fx = effect::root(scheme, bits);
+    Step {
+        answer: answer,
         effect: fx,
     }
 }
