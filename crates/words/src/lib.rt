@@ -300,7 +300,8 @@ fn known(a: [u64; 2060])
     ensures { λ r. ⌜ length a ≡ 2060 ⌝ }
 {}
 
-fn sized(s: &[u64; 2060])
+// As many words as there are.
+pub fn sized(s: &[u64; 2060])
     ensures { λ r. ⌜ length (now (s .entry)) ≡ 2060 ⌝ }
 {
     let a = *s;
