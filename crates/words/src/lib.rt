@@ -391,6 +391,21 @@ pub fn to_outside(s: &mut [u64; 2060], l: List)
     give_back_in(s, l);
 }
 
+fn discard_in(s: &mut [u64], l: List)
+    requires { ⌜ length (now s) ≡ 2060 ⌝ }
+    ensures { λ r. ⌜ now (s .exit) ≡ stored (now (s .entry)) (allStore (lessAll (holdsOf (plainOf (now (s .entry))) .holds) (numbers l))) ⌝ }
+{
+    counts::lower_all(&mut s[ALL..OUTSIDE], l);
+}
+
+// A list's holds dropped, with no close.
+pub fn discard(s: &mut [u64; 2060], l: List)
+    ensures { λ r. ⌜ now (s .exit) ≡ stored (now (s .entry)) (allStore (lessAll (holdsOf (plainOf (now (s .entry))) .holds) (numbers l))) ⌝ }
+{
+    sized(s);
+    discard_in(s, l);
+}
+
 fn drop_in(s: &mut [u64], l: List, follows: bool, fx: &mut [u64], at: usize) -> usize
     requires { ⌜ length (now s) ≡ 2060 ⌝ }
     ensures { λ r. ⌜ r ≡ length (only follows (lasts (holdsOf (plainOf (now (s .entry))) .holds) (numbers l))) ⌝ }
