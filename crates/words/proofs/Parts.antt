@@ -1,11 +1,10 @@
 -- Counts and handles among the words: a part that was lent and came back, and one of its words. Assumes nothing.
-use Prim.Native.Nat.{ℕ, suc, _+_, _<_, _≤_}
+use Prim.Native.Nat.{ℕ, _+_, _<_, _≤_}
 use mathlib.Core.Path.{_≡_, refl, sym, ap, ap₂, _∙_}
 use mathlib.Core.List.{List, [], _∷_, _++_}
 use native.Mathlib.Omega.{arith}
-use native.Mathlib.Numerals.{add-one}
 use lib.ListN.{getD, set, take, drop, length, List·getD-eq-default}
-use lib.Seq.{sets, set-out, take-suc, take-suc-set, take-all}
+use lib.Seq.{sets, set-out}
 use Rattle.fd_list.specs.declared.List.{List as Fds}
 use Rattle.fd_list.specs.Lists.{listOf}
 use Rattle.handles.specs.Handles.{heldAt}
@@ -18,7 +17,7 @@ use Rattle.events.specs.World.{holdsOf, handlesOf}
 use Rattle.layout.specs.Layout.{part, plainOf}
 use Rattle.layout.specs.Store.{stored, outside, all, handles}
 use Rattle.layout.proofs.Regions.{part-at, part-length, same-part, one-part, relent}
-use Rattle.layout.proofs.Worlds.{outside-is, handles-is}
+use Rattle.layout.proofs.Worlds.{handles-is}
 
 module _ (ws : List ℕ) where
   pub all-lent : take 64 (drop 840 ws) ≡ holdsOf (plainOf ws) .holds
@@ -59,22 +58,6 @@ module _ (ws : List ℕ) where
         → take 840 ws ++ (ys ++ drop 64 (drop 840 ws)) ≡ stored ws (all (f (holdsOf (plainOf ws) .holds)))
     all-back f k ys e =
         relent ws 840 64 ys (omega (arith, size)) (ap length e ∙ k (take 64 (drop 840 ws)) ∙ part-long 840 (omega arith)) ∙ ap (sets ws 840) (e ∙ ap f all-lent)
-
-    out-long : length (part 904 64 ws) ≡ 64
-    out-long = part-length 904 64 ws (omega (arith, size))
-
-    -- the outside counts copied one after the other
-    pub copy-more :
-        (a : List ℕ) (i : ℕ) → i < 64 → length a ≡ 64 → take i a ≡ take i (part 904 64 ws) → take (i + 1) (set a i (getD ws (904 + i) 0)) ≡ take (i + 1) (part 904 64 ws)
-    copy-more a i b h e =
-        rw (add-one i)
-        (take-suc-set a i (getD ws (904 + i) 0) (omega (arith, h))
-        ∙ ap (λ (l : List ℕ). l ++ (getD ws (904 + i) 0 ∷ [])) e
-        ∙ ap (λ (x : ℕ). take i (part 904 64 ws) ++ (x ∷ [])) (sym (part-at 904 64 ws i b))
-        ∙ sym (take-suc (part 904 64 ws) i 0 (omega (arith, out-long))))
-
-    pub copy-end : (a : List ℕ) (i : ℕ) → 64 ≤ i → length a ≡ 64 → take i a ≡ take i (part 904 64 ws) → a ≡ holdsOf (plainOf ws) .outside
-    copy-end a i b h e = sym (take-all i a (omega (arith, h))) ∙ e ∙ take-all i (part 904 64 ws) (omega (arith, out-long)) ∙ outside-is ws
 
     -- one handle
     handles-long : length (handlesOf (plainOf ws) .at) ≡ 64

@@ -13,8 +13,9 @@ use slot::Slot;
 use take_holds::Looked;
 use take_holds::TakeAnswer;
 ghost use mathlib.Core.Path.{_≡_};
+ghost use mathlib.Core.List.{[], _∷_};
 ghost use Prim.Native.Nat.{min, _<_, _≤_, _+_, _*_};
-ghost use lib.ListN.{length, getD, set};
+ghost use lib.ListN.{length, getD, set, replicate};
 ghost use lib.Seq.{sets};
 ghost use Rattle.closes.specs.Closes.{only, closes};
 ghost use Rattle.counts.specs.Counts.{less, more, lessAll, moreAll, lasts};
@@ -26,7 +27,7 @@ ghost use Rattle.take_holds.specs.Take.{takeOf};
 ghost use Rattle.wait_queue.specs.Queue.{headOf};
 ghost use Rattle.events.specs.World.{tableOf, holdsOf, handlesOf, queueOf, schemeOf, slotIn, queueFull};
 ghost use Rattle.events.specs.Submit.{tableFull};
-ghost use Rattle.layout.specs.Layout.{one as oneOf, slotOf, fdsFrom, marksWord, replyWord, lowWord, highWord, plainOf, slotWords};
+ghost use Rattle.layout.specs.Layout.{chainPlace, headPlace, schemePlace, queuePlace, one as oneOf, slotOf, fdsFrom, marksWord, replyWord, lowWord, highWord, part as partOf, plainOf, slotWords};
 ghost use Rattle.layout.specs.Store.{stored, put as putStore, give as giveStore, vacate as vacateStore, send as sendStore, outside as outsideStore, all as allStore, handles as handlesStore};
 
 // A slot has twelve words, from 0 on; the chain of vacated slots has one for each.
@@ -55,10 +56,24 @@ pub fn head(s: &[u64; 2060]) -> SlotNo
     ids::slot_of(Tag(s[HEAD]))
 }
 
+// The same, as it stands.
+pub fn head_word(s: &[u64; 2060]) -> u64
+    ensures { λ r. ⌜ r ≡ tableOf (plainOf (now (s .entry))) .head ⌝ }
+{
+    s[HEAD]
+}
+
 pub fn scheme(s: &[u64; 2060]) -> u64
     ensures { λ r. ⌜ r ≡ schemeOf (plainOf (now (s .entry))) ⌝ }
 {
     s[SCHEME]
+}
+
+// Where the oldest entry stands, and how many are unread.
+pub fn first(s: &[u64; 2060]) -> u64
+    ensures { λ r. ⌜ r ≡ queueOf (plainOf (now (s .entry))) .first ⌝ }
+{
+    s[FIRST]
 }
 
 pub fn unread(s: &[u64; 2060]) -> u64
@@ -308,18 +323,109 @@ pub fn sized(s: &[u64; 2060])
     known(a);
 }
 
-// The counts of outside holds.
-fn outside(s: &[u64; 2060]) -> [u64; 64]
-    ensures { λ r. ⌜ r ≡ holdsOf (plainOf (now (s .entry))) .outside ⌝ }
+// Words into others, from place `at` on.
+fn copy(to: &mut [u64], at: usize, from: &[u64])
+    requires { ⌜ at + length (now from) ≤ length (now to) ⌝ }
+    ensures { λ r. ⌜ now (to .exit) ≡ sets (now (to .entry)) at (now (from .entry)) ⌝ }
 {
-    sized(s);
-    let mut a = [0; 64];
     let mut i = 0;
-    while i < 64 {
-        a[i] = s[OUTSIDE + i];
+    while i < from.len() {
+        to[at + i] = from[i];
         i += 1;
     }
+}
+
+// The 64 words from `at` on.
+fn part_at(s: &[u64; 2060], at: usize) -> [u64; 64]
+    requires { ⌜ at + 64 ≤ 2060 ⌝ }
+    ensures { λ r. ⌜ r ≡ partOf at 64 (now (s .entry)) ⌝ }
+{
+    sized(s);
+    let t = &s[..];
+    let p = &t[at..at + 64];
+    let mut a = [0; 64];
+    copy(&mut a, 0, p);
     a
+}
+
+// The slot after each in the chain; all counts of holds, those of outside ones; all handles.
+pub fn chain(s: &[u64; 2060]) -> [u64; 64]
+    ensures { λ r. ⌜ r ≡ tableOf (plainOf (now (s .entry))) .next ⌝ }
+{
+    part_at(s, CHAIN)
+}
+
+pub fn all(s: &[u64; 2060]) -> [u64; 64]
+    ensures { λ r. ⌜ r ≡ holdsOf (plainOf (now (s .entry))) .holds ⌝ }
+{
+    part_at(s, ALL)
+}
+
+pub fn outside(s: &[u64; 2060]) -> [u64; 64]
+    ensures { λ r. ⌜ r ≡ holdsOf (plainOf (now (s .entry))) .outside ⌝ }
+{
+    part_at(s, OUTSIDE)
+}
+
+pub fn handles(s: &[u64; 2060]) -> [u64; 64]
+    ensures { λ r. ⌜ r ≡ handlesOf (plainOf (now (s .entry))) .at ⌝ }
+{
+    part_at(s, HANDLES)
+}
+
+// The queue's words, copied out.
+pub fn queue(s: &[u64; 2060], to: &mut [u64; 1024])
+    ensures { λ r. ⌜ now (to .exit) ≡ plainOf (now (s .entry)) .words ⌝ }
+{
+    sized(s);
+    let t = &s[..];
+    let p = &t[QUEUE..2060];
+    copy(to, 0, p);
+}
+
+// And each of them stored; words that have no meaning become 0.
+pub fn put_chain(s: &mut [u64; 2060], next: &[u64; 64])
+    ensures { λ r. ⌜ now (s .exit) ≡ sets (now (s .entry)) (chainPlace 0) (now (next .entry)) ⌝ }
+{
+    copy(s, CHAIN, next);
+}
+
+pub fn put_head(s: &mut [u64; 2060], n: u64)
+    ensures { λ r. ⌜ now (s .exit) ≡ sets (now (s .entry)) headPlace (n ∷ replicate 7 0) ⌝ }
+{
+    let a = [n, 0, 0, 0, 0, 0, 0, 0];
+    copy(s, HEAD, &a);
+}
+
+pub fn put_all(s: &mut [u64; 2060], counts: &[u64; 64])
+    ensures { λ r. ⌜ now (s .exit) ≡ stored (now (s .entry)) (allStore (now (counts .entry))) ⌝ }
+{
+    copy(s, ALL, counts);
+}
+
+pub fn put_outside(s: &mut [u64; 2060], counts: &[u64; 64])
+    ensures { λ r. ⌜ now (s .exit) ≡ stored (now (s .entry)) (outsideStore (now (counts .entry))) ⌝ }
+{
+    copy(s, OUTSIDE, counts);
+}
+
+pub fn put_driver(s: &mut [u64; 2060], scheme: u64, first: u64, len: u64)
+    ensures { λ r. ⌜ now (s .exit) ≡ sets (now (s .entry)) schemePlace (scheme ∷ first ∷ len ∷ 0 ∷ []) ⌝ }
+{
+    let a = [scheme, first, len, 0];
+    copy(s, SCHEME, &a);
+}
+
+pub fn put_handles(s: &mut [u64; 2060], at: &[u64; 64])
+    ensures { λ r. ⌜ now (s .exit) ≡ stored (now (s .entry)) (handlesStore (now (at .entry))) ⌝ }
+{
+    copy(s, HANDLES, at);
+}
+
+pub fn put_queue(s: &mut [u64; 2060], from: &[u64; 1024])
+    ensures { λ r. ⌜ now (s .exit) ≡ sets (now (s .entry)) (queuePlace 0) (now (from .entry)) ⌝ }
+{
+    copy(s, QUEUE, from);
 }
 
 // A list against the counts: what it is refused for, or the list; nothing is taken yet.
