@@ -422,8 +422,10 @@ pub fn put_handles(s: &mut [u64; 2060], at: &[u64; 64])
     copy(s, HANDLES, at);
 }
 
+// Beside what it stores: both have as many words as their types say.
 pub fn put_queue(s: &mut [u64; 2060], from: &[u64; 1024])
     ensures { λ r. ⌜ now (s .exit) ≡ sets (now (s .entry)) (queuePlace 0) (now (from .entry)) ⌝ }
+    ensures { λ r. ⌜ (length (now (s .entry)) ≡ 2060) × (length (now (from .entry)) ≡ 1024) ⌝ }
 {
     copy(s, QUEUE, from);
 }
