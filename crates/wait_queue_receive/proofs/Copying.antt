@@ -7,7 +7,7 @@ use native.Mathlib.Omega.{arith}
 use native.Mathlib.Nat.{add-zero, div-add-mod'}
 use lib.Dec.{eqb, ltb}
 use borrow.Author.Tests.{ltb-true, ltb-false, eq-eqb, ne-eqb}
-use lib.ListN.{length, getD, set, take, drop}
+use lib.ListN.{length, getD, set, take, drop, List·getD-eq-default}
 use lib.Seq.{sets, drop-cons, take-append-le, take-append-add}
 use Rattle.le.specs.Le.{bytes8, bytesOf}
 use Rattle.wait_queue.specs.declared.WaitQueue.{WaitQueue}
@@ -18,8 +18,15 @@ use Rattle.wait_queue.specs.Queue.{wordAt, wordsFrom, unread, removed}
 use Rattle.wait_queue_receive.specs.Receive.{emptyBy, emptyOf, receivedIf, receivedOf, copiedOf}
 
 -- places in the ring, with sums that fit a word
-pub word-fits : (f i : ℕ) → (f % 128 * 8 + i % 1024) % 1024 ≡ (f * 8 + i) % 1024
+word-fits : (f i : ℕ) → (f % 128 * 8 + i % 1024) % 1024 ≡ (f * 8 + i) % 1024
 word-fits f i = omega (arith, div-add-mod' f 128, div-add-mod' i 1024, div-add-mod' (f * 8 + i) 1024)
+
+module _ (q : WaitQueue) (ws : List ℕ) (i : ℕ) where
+  pub word-in : getD ws ((q .first % 128 * 8 + i % 1024) % 1024) 0 ≡ wordAt q ws i
+  word-in = ap (λ (p : ℕ). getD ws p 0) (word-fits (q .first) i)
+
+  pub no-word : length ws ≤ (q .first % 128 * 8 + i % 1024) % 1024 → 0 ≡ wordAt q ws i
+  no-word h = sym (List·getD-eq-default ws 0 h) ∙ word-in
 
 pub first-fits : (f k : ℕ) → (f % 128 + k) % 128 ≡ (f + k) % 128
 first-fits f k = omega (arith, div-add-mod' f 128, div-add-mod' (f % 128 + k) 128, div-add-mod' (f + k) 128)

@@ -14,11 +14,15 @@ pub struct Received {
     pub queue: WaitQueue,
 }
 
-// Word number i of the unread ones.
-fn word_at(q: WaitQueue, words: &[u64; 1024], i: usize) -> u64
+// Word number i of the unread ones, in a ring of 1,024; of fewer words those that there are not count as 0.
+fn word_at(q: WaitQueue, words: &[u64], i: usize) -> u64
     ensures { λ r. ⌜ r ≡ wordAt q (now (words .entry)) i ⌝ }
 {
-    words[((q.first % 128) as usize * 8 + i % 1024) % 1024]
+    let p = ((q.first % 128) as usize * 8 + i % 1024) % 1024;
+    if words.len() <= p {
+        return 0;
+    }
+    words[p]
 }
 
 fn word_bytes(w: u64) -> [u8; 8]
@@ -51,7 +55,7 @@ fn store_part(out: &mut [u8], at: usize, w: u64, n: usize)
 }
 
 // The first n of the unread bytes.
-fn copy(q: WaitQueue, words: &[u64; 1024], out: &mut [u8], n: usize)
+fn copy(q: WaitQueue, words: &[u64], out: &mut [u8], n: usize)
     requires { ⌜ (n ≤ length (now out)) × (n ≤ q .len * 64) ⌝ }
     ensures { λ r. ⌜ now (out .exit) ≡ sets (now (out .entry)) 0 (take n (unread q (now (words .entry)))) ⌝ }
 {
@@ -90,7 +94,7 @@ pub fn copied(room: usize, len: u64) -> usize
 }
 
 // `receive_into_user`: whole entries that were copied are removed, a part entry comes again.
-pub fn receive(q: WaitQueue, words: &[u64; 1024], out: &mut [u8], flags: u32) -> Received
+pub fn receive(q: WaitQueue, words: &[u64], out: &mut [u8], flags: u32) -> Received
     ensures { λ r. ⌜ (r ≡ receivedOf q (length (now (out .entry))) flags) × (now (out .exit) ≡ copiedOf q (now (words .entry)) (now (out .entry))) ⌝ }
 {
     let len = q.len;

@@ -13,7 +13,10 @@ use Rattle.take_holds.specs.declared.Taken.{Taken}
 use Rattle.take_holds.specs.declared.TakeAnswer.{TakeAnswer}
 use Rattle.take_holds.specs.declared.TakeAnswer.the-variants as take
 use Rattle.take_holds.specs.Take.{takeOf}
-use Rattle.events.specs.World.{holdsOf, handlesOf}
+use Rattle.wait_queue.specs.declared.WaitQueue.{WaitQueue}
+use Rattle.wait_queue_receive.specs.declared.Received.{Received}
+use Rattle.wait_queue_receive.specs.Receive.{receivedOf, copiedOf}
+use Rattle.events.specs.World.{holdsOf, handlesOf, queueOf}
 use Rattle.layout.specs.Layout.{part, plainOf}
 use Rattle.layout.specs.Store.{stored, outside, all, handles}
 use Rattle.layout.proofs.Regions.{part-at, part-length, same-part, one-part, relent}
@@ -35,6 +38,14 @@ module _ (ws : List ℕ) where
   looked ds xs ys a l ea eo e =
       let q : takeOf (holdsWith xs ys) ds ≡ takeOf (holdsOf (plainOf ws)) ds = λ i. takeOf (holdsWith (ea i) (eo i)) ds in
       (e .0 ∙ ap (λ (t : Taken). t .answer) q, e .1 ∙ ap (λ (t : Taken). t .list) q)
+
+  -- a read, of the ring that was lent
+  pub received :
+      (out : List ℕ) (flags : ℕ) (o : Received) (new : List ℕ)
+      → let q : WaitQueue = record { first = getD ws 969 0; len = getD ws 970 0 } in (o ≡ receivedOf q (length out) flags) × (new ≡ copiedOf q (take 1024 (drop 1036 ws)) out)
+      → (o ≡ receivedOf (queueOf (plainOf ws)) (length out) flags) × (new ≡ copiedOf (queueOf (plainOf ws)) (plainOf ws .words) out)
+  unfolding plainOf part
+  received out flags o new e = e
 
   -- a list of none
   pub looked-none : (ds : List ℕ) (l : Fds) → length ds ≡ 0 → l ≡ listOf [] → (take.Taken ≡ takeOf (holdsOf (plainOf ws)) ds .answer) × (l ≡ takeOf (holdsOf (plainOf ws)) ds .list)

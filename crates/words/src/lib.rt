@@ -12,6 +12,8 @@ use slot::Reply;
 use slot::Slot;
 use take_holds::Looked;
 use take_holds::TakeAnswer;
+use wait_queue::WaitQueue;
+use wait_queue_receive::Received;
 ghost use mathlib.Core.Path.{_≡_};
 ghost use mathlib.Core.List.{[], _∷_};
 ghost use Prim.Native.Nat.{min, _<_, _≤_, _+_, _*_};
@@ -25,10 +27,11 @@ ghost use Rattle.holds.specs.Holds.{heldOf};
 ghost use Rattle.schemev2.specs.Entry.{sqeWords};
 ghost use Rattle.take_holds.specs.Take.{takeOf};
 ghost use Rattle.wait_queue.specs.Queue.{headOf};
+ghost use Rattle.wait_queue_receive.specs.Receive.{receivedOf, copiedOf};
 ghost use Rattle.events.specs.World.{tableOf, holdsOf, handlesOf, queueOf, schemeOf, slotIn, queueFull};
 ghost use Rattle.events.specs.Submit.{tableFull};
 ghost use Rattle.layout.specs.Layout.{chainPlace, headPlace, schemePlace, queuePlace, one as oneOf, slotOf, fdsFrom, marksWord, replyWord, lowWord, highWord, part as partOf, plainOf, slotWords};
-ghost use Rattle.layout.specs.Store.{stored, put as putStore, give as giveStore, vacate as vacateStore, send as sendStore, outside as outsideStore, all as allStore, handles as handlesStore};
+ghost use Rattle.layout.specs.Store.{stored, put as putStore, give as giveStore, vacate as vacateStore, send as sendStore, queue as queueStore, outside as outsideStore, all as allStore, handles as handlesStore};
 
 // A slot has twelve words, from 0 on; the chain of vacated slots has one for each.
 const CHAIN: usize = 768;
@@ -428,6 +431,28 @@ pub fn put_queue(s: &mut [u64; 2060], from: &[u64; 1024])
     ensures { λ r. ⌜ (length (now (s .entry)) ≡ 2060) × (length (now (from .entry)) ≡ 1024) ⌝ }
 {
     copy(s, QUEUE, from);
+}
+
+// The oldest unread bytes into those lent; the queue that this leaves is answered and not yet stored.
+pub fn receive(s: &[u64; 2060], out: &mut [u8], flags: u32) -> Received
+    ensures { λ r. ⌜ r ≡ receivedOf (queueOf (plainOf (now (s .entry)))) (length (now (out .entry))) flags ⌝ }
+    ensures { λ r. ⌜ now (out .exit) ≡ copiedOf (queueOf (plainOf (now (s .entry)))) (plainOf (now (s .entry)) .words) (now (out .entry)) ⌝ }
+{
+    let q = WaitQueue {
+        first: s[FIRST],
+        len: s[UNREAD],
+    };
+    sized(s);
+    let t = &s[..];
+    let ring = &t[QUEUE..2060];
+    wait_queue_receive::receive(q, ring, out, flags)
+}
+
+pub fn put_unread(s: &mut [u64; 2060], q: WaitQueue)
+    ensures { λ r. ⌜ now (s .exit) ≡ stored (now (s .entry)) (queueStore q) ⌝ }
+{
+    s[FIRST] = q.first;
+    s[UNREAD] = q.len;
 }
 
 // A list against the counts: what it is refused for, or the list; nothing is taken yet.

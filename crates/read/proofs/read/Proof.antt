@@ -19,7 +19,7 @@ same-length : tie.Need-same-length
 same-length c = search needs
 
 returns : tie.Need-returns
-returns c = let a = c .before .before .before .before .before .before .before .before .args in λ s n h st. let g = received (found s (a .p) h) (a .words .now) (a .out .now) (a .flags) _ _ (c .before .before .before .before .receive .ensures .0) (c .before .before .before .before .receive .ensures .1) in (g .0, (ap (λ (x : State). world x (a .words .now)) (queued-is s n (a .p) st _ _ h (c .queued .ensures)) ∙ g .1 .0, g .1 .1))
+returns c = let a = c .before .before .before .before .before .before .before .before .before .args in λ s n h st. let g = received (found s (a .p) h) (a .words .now) (a .out .now) (a .flags) _ _ (c .before .before .before .before .receive .ensures .0) (c .before .before .before .before .receive .ensures .1) in (g .0, (ap (λ (x : State). world x (a .words .now)) (queued-is s n (a .p) st _ _ h (c .queued .ensures)) ∙ g .1 .0, g .1 .1))
 
 pub read-spec : {M : Type 1} → statement M
 read-spec = tie.close (tie.spec receive-requires queued-requires same-length returns)

@@ -21,7 +21,7 @@ abbrev μ-loop : tie.MeasureT-loop
 μ-loop q words out₀ n i₀ out i = n / 8 - i
 
 loop-holds : tie.Need-loop-holds Inv-loop μ-loop
-loop-holds c = (search needs, refl, words-start (c .before .args .q) (c .before .args .words .now) (c .before .args .q .len * 8) (c .before .args .n) (c .before .args .out .now))
+loop-holds c = (search needs, refl, words-start (c .before .before .args .q) (c .before .before .args .words .now) (c .before .before .args .q .len * 8) (c .before .before .args .n) (c .before .before .args .out .now))
 
 mul-store-part : tie.Need-mul-store-part Inv-loop μ-loop
 mul-store-part c = search needs
@@ -42,8 +42,8 @@ loop-again : tie.Need-loop-again Inv-loop μ-loop
 loop-again c = (
   search needs,
   ap length (c .before .before .store-part .ensures) ∙ length-sets (c .before .before .before .before .before .before .loop .out) (c .before .before .before .before .before .before .loop .i * 8) (take 8 (bytes8 (c .before .before .before .word-at .result))) ∙ c .before .before .before .before .before .before .loop .inv .1,
-  again (c .before .before .before .before .before .before .before .before .args .q) (c .before .before .before .before .before .before .before .before .args .words .now) (c .before .before .before .before .before .before .before .before .args .q .len * 8) (c .before .before .before .before .before .before .before .before .args .n) _ (c .before .before .before .before .before .before .loop .out) _ (c .before .before .before .before .before .before .loop .i) _ (c .before .before .before .word-at .ensures) (c .before .before .store-part .ensures)
-      (omega (arith, c .before .before .before .before .before .loop-test .taken, c .before .before .before .before .before .before .before .before .pre .1)) (omega (arith, c .before .before .before .before .before .loop-test .taken)) (c .before .before .before .before .before .before .loop .inv .2),
+  again (c .before .before .before .before .before .before .before .before .before .args .q) (c .before .before .before .before .before .before .before .before .before .args .words .now) (c .before .before .before .before .before .before .before .before .before .args .q .len * 8) (c .before .before .before .before .before .before .before .before .before .args .n) _ (c .before .before .before .before .before .before .loop .out) _ (c .before .before .before .before .before .before .loop .i) _ (c .before .before .before .word-at .ensures) (c .before .before .store-part .ensures)
+      (omega (arith, c .before .before .before .before .before .loop-test .taken, c .before .before .before .before .before .before .before .before .before .pre .1)) (omega (arith, c .before .before .before .before .before .loop-test .taken)) (c .before .before .before .before .before .before .loop .inv .2),
 )
 
 mul-store-part-2 : tie.Need-mul-store-part-2 Inv-loop μ-loop
@@ -66,8 +66,8 @@ same-length c = search needs
 
 returns : tie.Need-returns Inv-loop μ-loop
 returns c =
-    finish (c .before .before .before .before .before .before .before .before .args .q) (c .before .before .before .before .before .before .before .before .args .words .now) (c .before .before .before .before .before .before .before .before .args .q .len * 8) (c .before .before .before .before .before .before .before .before .args .n) _ (c .before .before .before .before .before .before .loop .out) _ (c .before .before .before .before .before .before .loop .i) _ (c .before .before .before .word-at2 .ensures) (c .before .before .store-part2 .ensures)
-    (omega (arith, c .before .before .before .before .before .before .before .before .pre .1)) (le-antisymm (c .before .before .before .before .before .before .loop .inv .0) (c .before .before .before .before .before .loop-test .left)) (c .before .before .before .before .before .before .loop .inv .2)
+    finish (c .before .before .before .before .before .before .before .before .before .args .q) (c .before .before .before .before .before .before .before .before .before .args .words .now) (c .before .before .before .before .before .before .before .before .before .args .q .len * 8) (c .before .before .before .before .before .before .before .before .before .args .n) _ (c .before .before .before .before .before .before .loop .out) _ (c .before .before .before .before .before .before .loop .i) _ (c .before .before .before .word-at2 .ensures) (c .before .before .store-part2 .ensures)
+    (omega (arith, c .before .before .before .before .before .before .before .before .before .pre .1)) (le-antisymm (c .before .before .before .before .before .before .loop .inv .0) (c .before .before .before .before .before .loop-test .left)) (c .before .before .before .before .before .before .loop .inv .2)
 
 pub copy-spec : {M : Type 1} → statement M
 copy-spec =

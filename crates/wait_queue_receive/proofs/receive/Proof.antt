@@ -8,7 +8,7 @@ empty-requires : tie.Need-empty-requires
 empty-requires c κs = search needs
 
 returns : tie.Need-returns
-returns c = none (c .before .before .before .args .q) (c .before .before .before .args .words .now) (c .before .before .before .args .out .now) (c .before .before .before .args .flags) _ (c .empty .ensures) (c .before .if1 .taken)
+returns c = none (c .before .before .before .before .args .q) (c .before .before .before .before .args .words .now) (c .before .before .before .before .args .out .now) (c .before .before .before .before .args .flags) _ (c .empty .ensures) (c .before .if1 .taken)
 
 copied-requires : tie.Need-copied-requires
 copied-requires c κs = search needs
@@ -27,7 +27,7 @@ same-length c = search needs
 
 returns-2 : tie.Need-returns-2
 returns-2 c =
-    some (c .before .before .before .before .before .before .before .before .args .q) (c .before .before .before .before .before .before .before .before .args .words .now) (c .before .before .before .before .before .before .before .before .args .out .now) (c .before .before .before .before .before .before .before .before .args .flags) _ _ (c .before .before .before .before .before .copied .ensures)
+    some (c .before .before .before .before .before .before .before .before .before .args .q) (c .before .before .before .before .before .before .before .before .before .args .words .now) (c .before .before .before .before .before .before .before .before .before .args .out .now) (c .before .before .before .before .before .before .before .before .before .args .flags) _ _ (c .before .before .before .before .before .copied .ensures)
     (c .before .before .before .before .before .before .if1 .left) (c .before .before .before .copy .ensures) _ (first-fits _ _)
 
 pub receive-spec : {M : Type 1} → statement M
