@@ -85,12 +85,12 @@ found w verb ms k v is at = go (wrongWords verb ms) refl is
         record {
           vacant = λ p. let t : isVacant (phaseIn w (requestOf ms)) ≡ true = ap (λ (x : Slot). isVacant (phaseOf x)) (sym here) ∙ ap isVacant p in rw (e, t) refl;
           other = λ p r.
-            let t : isVacant (phaseIn w (requestOf ms)) ≡ false = ap (λ (x : Slot). isVacant (phaseOf x)) (sym here) ∙ p in
-            let u : isWaiting (phaseIn w (requestOf ms)) ≡ false = ap (λ (x : Slot). isWaiting (phaseOf x)) (sym here) ∙ r in
-            rw (e, t, u) refl;
+              let t : isVacant (phaseIn w (requestOf ms)) ≡ false = ap (λ (x : Slot). isVacant (phaseOf x)) (sym here) ∙ p in
+              let u : isWaiting (phaseIn w (requestOf ms)) ≡ false = ap (λ (x : Slot). isWaiting (phaseOf x)) (sym here) ∙ r in
+              rw (e, t, u) refl;
           waits = λ p.
-            let t : phaseIn w (requestOf ms) ≡ Waiting = ap phaseOf (sym here) ∙ p in
-            ((ap₂ (λ (x : Bool) (y : Phase). x || isVacant y) e t, (ap (λ (y : Phase). not (isWaiting y)) t, tt)), q ∙ low w (requestOf ms) t, here);
+              let t : phaseIn w (requestOf ms) ≡ Waiting = ap phaseOf (sym here) ∙ p in
+              ((ap₂ (λ (x : Bool) (y : Phase). x || isVacant y) e t, (ap (λ (y : Phase). not (isWaiting y)) t, tt)), q ∙ low w (requestOf ms) t, here);
         }
 
 -- obtain
@@ -125,55 +125,55 @@ module _ (ws ms : List ℕ) (k : ℕ) (v : Slot) (is : k ≡ requestSlot 0 ms) (
 
 -- move, its list good
 module _ (ws ms ds : List ℕ) (l : Fds) (g : Good (plainOf ws) ds l) (k : ℕ) (v : Slot) (is : k ≡ requestSlot 1 ms) (at : v ≡ slotIn (plainOf ws) k)
-  (xs : List ℕ) (ex : xs ≡ stored ws (outside (lessAll (holdsOf (plainOf ws) .outside) (numbers l))))
+    (xs : List ℕ) (ex : xs ≡ stored ws (outside (lessAll (holdsOf (plainOf ws) .outside) (numbers l))))
   where
-  abbrev u : World
-  u = plainOf ws
+    abbrev u : World
+    u = plainOf ws
 
-  abbrev fm : Found u 1 ms k v
-  fm = found u 1 ms k v is at
+    abbrev fm : Found u 1 ms k v
+    fm = found u 1 ms k v is at
 
-  taken-is : xs ≡ stored ws (outside (takenHolds u ds .outside))
-  taken-is = ex ∙ ap (λ (o : List ℕ). stored ws (outside o)) (ap (lessAll (holdsOf u .outside)) (g .numbers) ∙ sym (g .taken))
+    taken-is : xs ≡ stored ws (outside (takenHolds u ds .outside))
+    taken-is = ex ∙ ap (λ (o : List ℕ). stored ws (outside o)) (ap (lessAll (holdsOf u .outside)) (g .numbers) ∙ sym (g .taken))
 
-  -- what is dropped of all holds
-  lowered : (bs ys : List ℕ) → ys ≡ stored xs (all (lessAll (holdsOf (plainOf xs) .holds) bs)) → ys ≡ storedAll ws (counts (dropped (takenHolds u ds) bs))
-  lowered bs ys ey =
-      let h : holdsOf (plainOf xs) .holds ≡ takenHolds u ds .holds = ap (λ (x : List ℕ). holdsOf (plainOf x) .holds) taken-is ∙ all-outside ws (takenHolds u ds .outside) ∙ sym (ap (λ (x : Holds). x .holds) (taken-all u ds)) in
-      ey ∙ ap₂ (λ (x y : List ℕ). stored x (all (lessAll y bs))) taken-is h
+    -- what is dropped of all holds
+    lowered : (bs ys : List ℕ) → ys ≡ stored xs (all (lessAll (holdsOf (plainOf xs) .holds) bs)) → ys ≡ storedAll ws (counts (dropped (takenHolds u ds) bs))
+    lowered bs ys ey =
+        let h : holdsOf (plainOf xs) .holds ≡ takenHolds u ds .holds = ap (λ (x : List ℕ). holdsOf (plainOf x) .holds) taken-is ∙ all-outside ws (takenHolds u ds .outside) ∙ sym (ap (λ (x : Holds). x .holds) (taken-all u ds)) in
+        ey ∙ ap₂ (λ (x y : List ℕ). stored x (all (lessAll y bs))) taken-is h
 
-  refused : (j : ℕ) → Due (requestRows u 1 ms) j → (ys : List ℕ) (a : Answer) (fx : List ℕ) → ys ≡ stored xs (all (lessAll (holdsOf (plainOf xs) .holds) (numbers l))) → a ≡ no j → fx ≡ [] → Moves ws ys ms ds a fx
-  refused j d ys a fx ey ea ef =
-      let r : movedOf u ms ds ≡ refuse (broughtBack u ds) j = checked-due (refuse (broughtBack u ds)) (requestRows u 1 ms) (moved u (requestOf ms) ds) j d in
-      let q : movedStores u ms ds ≡ counts (dropped (takenHolds u ds) ds) = checked-due (λ i. counts (dropped (takenHolds u ds) ds)) (requestRows u 1 ms) _ j d in
-      record {
-        answer = ea ∙ sym (ap (λ (o : Outcome). o .answer) r);
-        effects = ef ∙ sym (ap (λ (o : Outcome). o .effects) r);
-        words = lowered (numbers l) ys ey ∙ ap (λ (b : List ℕ). storedAll ws (counts (dropped (takenHolds u ds) b))) (g .numbers) ∙ sym (ap (storedAll ws) q);
-      }
+    refused : (j : ℕ) → Due (requestRows u 1 ms) j → (ys : List ℕ) (a : Answer) (fx : List ℕ) → ys ≡ stored xs (all (lessAll (holdsOf (plainOf xs) .holds) (numbers l))) → a ≡ no j → fx ≡ [] → Moves ws ys ms ds a fx
+    refused j d ys a fx ey ea ef =
+        let r : movedOf u ms ds ≡ refuse (broughtBack u ds) j = checked-due (refuse (broughtBack u ds)) (requestRows u 1 ms) (moved u (requestOf ms) ds) j d in
+        let q : movedStores u ms ds ≡ counts (dropped (takenHolds u ds) ds) = checked-due (λ i. counts (dropped (takenHolds u ds) ds)) (requestRows u 1 ms) _ j d in
+        record {
+          answer = ea ∙ sym (ap (λ (o : Outcome). o .answer) r);
+          effects = ef ∙ sym (ap (λ (o : Outcome). o .effects) r);
+          words = lowered (numbers l) ys ey ∙ ap (λ (b : List ℕ). storedAll ws (counts (dropped (takenHolds u ds) b))) (g .numbers) ∙ sym (ap (storedAll ws) q);
+        }
 
-  pub move-vacant : phaseOf v ≡ Vacant → (ys : List ℕ) (a : Answer) (fx : List ℕ) → ys ≡ stored xs (all (lessAll (holdsOf (plainOf xs) .holds) (numbers l))) → a ≡ no 22 → fx ≡ [] → Moves ws ys ms ds a fx
-  move-vacant p = refused 22 (fm .vacant p)
+    pub move-vacant : phaseOf v ≡ Vacant → (ys : List ℕ) (a : Answer) (fx : List ℕ) → ys ≡ stored xs (all (lessAll (holdsOf (plainOf xs) .holds) (numbers l))) → a ≡ no 22 → fx ≡ [] → Moves ws ys ms ds a fx
+    move-vacant p = refused 22 (fm .vacant p)
 
-  pub move-other : isVacant (phaseOf v) ≡ false → isWaiting (phaseOf v) ≡ false → (ys : List ℕ) (a : Answer) (fx : List ℕ) → ys ≡ stored xs (all (lessAll (holdsOf (plainOf xs) .holds) (numbers l))) → a ≡ no 2 → fx ≡ [] → Moves ws ys ms ds a fx
-  move-other p q = refused 2 (fm .other p q)
+    pub move-other : isVacant (phaseOf v) ≡ false → isWaiting (phaseOf v) ≡ false → (ys : List ℕ) (a : Answer) (fx : List ℕ) → ys ≡ stored xs (all (lessAll (holdsOf (plainOf xs) .holds) (numbers l))) → a ≡ no 2 → fx ≡ [] → Moves ws ys ms ds a fx
+    move-other p q = refused 2 (fm .other p q)
 
-  pub moved-in :
-      phaseOf v ≡ Waiting → (n : ℕ) (t : Slot) (ys zs : List ℕ) (a : Answer) (fx : List ℕ) → n ≡ length ds → t ≡ withFdsOf v l
-      → ys ≡ stored xs (all (lessAll (holdsOf (plainOf xs) .holds) (numbers (v .fds)))) → zs ≡ stored ys (put k t) → a ≡ ok n → fx ≡ [] → Moves ws zs ms ds a fx
-  moved-in p n t ys zs a fx en et ey ez ea ef =
-      let z = fm .waits p in
-      let h : v ≡ slotIn u (requestOf ms) = z .2 in
-      let r : movedOf u ms ds ≡ moved u (requestOf ms) ds = checked-passed (refuse (broughtBack u ds)) (requestRows u 1 ms) (moved u (requestOf ms) ds) (z .0) in
-      let q = checked-passed (λ i. counts (dropped (takenHolds u ds) ds)) (requestRows u 1 ms) (counts (dropped (takenHolds u ds) (numbers (slotIn u (requestOf ms) .fds))) ++ put (requestOf ms) (withFdsOf (slotIn u (requestOf ms)) (listOf ds)) ∷ []) (z .0) in
-      record {
-        answer = ea ∙ ap ok en ∙ sym (ap (λ (o : Outcome). o .answer) r);
-        effects = ef ∙ sym (ap (λ (o : Outcome). o .effects) r);
-        words =
-          ez
-          ∙ (λ i. stored ((lowered (numbers (v .fds)) ys ey ∙ ap (λ (x : Slot). storedAll ws (counts (dropped (takenHolds u ds) (numbers (x .fds))))) h) i) (put (z .1 i) ((et ∙ ap₂ withFdsOf h (g .list)) i)))
-          ∙ sym (ap (storedAll ws) q);
-      }
+    pub moved-in :
+        phaseOf v ≡ Waiting → (n : ℕ) (t : Slot) (ys zs : List ℕ) (a : Answer) (fx : List ℕ) → n ≡ length ds → t ≡ withFdsOf v l
+        → ys ≡ stored xs (all (lessAll (holdsOf (plainOf xs) .holds) (numbers (v .fds)))) → zs ≡ stored ys (put k t) → a ≡ ok n → fx ≡ [] → Moves ws zs ms ds a fx
+    moved-in p n t ys zs a fx en et ey ez ea ef =
+        let z = fm .waits p in
+        let h : v ≡ slotIn u (requestOf ms) = z .2 in
+        let r : movedOf u ms ds ≡ moved u (requestOf ms) ds = checked-passed (refuse (broughtBack u ds)) (requestRows u 1 ms) (moved u (requestOf ms) ds) (z .0) in
+        let q = checked-passed (λ i. counts (dropped (takenHolds u ds) ds)) (requestRows u 1 ms) (counts (dropped (takenHolds u ds) (numbers (slotIn u (requestOf ms) .fds))) ++ put (requestOf ms) (withFdsOf (slotIn u (requestOf ms)) (listOf ds)) ∷ []) (z .0) in
+        record {
+          answer = ea ∙ ap ok en ∙ sym (ap (λ (o : Outcome). o .answer) r);
+          effects = ef ∙ sym (ap (λ (o : Outcome). o .effects) r);
+          words =
+              ez
+              ∙ (λ i. stored ((lowered (numbers (v .fds)) ys ey ∙ ap (λ (x : Slot). storedAll ws (counts (dropped (takenHolds u ds) (numbers (x .fds))))) h) i) (put (z .1 i) ((et ∙ ap₂ withFdsOf h (g .list)) i)))
+              ∙ sym (ap (storedAll ws) q);
+        }
 
 -- a move by its list
 module _ (ws ms ds : List ℕ) where

@@ -41,14 +41,7 @@ fn without_reply(answer: Answer, effect: Effect) -> Woken
     }
 }
 
-pub fn wake(
-    s: &mut [u64; 2060],
-    tag: Tag,
-    caller: u32,
-    killed: u64,
-    base: u64,
-    count: u64,
-) -> Woken
+pub fn wake(s: &mut [u64; 2060], tag: Tag, caller: u32, killed: u64, base: u64, count: u64) -> Woken
     ensures { λ r. ⌜ Does (now (s .entry)) (now (s .exit)) (on (wakeEvent (tag .0) caller killed base count)) (saidWith (responseFrom (r .reply) (r .fds)) (r .answer)) (effectWords (r .effect)) ⌝ }
 {
     let none = effect::none();

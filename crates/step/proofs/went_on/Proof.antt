@@ -29,7 +29,7 @@ root-requires : tie.Need-root-requires
 root-requires c κs = search needs
 
 returns : tie.Need-returns
-returns c = 
+returns c =
     let a = c .before .before .before .before .before .before .before .before .args in
     (refl, (c .root .ensures ∙ ap₂ rootWords (c .before .before .before .before .before .before .scheme .ensures) (c .before .event-read .ensures), c .before .before .send .ensures ∙ ap (λ (xs : List ℕ). stored xs (send (a .e))) (c .before .before .before .before .put .ensures)))
 

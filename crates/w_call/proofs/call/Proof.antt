@@ -65,7 +65,7 @@ begun-requires : tie.Need-begun-requires
 begun-requires c κs = search needs
 
 returns-4 : tie.Need-returns-4
-returns-4 c = let a = c .before .before .before .before .before .before .before .before .before .before .before .before .before .before .before .before .before .before .before .before .before .args in let g = asked-good (plainOf (a .s .now)) (a .opcode) (a .fds .now) _ (c .before .before .before .before .before .before .before .before .before .before .before .before .before .before .before .before .before .before .ask .ensures) (not-false _ (c .before .before .before .before .before .before .before .before .before .before .before .before .before .before .before .before .if1 .left)) in 
+returns-4 c = let a = c .before .before .before .before .before .before .before .before .before .before .before .before .before .before .before .before .before .before .before .before .before .args in let g = asked-good (plainOf (a .s .now)) (a .opcode) (a .fds .now) _ (c .before .before .before .before .before .before .before .before .before .before .before .before .before .before .before .before .before .before .ask .ensures) (not-false _ (c .before .before .before .before .before .before .before .before .before .before .before .before .before .before .before .before .if1 .left)) in
     called (a .s .now) (a .caller) (a .opcode) (a .args) (a .uid) (a .gid) (a .pid) (a .fds .now) (g .0) (g .1) (is (c .before .before .before .before .before .before .before .before .before .before .before .before .before .before .is-full .ensures) (c .before .before .before .before .before .before .before .before .before .before .before .before .before .if2 .left)) (is (c .before .before .before .before .before .before .before .before .before .before .before .queue-full .ensures) (c .before .before .before .before .before .before .before .before .before .before .if3 .left)) _ _ _ _ _ _ _ _ (c .before .before .before .before .before .before .before .before .head .ensures) (g .3) (c .before .before .before .before .before .before .waiting .ensures) (entry-is (a .opcode) _ (a .args) (a .uid) (a .gid) (a .pid) _ _ (g .2) (c .before .before .before .before .before .uid-gid-hack-merge .ensures)) (c .before .before .take .ensures) (c .begun .ensures .0) (c .begun .ensures .1 .0) (c .begun .ensures .1 .1)
 
 pub call-spec : {M : Type 1} → statement M

@@ -65,7 +65,7 @@ went-on-requires : tie.Need-went-on-requires
 went-on-requires c κs = search needs
 
 returns-4 : tie.Need-returns-4
-returns-4 c = let a = c .before .before .before .before .before .before .before .before .before .before .before .before .before .before .before .before .before .before .before .before .args in let g = asked-good (plainOf (a .s .now)) (a .opcode) (a .fds .now) _ (c .before .before .before .before .before .before .before .before .before .before .before .before .before .before .before .before .before .ask .ensures) (not-false _ (c .before .before .before .before .before .before .before .before .before .before .before .before .before .before .before .if1 .left)) in 
+returns-4 c = let a = c .before .before .before .before .before .before .before .before .before .before .before .before .before .before .before .before .before .before .before .before .args in let g = asked-good (plainOf (a .s .now)) (a .opcode) (a .fds .now) _ (c .before .before .before .before .before .before .before .before .before .before .before .before .before .before .before .before .before .ask .ensures) (not-false _ (c .before .before .before .before .before .before .before .before .before .before .before .before .before .before .before .if1 .left)) in
     sent (a .s .now) (a .tag) (a .caller) (a .opcode) (a .flags) (a .args) (a .pid) (a .fds .now) (g .0) (g .1) _ (c .before .before .before .before .before .before .before .before .before .before .before .before .before .before .slot-of .ensures) _ (c .before .before .before .before .before .before .before .before .before .before .before .before .load .ensures) (is (c .before .before .before .before .before .before .before .before .before .before .before .is-submittable .ensures) (not-false _ (c .before .before .before .before .before .before .before .before .before .before .if2 .left))) (is (c .before .before .before .before .before .before .before .before .queue-full .ensures) (c .before .before .before .before .before .before .before .if3 .left)) _ _ _ _ _ _ _ (g .2) (g .3) (c .before .before .before .before .before .waiting .ensures) (c .before .before .take .ensures) (ap said (c .went-on .ensures .0)) (c .went-on .ensures .1 .0) (c .went-on .ensures .1 .1)
 
 pub submit-spec : {M : Type 1} → statement M
