@@ -1,0 +1,57 @@
+-- `w_host::drop` meets its contract. Assumes nothing.
+use borrow.Author.Needs.{needs}
+use Rattle.events.specs.Outcome.{said}
+use mathlib.Core.Path.{ap}
+use Rattle.w_host.proofs.Cases.{drops-none, drops}
+use Rattle.w_host.proofs.drop.Statement.{statement}
+use Rattle.w_host.proofs.drop.Tie as tie
+use Rattle.step.proofs.turned_down.Reads as turned-down-reads
+use Rattle.words.proofs.held.Reads as held-reads
+use Rattle.words.proofs.lower.Reads as lower-reads
+use Rattle.words.proofs.lower_outside.Reads as lower-outside-reads
+use Rattle.words.proofs.sized.Reads as sized-reads
+
+sized-requires : tie.Need-sized-requires
+sized-requires c κs = search needs
+
+held-requires : tie.Need-held-requires
+held-requires c κs = search needs
+
+enum-told : tie.Need-enum-told
+enum-told c = search needs
+
+turned-down-requires : tie.Need-turned-down-requires
+turned-down-requires c κs = search needs
+
+enum-known-found : tie.Need-enum-known-found
+enum-known-found c = search needs
+
+lower-outside-requires : tie.Need-lower-outside-requires
+lower-outside-requires c κs = search needs
+
+lower-requires : tie.Need-lower-requires
+lower-requires c κs = search needs
+
+turned-down-requires-2 : tie.Need-turned-down-requires-2
+turned-down-requires-2 c κs = search needs
+
+returns : tie.Need-returns
+returns c = let a = c .before .before .before .before .before .before .before .before .before .before .before .before .args in drops (a .s .now) (c .before .before .before .before .before .before .before .before .before .before .sized .ensures) (a .description) _ (c .before .before .before .before .before .before .before .before .held .ensures) _ (c .before .before .before .before .before .before .found .given .1) _ _ _ _ (c .before .before .before .lower-outside .ensures) (c .before .lower .ensures) (ap said (c .turned-down2 .ensures .0)) (c .turned-down2 .ensures .1)
+
+returns-2 : tie.Need-returns-2
+returns-2 c = let a = c .before .before .before .before .before .before .before .args in drops-none (a .s .now) (c .before .before .before .before .before .sized .ensures) (a .description) _ (c .before .before .before .held .ensures) (c .before .enum-told .given .1) _ _ (ap said (c .turned-down .ensures .0)) (c .turned-down .ensures .1)
+
+pub drop-spec : {M : Type 1} → statement M
+drop-spec =
+    tie.close
+    (tie.spec
+    sized-requires
+    held-requires
+    enum-told
+    turned-down-requires
+    enum-known-found
+    lower-outside-requires
+    lower-requires
+    turned-down-requires-2
+    returns
+    returns-2)
