@@ -11,16 +11,15 @@ use Rattle.schemev2.specs.declared.Sqe.{Sqe}
 use Rattle.slot.specs.declared.Slot.{Slot}
 use Rattle.slot.specs.Slots.{noFds, waitingOf}
 use Rattle.events.specs.World.{World, tableOf, holdsOf, queueFull}
-use Rattle.events.specs.Outcome.{Answer, ok, no, Outcome, readable}
+use Rattle.events.specs.Outcome.{Answer, ok, no, readable}
 use Rattle.events.specs.Submit.{wrongKind, kindByte, stdMeta, tableFull, begun, genericRows, genericEntry, stdfsRows}
-use Rattle.events.specs.Event.{Event, step, on, generic, stdfs}
+use Rattle.events.specs.Event.{Event, on, generic, stdfs}
 use Rattle.layout.specs.Layout.{plainOf}
-use Rattle.layout.specs.Store.{Store, storedAll, give, send}
-use Rattle.packed.specs.Stores.{storesOf}
+use Rattle.layout.specs.Store.{storedAll, give, send}
 use Rattle.step.specs.Does.{Does}
 use Rattle.step.proofs.Rows.{Due, turned}
 use Rattle.step.proofs.Given.{does}
-use Rattle.w_generic.specs.Generic.{genericWith, storesWith, DoesWith}
+use Rattle.w_generic.specs.Generic.{DoesWith}
 
 module _ (op : ℕ) (ws : List ℕ) (c pid : ℕ) (fds : List ℕ) (base len : ℕ) (ms : List ℕ) where
   abbrev w : World

@@ -1,13 +1,12 @@
--- Words copied one after the other: what is left to copy from here gives the whole. And lists stored one behind the other.
--- Assumes nothing.
+-- Words copied one after the other: what is left to copy from here gives the whole; and a part copied out. Assumes nothing.
 use Prim.Native.Nat.{ℕ, suc, _+_, _-_, _<_, _≤_}
 use mathlib.Core.Path.{_≡_, refl, sym, ap, ap₂, _∙_}
-use mathlib.Core.List.{List, [], _∷_, _++_}
+use mathlib.Core.List.{List}
 use native.Mathlib.Omega.{arith}
 use native.Mathlib.Nat.{add-zero}
 use lib.ListN.{getD, set, take, drop, length, drop-of-length-le}
 use lib.Seq.{sets, drop-cons}
-use Rattle.events.specs.World.{tableOf, holdsOf, handlesOf}
+use Rattle.events.specs.World.{tableOf}
 use Rattle.layout.specs.Layout.{part, plainOf}
 use Rattle.layout.proofs.Worlds.{sets-all}
 use Rattle.layout.proofs.Regions.{part-length}
@@ -36,7 +35,7 @@ module _ (ws : List ℕ) (size : length ws ≡ 2060) where
   part-out at n k a r h e q p =
       p ∙ ap (λ (j : ℕ). sets a 0 (take j (drop at ws))) e ∙ sets-all a (part at n ws) (q ∙ sym (part-length at n ws (omega (arith, h, size))))
 
--- the parts of the plain state
+-- a part of the plain state
 module _ (ws : List ℕ) where
   pub chain-part : part 768 64 ws ≡ tableOf (plainOf ws) .next
   unfolding plainOf
