@@ -16,8 +16,8 @@ use Rattle.events.specs.Submit.{wrongKind, kindByte, stdMeta, tableFull, begun,
 use Rattle.events.specs.Event.{Event, on, generic, stdfs}
 use Rattle.layout.specs.Layout.{plainOf}
 use Rattle.layout.specs.Store.{storedAll, give, send}
-use Rattle.step.specs.Does.{Does}
-use Rattle.step.proofs.Rows.{Due, turned}
+use Rattle.step.specs.Does.{Due, Does}
+use Rattle.step.proofs.Rows.{turned}
 use Rattle.step.proofs.Given.{does}
 use Rattle.w_generic.specs.Generic.{DoesWith}
 

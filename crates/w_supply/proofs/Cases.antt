@@ -15,8 +15,8 @@ use Rattle.events.specs.Event.{Event, on, supply}
 use Rattle.layout.specs.Layout.{plainOf}
 use Rattle.layout.specs.Store.{stored, storedAll, vacate}
 use Rattle.packed.specs.Stores.{suppliedStores}
-use Rattle.step.specs.Does.{Does}
-use Rattle.step.proofs.Rows.{Due, turned, carried}
+use Rattle.step.specs.Does.{Due, Does}
+use Rattle.step.proofs.Rows.{turned, carried}
 use Rattle.step.proofs.Tests.{slot-of-in, vacate-of}
 
 module _ (ws : List ℕ) (t offset base count : ℕ) (a : Answer) (fx : List ℕ) where
