@@ -633,7 +633,7 @@ pub fn held_at(s: &[u64; 2060], k: Handle) -> u64
     0
 }
 
-fn set_handle(s: &mut [u64; 2060], k: Handle, v: u64)
+pub fn set_handle(s: &mut [u64; 2060], k: Handle, v: u64)
     ensures { λ r. ⌜ now (s .exit) ≡ stored (now (s .entry)) (handlesStore (set (handlesOf (plainOf (now (s .entry))) .at) (k .0) v)) ⌝ }
 {
     sized(s);

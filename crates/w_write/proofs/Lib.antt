@@ -1,0 +1,4 @@
+pub mod Carried
+pub mod Entries
+pub mod Small
+pub mod Looping

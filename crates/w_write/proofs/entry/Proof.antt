@@ -1,0 +1,69 @@
+-- `w_write::entry` meets its contract. Assumes nothing.
+use borrow.Author.Needs.{needs}
+use Rattle.w_write.proofs.Entries.{entered}
+use Rattle.w_write.proofs.entry.Statement.{statement}
+use Rattle.w_write.proofs.entry.Tie as tie
+use Rattle.ids.proofs.slot_of.Reads as slot-of-reads
+use Rattle.parse_cqe.proofs.parse_cqe.Reads as parse-cqe-reads
+use Rattle.plan.proofs.handle_in.Reads as handle-in-reads
+use Rattle.plan.proofs.handle_parsed.Reads as handle-parsed-reads
+use Rattle.w_write.proofs.carry_out.Reads as carry-out-reads
+use Rattle.w_write.proofs.is_byte.Reads as is-byte-reads
+use Rattle.words.proofs.held_at.Reads as held-at-reads
+use Rattle.words.proofs.load.Reads as load-reads
+use Rattle.words.proofs.sized.Reads as sized-reads
+
+sized-requires : tie.Need-sized-requires
+sized-requires c κs = search needs
+
+is-byte-requires : tie.Need-is-byte-requires
+is-byte-requires c κs = search needs
+
+parse-cqe-requires : tie.Need-parse-cqe-requires
+parse-cqe-requires c κs = search needs
+
+cast-t15 : tie.Need-cast-t15
+cast-t15 c = search needs
+
+slot-of-requires : tie.Need-slot-of-requires
+slot-of-requires c κs = search needs
+
+load-requires : tie.Need-load-requires
+load-requires c κs = search needs
+
+handle-in-requires : tie.Need-handle-in-requires
+handle-in-requires c κs = search needs
+
+held-at-requires : tie.Need-held-at-requires
+held-at-requires c κs = search needs
+
+handle-parsed-requires : tie.Need-handle-parsed-requires
+handle-parsed-requires c κs = search needs
+
+carry-out-requires : tie.Need-carry-out-requires
+carry-out-requires c κs = c .before .before .before .before .before .before .before .before .before .before .before .before .before .before .before .before .pre
+
+same-length : tie.Need-same-length
+same-length c = search needs
+
+returns : tie.Need-returns
+returns c =
+    let a = c .before .before .before .before .before .before .before .before .before .before .before .before .before .before .before .before .before .before .before .args in
+    (entered (a .s .now) _ (a .fx .now) _ (a .at) (a .e) (c .before .before .before .before .before .before .before .before .before .before .before .before .before .before .before .before .sized .ensures) (c .before .before .before .before .before .before .before .before .before .before .before .before .before .before .is-byte .ensures) (c .before .before .before .before .before .before .before .before .before .before .before .before .before .parse-cqe .result) (c .before .before .before .before .before .before .before .before .before .before .before .before .before .parse-cqe .ensures) (c .before .before .before .before .before .before .before .before .before .before .before .slot-of .result) (c .before .before .before .before .before .before .before .before .before .before .before .slot-of .ensures) (c .before .before .before .before .before .before .before .before .before .load .result) (c .before .before .before .before .before .before .before .before .before .load .ensures) (c .before .before .before .before .before .before .before .before .handle-in .result) (c .before .before .before .before .before .before .before .before .handle-in .ensures) (c .before .before .before .before .before .before .held-at .result) (c .before .before .before .before .before .before .held-at .ensures) (c .before .before .before .before .before .handle-parsed .result) (c .before .before .before .before .before .handle-parsed .ensures) _ (c .before .before .carry-out .ensures .0) (c .before .before .carry-out .ensures .1 .1 .0) (c .before .before .carry-out .ensures .1 .1 .1), c .before .before .carry-out .ensures .1 .0)
+
+pub entry-spec : {M : Type 1} → statement M
+entry-spec =
+    tie.close
+    (tie.spec
+    sized-requires
+    is-byte-requires
+    parse-cqe-requires
+    cast-t15
+    slot-of-requires
+    load-requires
+    handle-in-requires
+    held-at-requires
+    handle-parsed-requires
+    carry-out-requires
+    same-length
+    returns)
