@@ -1,3 +1,4 @@
 pub mod Changes
 pub mod Fit
 pub mod Agree
+pub mod Refused

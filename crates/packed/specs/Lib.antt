@@ -1,3 +1,4 @@
 pub mod Stores
 pub mod Step
 pub mod Agree
+pub mod Refusals
