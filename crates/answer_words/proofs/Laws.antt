@@ -1,7 +1,8 @@
 -- What is handed to a host settles an outcome. Assumes nothing.
 use Prim.Native.Nat.{ℕ, zero, suc, _<_, _≤_}
 use mathlib.Core.Path.{_≡_, refl, sym, ap, _∙_}
-use mathlib.Core.Bool.{Bool, false, cond}
+use mathlib.Core.Bool.{Bool, true, false, cond}
+use lib.Dec.{eqb}
 use mathlib.Core.List.{List, [], _∷_}
 use native.Mathlib.Omega.{arith}
 use borrow.Author.Tests.{eq-eqb, ne-eqb}
@@ -13,10 +14,10 @@ use Rattle.fd_list.specs.declared.List.{List as Fds}
 use Rattle.fd_list.specs.Lists.{listOf, numbers}
 use Rattle.slot.specs.declared.Reply.{Reply}
 use Rattle.slot.specs.Slots.{noReply}
-use Rattle.state.specs.declared.State.{State}
-use Rattle.events.specs.World.{World, world}
-use Rattle.events.specs.Outcome.{Response, many, Answer, ok, no, wait, blocked, reply, saidWith, Outcome, outcome}
+use Rattle.events.specs.Event.{Event}
+use Rattle.events.specs.Outcome.{Response, many, Answer, ok, no, wait, blocked, reply, saidWith}
 use Rattle.events.specs.Wake.{responseBy, responseFrom}
+use Rattle.step.specs.Does.{Does}
 use Rattle.answer_words.specs.declared.AnswerWords.{AnswerWords}
 use Rattle.answer_words.specs.declared.StepWords.{StepWords}
 use Rattle.answer_words.specs.declared.WakeWords.{WakeWords}
@@ -26,15 +27,28 @@ use Rattle.answer_words.specs.Words.{wordsOf, responseWords, replyOf, ma
 pub cased : (r : Response) (w : AnswerWords) (x a : Case) → w ≡ wordsOf (saidWith r x) → a ≡ x → w ≡ wordsOf (saidWith r a)
 cased r w x a p q = p ∙ sym (ap (λ (y : Case). wordsOf (saidWith r y)) q)
 
-pub settled :
-    (r : StepWords) (a : Answer) (fx : List ℕ) (s : State) (ws : List ℕ) (o : Outcome)
-    → (r .answer ≡ wordsOf a) × ((r .effect ≡ effectOf fx) × (r .state ≡ s)) → outcome a fx (world s ws) ≡ o → Settled r ws o
-settled r a fx s ws o p e =
-    record {
-      answer = p .0 ∙ ap (λ (x : Outcome). wordsOf (x .answer)) e;
-      effect = p .1 .0 ∙ ap (λ (x : Outcome). effectOf (x .effects)) e;
-      state = ap (λ (x : State). world x ws) (p .1 .1) ∙ ap (λ (x : Outcome). x .world) e;
-    }
+-- the words of an answer and an effect settle the event that they are of
+module _ (ws xs : List ℕ) (e : Event) (a : Answer) (fx : List ℕ) (d : Does ws xs e a fx) where
+  pub settled : (r : StepWords) → r .answer ≡ wordsOf a → r .effect ≡ effectOf fx → effectWords (r .effect) ≡ fx → Settled r ws xs e
+  settled r p q all =
+      record {
+        answer = p ∙ ap wordsOf (d .answer);
+        effect = q ∙ ap effectOf (d .effects);
+        effects = all ∙ d .effects;
+        words = d .words;
+      }
+
+  pub settled-wake :
+      (r : WakeWords) → r .answer ≡ wordsOf a → r .reply ≡ replyOf a → r .fds ≡ fdsOf a → r .effect ≡ effectOf fx → effectWords (r .effect) ≡ fx → SettledWake r ws xs e
+  settled-wake r p m l q all =
+      record {
+        answer = p ∙ ap wordsOf (d .answer);
+        reply = m ∙ ap replyOf (d .answer);
+        fds = l ∙ ap fdsOf (d .answer);
+        effect = q ∙ ap effectOf (d .effects);
+        effects = all ∙ d .effects;
+        words = d .words;
+      }
 
 -- a reply is handed over where the kind is 4
 pub is-reply : (r : Response) (a : Case) → wordsOf (saidWith r a) .kind ≡ 4 → saidWith r a ≡ reply r
@@ -75,19 +89,6 @@ module _ (r : Response) (a : Case) (w : AnswerWords) (p : w ≡ wordsOf (saidWit
   pub without-reply : (w .kind ≡ 4 → ⊥) → (noReply ≡ replyOf (saidWith r a)) × (listOf [] ≡ fdsOf (saidWith r a))
   without-reply z = no-reply (saidWith r a) (λ e. z (ap (λ (x : AnswerWords). x .kind) p ∙ e))
 
-pub settled-wake :
-    (r : WakeWords) (a : Answer) (fx : List ℕ) (s : State) (ws : List ℕ) (o : Outcome)
-    → (r .answer ≡ wordsOf a) × ((r .reply ≡ replyOf a) × ((r .fds ≡ fdsOf a) × ((r .effect ≡ effectOf fx) × (r .state ≡ s))))
-    → outcome a fx (world s ws) ≡ o → SettledWake r ws o
-settled-wake r a fx s ws o p e =
-    record {
-      answer = p .0 ∙ ap (λ (x : Outcome). wordsOf (x .answer)) e;
-      reply = p .1 .0 ∙ ap (λ (x : Outcome). replyOf (x .answer)) e;
-      fds = p .1 .1 .0 ∙ ap (λ (x : Outcome). fdsOf (x .answer)) e;
-      effect = p .1 .1 .1 .0 ∙ ap (λ (x : Outcome). effectOf (x .effects)) e;
-      state = ap (λ (x : State). world x ws) (p .1 .1 .1 .1) ∙ ap (λ (x : Outcome). x .world) e;
-    }
-
 -- a stored reply by its kind
 module _ (r : Reply) (l : Fds) where
   by-kind : (k : ℕ) (x : Reply) → r .kind ≡ k → x ≡ responseWords (responseBy k r l) → x ≡ responseWords (responseFrom r l)
@@ -127,12 +128,15 @@ module _ (r : Reply) (l : Fds) where
   many-list b = ap (λ (v : Response). listOf (manyIn v)) (others (r .kind) (λ e. omega (arith, b, e)) (λ e. omega (arith, b, e)) (λ e. omega (arith, b, e)))
 
 -- effects
+pub same-effect : (e : Effect) → effectWords (effectOf (effectWords e)) ≡ effectWords e
+same-effect e = go (eqb (e .kind) 0) refl
+  where
+    go : (b : Bool) → eqb (e .kind) 0 ≡ b → effectWords (effectOf (cond b [] (e .kind ∷ e .a ∷ e .b ∷ []))) ≡ cond b [] (e .kind ∷ e .a ∷ e .b ∷ [])
+    go true p = refl
+    go false p = ap (λ (x : Bool). cond x [] (e .kind ∷ e .a ∷ e .b ∷ [])) p
+
 pub no-effect : (e : Effect) → e .kind ≡ 0 → record { kind = 0; a = 0; b = 0 } ≡ effectOf (effectWords e)
 no-effect e z = sym (ap (λ (b : Bool). effectOf (cond b [] (e .kind ∷ e .a ∷ e .b ∷ []))) (eq-eqb (e .kind) 0 z))
 
 pub an-effect : (e : Effect) → (e .kind ≡ 0 → ⊥) → e ≡ effectOf (effectWords e)
 an-effect e z = sym (ap (λ (b : Bool). effectOf (cond b [] (e .kind ∷ e .a ∷ e .b ∷ []))) (ne-eqb (e .kind) 0 z))
-
--- an outcome with its effects told in words
-pub told : {x : Answer} {fx gx : List ℕ} {u : World} {o : Outcome} → fx ≡ gx → outcome x gx u ≡ o → outcome x fx u ≡ o
-told {x = x} {u = u} p e = ap (λ (f : List ℕ). outcome x f u) p ∙ e

@@ -4,12 +4,15 @@ use mathlib.Core.Path.{_≡_}
 use mathlib.Core.Bool.{false}
 use mathlib.Core.List.{List, [], _∷_}
 use Rattle.effect.specs.declared.Effect.{Effect}
+use Rattle.effect.specs.Effect.{effectWords}
 use Rattle.fd_list.specs.declared.List.{List as Fds}
 use Rattle.fd_list.specs.Lists.{listOf}
 use Rattle.slot.specs.declared.Reply.{Reply}
 use Rattle.slot.specs.Slots.{noReply}
-use Rattle.events.specs.World.{world}
-use Rattle.events.specs.Outcome.{Response, success, error, descriptor, many, Answer, ok, no, wait, blocked, reply, Outcome}
+use Rattle.events.specs.Outcome.{Response, success, error, descriptor, many, Answer, ok, no, wait, blocked, reply}
+use Rattle.events.specs.Event.{Event, step}
+use Rattle.layout.specs.Layout.{plainOf}
+use Rattle.packed.specs.Step.{wordsAfter}
 use Rattle.answer_words.specs.declared.AnswerWords.{AnswerWords}
 use Rattle.answer_words.specs.declared.StepWords.{StepWords}
 use Rattle.answer_words.specs.declared.WakeWords.{WakeWords}
@@ -57,16 +60,18 @@ effectOf (k ∷ []) = record { kind = 0; a = 0; b = 0 }
 effectOf (k ∷ x ∷ []) = record { kind = 0; a = 0; b = 0 }
 effectOf (k ∷ x ∷ y ∷ fx) = record { kind = k; a = x; b = y }
 
--- an event of at most one effect: answer, effect and state are settled, with the words of its queue
-pub record Settled (r : StepWords) (ws : List ℕ) (o : Outcome) : Type 0 where
-  pub answer : r .answer ≡ wordsOf (o .answer)
-  pub effect : r .effect ≡ effectOf (o .effects)
-  pub state : world (r .state) ws ≡ o .world
+-- an event with at most one effect: answer, effect and every word of the state are settled
+pub record Settled (r : StepWords) (ws xs : List ℕ) (e : Event) : Type 0 where
+  pub answer : r .answer ≡ wordsOf (step (plainOf ws) e .answer)
+  pub effect : r .effect ≡ effectOf (step (plainOf ws) e .effects)
+  pub effects : effectWords (r .effect) ≡ step (plainOf ws) e .effects
+  pub words : xs ≡ wordsAfter ws e
 
 -- a wake: reply and list as well
-pub record SettledWake (r : WakeWords) (ws : List ℕ) (o : Outcome) : Type 0 where
-  pub answer : r .answer ≡ wordsOf (o .answer)
-  pub reply : r .reply ≡ replyOf (o .answer)
-  pub fds : r .fds ≡ fdsOf (o .answer)
-  pub effect : r .effect ≡ effectOf (o .effects)
-  pub state : world (r .state) ws ≡ o .world
+pub record SettledWake (r : WakeWords) (ws xs : List ℕ) (e : Event) : Type 0 where
+  pub answer : r .answer ≡ wordsOf (step (plainOf ws) e .answer)
+  pub reply : r .reply ≡ replyOf (step (plainOf ws) e .answer)
+  pub fds : r .fds ≡ fdsOf (step (plainOf ws) e .answer)
+  pub effect : r .effect ≡ effectOf (step (plainOf ws) e .effects)
+  pub effects : effectWords (r .effect) ≡ step (plainOf ws) e .effects
+  pub words : xs ≡ wordsAfter ws e

@@ -2,15 +2,18 @@
 use answer::Answer;
 use effect::Effect;
 use fd_list::List;
-use part::Part;
 use slot::Reply;
-use state::State;
+use step::Step;
 ghost use mathlib.Core.Path.{_≡_};
 ghost use mathlib.Core.Bool.{false};
+ghost use mathlib.Core.List.{List as Words};
+ghost use Prim.Native.Nat.{ℕ};
 ghost use Rattle.effect.specs.Effect.{effectWords};
 ghost use Rattle.events.specs.Outcome.{Response, reply as replied, saidWith, said};
+ghost use Rattle.events.specs.Event.{Event};
 ghost use Rattle.events.specs.Wake.{responseFrom};
-ghost use Rattle.answer_words.specs.Words.{wordsOf, replyOf, fdsOf, effectOf};
+ghost use Rattle.step.specs.Does.{Does};
+ghost use Rattle.answer_words.specs.Words.{wordsOf, replyOf, fdsOf, effectOf, Settled, SettledWake};
 
 // `kind` 0 done, with a value; 1 refused, with its number; 2 would wait; 3 still blocked; 4 a reply, which stands beside it.
 #[repr(C)]
@@ -19,19 +22,11 @@ pub struct AnswerWords {
     pub value: u64,
 }
 
-// What an event leaves of the part that it looked at, before it is told.
-pub struct PartStep {
-    pub answer: Answer,
-    pub effect: Effect,
-    pub part: Part,
-}
-
-// What an event leaves: answer, at most one effect, state.
+// What an event answers, with at most one effect.
 #[repr(C)]
 pub struct StepWords {
     pub answer: AnswerWords,
     pub effect: Effect,
-    pub state: State,
 }
 
 #[repr(C)]
@@ -40,7 +35,6 @@ pub struct WakeWords {
     pub reply: Reply,
     pub fds: List,
     pub effect: Effect,
-    pub state: State,
 }
 
 pub fn done(value: u64) -> AnswerWords
@@ -126,7 +120,7 @@ fn list_words(r: Reply, fds: List) -> List
 }
 
 fn effect_words(e: Effect) -> Effect
-    ensures { λ o. ⌜ o ≡ effectOf (effectWords e) ⌝ }
+    ensures { λ o. ⌜ (o ≡ effectOf (effectWords e)) × (effectWords o ≡ effectWords e) ⌝ }
 {
     if e.kind == 0 {
         return Effect {
@@ -138,21 +132,22 @@ fn effect_words(e: Effect) -> Effect
     e
 }
 
-pub fn step_words(a: Answer, e: Effect, s: State) -> StepWords
-    ensures { λ o. ⌜ (o .answer ≡ wordsOf (said a)) × ((o .effect ≡ effectOf (effectWords e)) × (o .state ≡ s)) ⌝ }
+pub fn step_words(done: Step) -> StepWords
+    ensures { λ o. ⌜ ((ws xs : Words ℕ) (e : Event) → Does ws xs e (said (done .answer)) (effectWords (done .effect)) → Settled o ws xs e) ⌝ }
 {
+    let a = done.answer;
+    let e = done.effect;
     let answer = words(a);
     let fx = effect_words(e);
     StepWords {
         answer: answer,
         effect: fx,
-        state: s,
     }
 }
 
 // The reply and its list count where one was handed over.
-pub fn wake_words(a: Answer, r: Reply, fds: List, e: Effect, s: State) -> WakeWords
-    ensures { λ o. ⌜ (o .answer ≡ wordsOf (saidWith (responseFrom r fds) a)) × ((o .reply ≡ replyOf (saidWith (responseFrom r fds) a)) × ((o .fds ≡ fdsOf (saidWith (responseFrom r fds) a)) × ((o .effect ≡ effectOf (effectWords e)) × (o .state ≡ s)))) ⌝ }
+pub fn wake_words(a: Answer, r: Reply, fds: List, e: Effect) -> WakeWords
+    ensures { λ o. ⌜ ((ws xs : Words ℕ) (v : Event) → Does ws xs v (saidWith (responseFrom r fds) a) (effectWords e) → SettledWake o ws xs v) ⌝ }
 {
     let answer = words(a);
     let fx = effect_words(e);
@@ -164,7 +159,6 @@ pub fn wake_words(a: Answer, r: Reply, fds: List, e: Effect, s: State) -> WakeWo
             reply: said,
             fds: list,
             effect: fx,
-            state: s,
         };
     }
     let blank = lone(0, 0);
@@ -174,6 +168,5 @@ pub fn wake_words(a: Answer, r: Reply, fds: List, e: Effect, s: State) -> WakeWo
         reply: blank,
         fds: none,
         effect: fx,
-        state: s,
     }
 }

@@ -4,6 +4,7 @@ use answer::Answer;
 use effect::Effect;
 use fd_list::List;
 use slot::Reply;
+use step::Step;
 ghost use mathlib.Core.Path.{_≡_};
 ghost use mathlib.Core.List.{[], _∷_, _++_};
 ghost use Prim.Native.Nat.{_≤_, _+_, _*_};
@@ -106,11 +107,13 @@ pub fn put_answer(out: &mut [u8], a: Answer) -> usize
 }
 
 // An event with at most one effect.
-pub fn put_step(out: &mut [u8], a: Answer, e: Effect) -> usize
-    ensures { λ r. ⌜ now (out .exit) ≡ sets (now (out .entry)) 0 (told (said a) (effectWords e) []) ⌝ }
-    ensures { λ r. ⌜ r ≡ length (told (said a) (effectWords e) []) ⌝ }
+pub fn put_step(out: &mut [u8], done: Step) -> usize
+    ensures { λ r. ⌜ now (out .exit) ≡ sets (now (out .entry)) 0 (told (said (done .answer)) (effectWords (done .effect)) []) ⌝ }
+    ensures { λ r. ⌜ r ≡ length (told (said (done .answer)) (effectWords (done .effect)) []) ⌝ }
     ensures { λ r. ⌜ r ≤ 192 ⌝ }
 {
+    let a = done.answer;
+    let e = done.effect;
     let k = put_answer(out, a);
     put_rest(out, k, e)
 }

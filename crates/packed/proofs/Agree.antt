@@ -134,7 +134,7 @@ fresh-fits scheme words h = record { slots = refl; each = vacant-all 64; next = 
 fresh-long : (scheme : ℕ) (words : List ℕ) → length words ≡ 1024 → length (freshWords scheme words) ≡ 2060
 fresh-long scheme words h = packed-long (freshWorld scheme words) (fits-long (freshWorld scheme words) (fresh-fits scheme words h))
 
-fresh-plain : (scheme : ℕ) (words : List ℕ) → length words ≡ 1024 → plainOf (freshWords scheme words) ≡ freshWorld scheme words
+pub fresh-plain : (scheme : ℕ) (words : List ℕ) → length words ≡ 1024 → plainOf (freshWords scheme words) ≡ freshWorld scheme words
 fresh-plain scheme words h = plain-packed (freshWorld scheme words) (fresh-fits scheme words h)
 
 pub layouts-agree : LayoutsAgree

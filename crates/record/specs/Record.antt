@@ -118,11 +118,10 @@ wordsAt bs k n = each (λ i. word bs (k + 8 * i)) n
 abbrev pub supplyOf : Nine → Event
 supplyOf a = on (supply (a .0) (a .1) (a .2) (a .3))
 
-abbrev pub eventNamed : ℕ → Record → List ℕ → List ℕ → List ℕ → ℕ → Event
-eventNamed kind r xs ys bs lent =
+abbrev pub eventTable : Record → List ℕ → List ℕ → List ℕ → ℕ → List Event
+eventTable r xs ys bs lent =
     let a = r .words in
     let c = r .number in
-    getD
     (supplyOf a
     ∷ hostOpen (a .0)
     ∷ hostCopy (a .0)
@@ -143,8 +142,9 @@ eventNamed kind r xs ys bs lent =
     ∷ on (move xs ys)
     ∷ on (obtain xs)
     ∷ [])
-    kind
-    (supplyOf a)
+
+abbrev pub eventNamed : ℕ → Record → List ℕ → List ℕ → List ℕ → ℕ → Event
+eventNamed kind r xs ys bs lent = getD (eventTable r xs ys bs lent) kind (supplyOf (r .words))
 
 abbrev pub eventOf : Record → List ℕ → List ℕ → List ℕ → ℕ → Event
 eventOf r xs ys bs lent = eventNamed (r .kind) r xs ys bs lent

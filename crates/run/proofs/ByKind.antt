@@ -1,193 +1,174 @@
 -- One event of a run, by its kind. Assumes nothing.
 use Prim.Native.Nat.{ℕ, zero, suc, min, _+_, _*_, _<_, _≤_}
-use mathlib.Core.Path.{_≡_, refl, sym, ap, ap₂, _∙_, subst}
-use mathlib.Core.Bool.{Bool, true, false, cond, _||_, _&&_}
-use mathlib.Core.List.{List, []}
+use mathlib.Core.Path.{_≡_, refl, sym, ap, _∙_, subst}
+use mathlib.Core.Bool.{Bool, true, false, cond, true≢false}
+use mathlib.Core.List.{List, [], _∷_}
 use native.Mathlib.Omega.{arith}
-use lib.ListN.{length, take, drop}
+use lib.ListN.{length, take, drop, getD}
 use lib.Seq.{sets}
-use lib.Dec.{eqb, ltb, leb}
-use borrow.Author.Tests.{eq-eqb, eqb-true, ltb-true, ltb-false, leb-true}
-use Rattle.holds.specs.declared.Holds.{Holds}
-use Rattle.state.specs.declared.State.{State}
-use Rattle.part.specs.declared.Part.{Part}
-use Rattle.part.specs.Part.{Stands, leaves}
-use Rattle.part_step.specs.PartStep.{placeOf, partEvent}
-use Rattle.events.specs.World.{World, world}
-use Rattle.events.specs.Outcome.{Outcome}
-use Rattle.events.specs.Event.{Event, step}
+use lib.Dec.{eqb, ltb}
+use borrow.Author.Tests.{eq-eqb, le-ltb}
+use Rattle.events.specs.World.{World}
+use Rattle.events.specs.Outcome.{Answer}
+use Rattle.events.specs.Event.{reserve, submit, call, generic, stdfs, fmap, close, detach, wake, move, obtain, supply, Event, step}
+use Rattle.events.specs.Effects.{isWrite}
 use Rattle.events.specs.History.{viewOf}
+use Rattle.layout.specs.Layout.{plainOf}
+use Rattle.outcome_bytes.specs.Output.{told, outcomeBytes}
+use Rattle.packed.specs.Agree.{EventFits}
+use Rattle.packed.proofs.Agree.{steps-agree}
 use Rattle.record.specs.declared.Record.{Record}
-use Rattle.record.specs.Record.{recordOf, firstAt, secondAt, tailAt, tailOf, sizeOf, isEvent, nextOf, wordsAt, eventNamed, eventOf, eventAt}
+use Rattle.record.specs.Record.{recordOf, firstAt, secondAt, tailAt, tailOf, nextOf, wordsAt, supplyOf, eventTable, eventNamed, eventOf, eventAt}
 use Rattle.record.proofs.Laws.{all-there}
 use Rattle.run_room.specs.Room.{roomOf}
-use Rattle.events.specs.Effects.{isWrite}
-use Rattle.run.specs.Run.{isOnState, Told, writeIn, listIn, storedBy}
+use Rattle.step.specs.Does.{Does}
+use Rattle.run.proofs.Silent.{silent}
+use Rattle.run.specs.Run.{isOther, Told, wakeIn, readIn, writeIn, Turned, storedBy}
+
+-- what holds of each of a list and of the event beyond it, holds of the event that is looked up
+abbrev Each : (ℕ → Event → Type 0) → List Event → Type 0
+Each P [] = Unit {0}
+Each P (e ∷ es) = P 0 e × Each (λ n. P (suc n)) es
+
+looked-up : (P : ℕ → Event → Type 0) (es : List Event) (d : Event) → Each P es → ((n : ℕ) → P n d) → (n : ℕ) → P n (getD es n d)
+looked-up P [] d p f n = f n
+looked-up P (e ∷ es) d p f zero = p .0
+looked-up P (e ∷ es) d p f (suc n) = looked-up (λ k. P (suc k)) es d (p .1) (λ k. f (suc k)) n
 
 module _ (r : Record) (xs ys bs : List ℕ) (lent : ℕ) where
-  pub as-kind : (o : Outcome) (w : World) (n k : ℕ) → n ≡ k → o ≡ step w (eventNamed k r xs ys bs lent) → o ≡ step w (eventNamed n r xs ys bs lent)
-  as-kind o w n k e p = subst (λ (j : ℕ). o ≡ step w (eventNamed j r xs ys bs lent)) (sym e) p
+  abbrev named : ℕ → Event
+  named k = eventNamed k r xs ys bs lent
 
-  -- an event that looks at one slot, and is no wake and no read
-  pub parts : (n : ℕ) → 6 ≤ n → (n ≡ 14 → ⊥) → (n ≡ 15 → ⊥) → (n ≡ 16 → ⊥) → partEvent n r xs ys ≡ eventNamed n r xs ys bs lent
-  parts zero low a b c = absurd (omega (arith, low))
-  parts (suc zero) low a b c = absurd (omega (arith, low))
-  parts (suc (suc zero)) low a b c = absurd (omega (arith, low))
-  parts (suc (suc (suc zero))) low a b c = absurd (omega (arith, low))
-  parts (suc (suc (suc (suc zero)))) low a b c = absurd (omega (arith, low))
-  parts (suc (suc (suc (suc (suc zero))))) low a b c = absurd (omega (arith, low))
-  parts (suc (suc (suc (suc (suc (suc zero)))))) low a b c = refl
-  parts (suc (suc (suc (suc (suc (suc (suc zero))))))) low a b c = refl
-  parts (suc (suc (suc (suc (suc (suc (suc (suc zero)))))))) low a b c = refl
-  parts (suc (suc (suc (suc (suc (suc (suc (suc (suc zero))))))))) low a b c = refl
-  parts (suc (suc (suc (suc (suc (suc (suc (suc (suc (suc zero)))))))))) low a b c = refl
-  parts (suc (suc (suc (suc (suc (suc (suc (suc (suc (suc (suc zero))))))))))) low a b c = refl
-  parts (suc (suc (suc (suc (suc (suc (suc (suc (suc (suc (suc (suc zero)))))))))))) low a b c = refl
-  parts (suc (suc (suc (suc (suc (suc (suc (suc (suc (suc (suc (suc (suc zero))))))))))))) low a b c = refl
-  parts (suc (suc (suc (suc (suc (suc (suc (suc (suc (suc (suc (suc (suc (suc zero)))))))))))))) low a b c = absurd (a refl)
-  parts (suc (suc (suc (suc (suc (suc (suc (suc (suc (suc (suc (suc (suc (suc (suc zero))))))))))))))) low a b c = absurd (b refl)
-  parts (suc (suc (suc (suc (suc (suc (suc (suc (suc (suc (suc (suc (suc (suc (suc (suc zero)))))))))))))))) low a b c = absurd (c refl)
-  parts (suc (suc (suc (suc (suc (suc (suc (suc (suc (suc (suc (suc (suc (suc (suc (suc (suc zero))))))))))))))))) low a b c = refl
-  parts (suc (suc (suc (suc (suc (suc (suc (suc (suc (suc (suc (suc (suc (suc (suc (suc (suc (suc zero)))))))))))))))))) low a b c = refl
-  parts (suc (suc (suc (suc (suc (suc (suc (suc (suc (suc (suc (suc (suc (suc (suc (suc (suc (suc (suc n))))))))))))))))))) low a b c = refl
+  -- the event of another kind than wake, read and write fits where its caller has 32 bits, stores no effects and no bytes
+  abbrev Plain : World → ℕ → Event → Type 0
+  Plain w k e = isOther k → (r .number < 4294967296 → EventFits e) × (isWrite (viewOf e) ≡ false) × ([] ≡ step w e .bytes)
 
-  -- no kind but 16 is a write
-  not-write : (n : ℕ) → (n ≡ 16 → ⊥) → isWrite (viewOf (eventNamed n r xs ys bs lent)) ≡ false
-  not-write zero a = refl
-  not-write (suc zero) a = refl
-  not-write (suc (suc zero)) a = refl
-  not-write (suc (suc (suc zero))) a = refl
-  not-write (suc (suc (suc (suc zero)))) a = refl
-  not-write (suc (suc (suc (suc (suc zero))))) a = refl
-  not-write (suc (suc (suc (suc (suc (suc zero)))))) a = refl
-  not-write (suc (suc (suc (suc (suc (suc (suc zero))))))) a = refl
-  not-write (suc (suc (suc (suc (suc (suc (suc (suc zero)))))))) a = refl
-  not-write (suc (suc (suc (suc (suc (suc (suc (suc (suc zero))))))))) a = refl
-  not-write (suc (suc (suc (suc (suc (suc (suc (suc (suc (suc zero)))))))))) a = refl
-  not-write (suc (suc (suc (suc (suc (suc (suc (suc (suc (suc (suc zero))))))))))) a = refl
-  not-write (suc (suc (suc (suc (suc (suc (suc (suc (suc (suc (suc (suc zero)))))))))))) a = refl
-  not-write (suc (suc (suc (suc (suc (suc (suc (suc (suc (suc (suc (suc (suc zero))))))))))))) a = refl
-  not-write (suc (suc (suc (suc (suc (suc (suc (suc (suc (suc (suc (suc (suc (suc zero)))))))))))))) a = refl
-  not-write (suc (suc (suc (suc (suc (suc (suc (suc (suc (suc (suc (suc (suc (suc (suc zero))))))))))))))) a = refl
-  not-write (suc (suc (suc (suc (suc (suc (suc (suc (suc (suc (suc (suc (suc (suc (suc (suc zero)))))))))))))))) a = absurd (a refl)
-  not-write (suc (suc (suc (suc (suc (suc (suc (suc (suc (suc (suc (suc (suc (suc (suc (suc (suc zero))))))))))))))))) a = refl
-  not-write (suc (suc (suc (suc (suc (suc (suc (suc (suc (suc (suc (suc (suc (suc (suc (suc (suc (suc zero)))))))))))))))))) a = refl
-  not-write (suc (suc (suc (suc (suc (suc (suc (suc (suc (suc (suc (suc (suc (suc (suc (suc (suc (suc (suc n))))))))))))))))))) a = refl
+  pub others : (w : World) (k : ℕ) → Plain w k (named k)
+  others w k =
+      let a = r .words in
+      let c = r .number in
+      looked-up (Plain w) (eventTable r xs ys bs lent) (supplyOf a)
+      (λ o. (λ h. tt, refl, silent w (supply (a .0) (a .1) (a .2) (a .3)) refl)
+      , (λ o. (λ h. tt, refl, refl)
+      , (λ o. (λ h. tt, refl, refl)
+      , (λ o. (λ h. tt, refl, refl)
+      , (λ o. (λ h. tt, refl, refl)
+      , (λ o. (λ h. tt, refl, refl)
+      , (λ o. (λ h. h, refl, silent w (reserve c) refl)
+      , (λ o. (λ h. h, refl, silent w (submit (a .0) c (a .1) (r .flags) (record { 0 = a .2; 1 = a .3; 2 = a .4; 3 = a .5; 4 = a .6; 5 = a .7 }) (a .8) xs) refl)
+      , (λ o. (λ h. h, refl, silent w (call c (a .0) (record { 0 = a .1; 1 = a .2; 2 = a .3; 3 = a .4; 4 = a .5; 5 = a .6 }) (r .uid) (r .gid) (a .7) xs) refl)
+      , (λ o. (λ h. h, refl, silent w (generic c (a .0) xs (a .1) (a .2) ys) refl)
+      , (λ o. (λ h. h, refl, silent w (stdfs c (a .0) xs (a .1) (a .2) ys) refl)
+      , (λ o. (λ h. h, refl, silent w (fmap c (a .0) (a .1) (a .2) (r .uid) (r .gid) (a .3)) refl)
+      , (λ o. (λ h. tt, refl, silent w (close (a .0)) refl)
+      , (λ o. (λ h. tt, refl, silent w (detach (a .0) (a .1)) refl)
+      , (λ o. absurd (o .0 refl)
+      , (λ o. absurd (o .1 refl)
+      , (λ o. absurd (o .2 refl)
+      , (λ o. (λ h. tt, refl, silent w (move xs ys) refl)
+      , (λ o. (λ h. tt, refl, silent w (obtain xs) refl)
+      , (tt))))))))))))))))))))
+      (λ k o. (λ h. tt, refl, silent w (supply (a .0) (a .1) (a .2) (a .3)) refl)) k
 
--- the last of the host's kinds
-pub five : (n : ℕ) → 0 < n → n < 6 → (n ≡ 1 → ⊥) → (n ≡ 2 → ⊥) → (n ≡ 3 → ⊥) → (n ≡ 4 → ⊥) → n ≡ 5
-five zero low high a b c d = absurd (omega (arith, low))
-five (suc zero) low high a b c d = absurd (a refl)
-five (suc (suc zero)) low high a b c d = absurd (b refl)
-five (suc (suc (suc zero))) low high a b c d = absurd (c refl)
-five (suc (suc (suc (suc zero)))) low high a b c d = absurd (d refl)
-five (suc (suc (suc (suc (suc zero))))) low high a b c d = refl
-five (suc (suc (suc (suc (suc (suc n)))))) low high a b c d = absurd (omega (arith, high))
+  -- a kind that is none of the others: a supply
+  abbrev Last : ℕ → Event → Type 0
+  Last k e = (eqb k 0 ≡ false → ltb k 19 ≡ false) → e ≡ supplyOf (r .words)
 
--- which kinds look at more than one slot
-module _ (n : ℕ) where
-  whole-by : (x y : Bool) → ltb n 6 ≡ x → eqb n 16 ≡ y → x || y ≡ true → (n ≡ 16 → ⊥) → n < 6
-  whole-by true y ex ey e a = ltb-true n 6 ex
-  whole-by false true ex ey e a = absurd (a (eqb-true n 16 ey))
-  whole-by false false ex ey e a = absurd (omega (arith, ap {B = ℕ} (λ (b : Bool). cond b 1 0) e))
+  no : {e : Event} → (false ≡ false → true ≡ false) → e ≡ supplyOf (r .words)
+  no z = absurd (true≢false (z refl))
 
-  pub whole-low : isOnState n ≡ true → (n ≡ 16 → ⊥) → n < 6
-  whole-low e a = whole-by (ltb n 6) (eqb n 16) refl refl e a
+  last : (k : ℕ) → Last k (named k)
+  last k = looked-up Last (eventTable r xs ys bs lent) (supplyOf (r .words)) (λ z. refl, (no, (no, (no, (no, (no, (no, (no, (no, (no, (no, (no, (no, (no, (no, (no, (no, (no, (no, (tt)))))))))))))))))))) (λ k z. refl) k
 
-  part-by : (x y : Bool) → ltb n 6 ≡ x → eqb n 16 ≡ y → x || y ≡ false → (6 ≤ n) × (n ≡ 16 → ⊥)
-  part-by true y ex ey e = absurd (omega (arith, ap {B = ℕ} (λ (b : Bool). cond b 1 0) e))
-  part-by false true ex ey e = absurd (omega (arith, ap {B = ℕ} (λ (b : Bool). cond b 1 0) e))
-  part-by false false ex ey e = (ltb-false n 6 ex, λ q. omega (arith, ap {B = ℕ} (λ (b : Bool). cond b 1 0) (sym (eq-eqb n 16 q) ∙ ey)))
+  module _ (ws vs : List ℕ) (a : Answer) (fx : List ℕ) where
+    pub as-kind : (n k : ℕ) → n ≡ k → Does ws vs (named k) a fx → Does ws vs (named n) a fx
+    as-kind n k e d = subst (λ (j : ℕ). Does ws vs (named j) a fx) (sym e) d
 
-  pub part-high : isOnState n ≡ false → (6 ≤ n) × (n ≡ 16 → ⊥)
-  part-high e = part-by (ltb n 6) (eqb n 16) refl refl e
+    pub as-supply : (n : ℕ) → (eqb n 0 ≡ false → 19 ≤ n) → Does ws vs (supplyOf (r .words)) a fx → Does ws vs (named n) a fx
+    as-supply n h d = subst (λ (e : Event). Does ws vs e a fx) (sym (last n (λ z. le-ltb n 19 (h z)))) d
 
-pub whole-is : (n : ℕ) (x y : Bool) → ltb n 6 ≡ x → eqb n 16 ≡ y → x || y ≡ isOnState n
-whole-is n x y ex ey = ap₂ (λ (a b : Bool). a || b) (sym ex) (sym ey)
+-- none of the kinds below
+past : (n k : ℕ) → k ≤ n → (n ≡ k → ⊥) → suc k ≤ n
+past n k h z = omega (arith, h, z)
 
--- what is told of an event at its slot
-module _ (s : State) (p u : Part) (g : Holds) (w : World) (ws out out' : List ℕ) (used : ℕ) (r : Record) (xs ys bs : List ℕ) (lent : ℕ) where
-  abbrev At : ℕ → Event → Type 0
-  At n e = Stands s n p → Told w (world (leaves s n u g) ws) e out out' used
+pub over :
+    (n : ℕ) → isOther n
+    → (n ≡ 1 → ⊥) → (n ≡ 2 → ⊥) → (n ≡ 3 → ⊥) → (n ≡ 4 → ⊥) → (n ≡ 5 → ⊥) → (n ≡ 6 → ⊥) → (n ≡ 7 → ⊥) → (n ≡ 8 → ⊥) → (n ≡ 9 → ⊥) → (n ≡ 10 → ⊥) → (n ≡ 11 → ⊥) → (n ≡ 12 → ⊥) → (n ≡ 13 → ⊥) → (n ≡ 17 → ⊥) → (n ≡ 18 → ⊥)
+    → eqb n 0 ≡ false → 19 ≤ n
+over n o a b c d e f g h i j k l m p q y =
+    let z : 1 ≤ n = past n 0 (omega arith) (λ x. true≢false (sym (eq-eqb n 0 x) ∙ y)) in
+    past n 18 (past n 17 (past n 16 (past n 15 (past n 14 (past n 13 (past n 12 (past n 11 (past n 10 (past n 9 (past n 8 (past n 7 (past n 6 (past n 5 (past n 4 (past n 3 (past n 2 (past n 1 z a) b) c) d) e) f) g) h) i) j) k) l) m) (o .0)) (o .1)) (o .2)) p) q
 
-  pub as-turn : (k n : ℕ) → k ≡ n → At (placeOf n r xs (p .head)) (eventNamed n r xs ys bs lent) → At (placeOf k r xs (p .head)) (eventNamed k r xs ys bs lent)
-  as-turn k n e f = subst (λ (m : ℕ). At (placeOf m r xs (p .head)) (eventNamed m r xs ys bs lent)) (sym e) f
+-- what is told of an event, from the promise of its function
+pub does-told :
+    (ws xs : List ℕ) (e : Event) (a : Answer) (fx out out' : List ℕ) (used : ℕ) → length ws ≡ 2060 → EventFits e → [] ≡ step (plainOf ws) e .bytes → Does ws xs e a fx
+    → out' ≡ sets out 0 (told a fx []) → used ≡ length (told a fx []) → Told (plainOf ws) (plainOf xs) e out out' used
+does-told ws xs e a fx out out' used size fits none d eo eu =
+    let t : told a fx [] ≡ outcomeBytes (step (plainOf ws) e) = λ i. told (d .answer i) (d .effects i) (none i) in
+    (ap plainOf (d .words) ∙ steps-agree ws size e fits, (eo ∙ ap (sets out 0) t, eu ∙ ap length t))
 
-  pub as-part : (k n : ℕ) (e : Event) → partEvent k r xs ys ≡ e → At n (partEvent k r xs ys) → At n e
-  as-part k n e q f = subst (At n) q f
+-- of a wake
+pub wake-told :
+    (ws xs : List ℕ) (r : Record) (a : Answer) (fx out out' : List ℕ) (used : ℕ) → length ws ≡ 2060 → Does ws xs (wakeIn r) a fx → out' ≡ sets out 0 (told a fx [])
+    → used ≡ length (told a fx []) → Told (plainOf ws) (plainOf xs) (wakeIn r) out out' used
+wake-told ws xs r a fx out out' used size d eo eu =
+    does-told ws xs (wakeIn r) a fx out out' used size tt (silent (plainOf ws) (wake (r .words .0) (r .number) (r .words .1) (r .words .2) (r .words .3)) refl) d eo eu
 
-pub told-of : (w u : World) (e e' : Event) (out out' : List ℕ) (used : ℕ) → e ≡ e' → Told w u e out out' used → Told w u e' out out' used
-told-of w u e e' out out' used q t = subst (λ (x : Event). Told w u x out out' used) q t
-
-pub stored-of : (w : World) (e e' : Event) (fx fx' : List ℕ) → e ≡ e' → fx' ≡ sets fx 0 (storedBy w e) → fx' ≡ sets fx 0 (storedBy w e')
-stored-of w e e' fx fx' q t = subst (λ (x : Event). fx' ≡ sets fx 0 (storedBy w x)) q t
-
--- a kind is there
-both : (a b : Bool) → a && b ≡ true → a ≡ true
-both true b e = refl
-both false b e = absurd (omega (arith, ap {B = ℕ} (λ (x : Bool). cond x 1 0) e))
-
-counts : (b : Bool) (n : ℕ) → 0 < cond b n 0 → b ≡ true
-counts true n h = refl
-counts false n h = absurd (omega (arith, h))
-
-pub kind-there : (bs : List ℕ) (r : Record) → r ≡ recordOf bs → 0 < nextOf bs → 0 < r .kind
-kind-there bs r e h =
-    subst (λ (x : Record). 0 < x .kind) (sym e)
-    (omega (arith, leb-true 1 (recordOf bs .kind) (both (leb 1 (recordOf bs .kind)) _ (counts (isEvent (recordOf bs) (length bs)) (sizeOf (recordOf bs)) h))))
+-- of an event with its lists, which stand in the words lent for them
+pub listed-told :
+    (ws xs : List ℕ) (r : Record) (bs : List ℕ) (lent : ℕ) (xs₁ ys₁ xs₂ ys₂ : List ℕ) → xs₁ ≡ xs₂ → ys₁ ≡ ys₂ → length ws ≡ 2060 → r .number < 4294967296 → isOther (r .kind)
+    → (a : Answer) (fx : List ℕ) → Does ws xs (eventNamed (r .kind) r xs₁ ys₁ bs lent) a fx
+    → (out out' : List ℕ) (used : ℕ) → out' ≡ sets out 0 (told a fx []) → used ≡ length (told a fx [])
+    → Told (plainOf ws) (plainOf xs) (eventNamed (r .kind) r xs₂ ys₂ bs lent) out out' used
+listed-told ws xs r bs lent xs₁ ys₁ xs₂ ys₂ ex ey size few o a fx d out out' used eo eu =
+    let p = others r xs₂ ys₂ bs lent (plainOf ws) (r .kind) o in
+    does-told ws xs (eventNamed (r .kind) r xs₂ ys₂ bs lent) a fx out out' used size (p .0 few) (p .2)
+    (subst (λ (v : List ℕ). Does ws xs (eventNamed (r .kind) r xs₂ v bs lent) a fx) ey (subst (λ (v : List ℕ). Does ws xs (eventNamed (r .kind) r v ys₁ bs lent) a fx) ex d))
+    eo eu
 
 -- the event of a record at the start of bytes
-module _ (rec : List ℕ) (lent : ℕ) (r : Record) (is : r ≡ recordOf rec) where
+module _ (rec fx : List ℕ) (r : Record) (is : r ≡ recordOf rec) where
   abbrev at-record : Record → Event
-  at-record x = eventOf x (wordsAt rec (firstAt x) (x .first)) (wordsAt rec (secondAt x) (x .second)) (take (tailOf x) (drop (tailAt x) rec)) lent
+  at-record x = eventOf x (wordsAt rec (firstAt x) (x .first)) (wordsAt rec (secondAt x) (x .second)) (take (tailOf x) (drop (tailAt x) rec)) (length fx)
 
-  by-kind : (k : ℕ) (e : Event) → r .kind ≡ k → e ≡ eventNamed k r (wordsAt rec (firstAt r) (r .first)) (wordsAt rec (secondAt r) (r .second)) (take (tailOf r) (drop (tailAt r) rec)) lent
-      → e ≡ eventAt lent rec
-  by-kind k e ek p =
-      p
-      ∙ ap (λ (j : ℕ). eventNamed j r (wordsAt rec (firstAt r) (r .first)) (wordsAt rec (secondAt r) (r .second)) (take (tailOf r) (drop (tailAt r) rec)) lent) (sym ek)
-      ∙ ap at-record is
+  abbrev here : ℕ → Event
+  here k = eventNamed k r (wordsAt rec (firstAt r) (r .first)) (wordsAt rec (secondAt r) (r .second)) (take (tailOf r) (drop (tailAt r) rec)) (length fx)
 
-  pub write-is : r .kind ≡ 16 → writeIn r rec lent ≡ eventAt lent rec
-  write-is e = by-kind 16 (writeIn r rec lent) e refl
+  by-kind : (k : ℕ) → r .kind ≡ k → here k ≡ eventAt (length fx) rec
+  by-kind k e = ap here (sym e) ∙ ap at-record is
 
-  pub list-is : listIn (r .kind) r rec (take (tailOf r) (drop (tailAt r) rec)) lent ≡ eventAt lent rec
-  list-is = ap at-record is
+  -- an event's bytes are all there
+  pub tail-there : 0 < nextOf rec → tailAt r + tailOf r ≤ length rec
+  tail-there h = subst (λ (x : Record). tailAt x + tailOf x ≤ length rec) (sym is) (all-there rec h)
 
-  pub list-stores : (w : World) (fx : List ℕ) → (r .kind ≡ 16 → ⊥) → fx ≡ sets fx 0 (storedBy w (listIn (r .kind) r rec (take (tailOf r) (drop (tailAt r) rec)) lent))
-  list-stores w fx a =
-      ap (λ (b : Bool). sets fx 0 (cond b (step w (listIn (r .kind) r rec (take (tailOf r) (drop (tailAt r) rec)) lent) .effects) []))
-      (sym (not-write r (wordsAt rec (firstAt r) (r .first)) (wordsAt rec (secondAt r) (r .second)) (take (tailOf r) (drop (tailAt r) rec)) lent (r .kind) a))
+  module _ (ws xs out out' : List ℕ) (used : ℕ) where
+    turned : (k : ℕ) (fx' : List ℕ) → r .kind ≡ k → Told (plainOf ws) (plainOf xs) (here k) out out' used → fx' ≡ sets fx 0 (storedBy (plainOf ws) (here k)) → used ≤ roomOf r
+        → Turned ws xs rec fx fx' out out' used
+    turned k fx' e t l few =
+        record {
+          told = subst (λ (x : Event). Told (plainOf ws) (plainOf xs) x out out' used) (by-kind k e) t;
+          lent = l ∙ ap (λ (x : Event). sets fx 0 (storedBy (plainOf ws) x)) (by-kind k e);
+          room = subst (λ (x : Record). used ≤ roomOf x) is few;
+        }
 
-  -- what is told of an event at its slot, of the event that the bytes hold
-  module _ (s : State) (p u : Part) (g : Holds) (w : World) (ws out out' : List ℕ) (used n : ℕ) (xs ys : List ℕ) where
-    abbrev Here : ℕ → List ℕ → List ℕ → Type 0
-    Here m vs us = Stands s m p → Told w (world (leaves s m u g) ws) (eventNamed (r .kind) r vs us (take (tailOf r) (drop (tailAt r) rec)) lent) out out' used
+    pub turned-wake : r .kind ≡ 14 → Told (plainOf ws) (plainOf xs) (wakeIn r) out out' used → used ≤ 192 → Turned ws xs rec fx fx out out' used
+    turned-wake e t few = turned 14 fx e t refl (omega (arith, few))
 
-    pub found-is :
-        xs ≡ wordsAt rec (firstAt r) (r .first) → ys ≡ wordsAt rec (secondAt r) (r .second) → n ≡ placeOf (r .kind) r (wordsAt rec (firstAt r) (r .first)) (p .head)
-        → Here (placeOf (r .kind) r xs (p .head)) xs ys → Stands s n p → Told w (world (leaves s n u g) ws) (eventAt lent rec) out out' used
-    found-is ex ey en f st =
-        told-of w (world (leaves s n u g) ws) _ _ out out' used list-is
-        (subst (λ (m : ℕ). Here m (wordsAt rec (firstAt r) (r .first)) (wordsAt rec (secondAt r) (r .second))) (sym en)
-        (subst (λ (us : List ℕ). Here (placeOf (r .kind) r (wordsAt rec (firstAt r) (r .first)) (p .head)) (wordsAt rec (firstAt r) (r .first)) us) ey
-        (subst (λ (vs : List ℕ). Here (placeOf (r .kind) r vs (p .head)) vs ys) ex f)) st)
+    pub turned-read : r .kind ≡ 15 → Told (plainOf ws) (plainOf xs) (readIn r) out out' used → used ≤ 192 + min (r .words .0) 8192 → Turned ws xs rec fx fx out out' used
+    turned-read e t few = turned 15 fx e t refl room
+      where
+        room : used ≤ roomOf r
+        room =
+            subst (λ (b : Bool). used ≤ 192 + cond b (min (r .words .0) 8192) 0 + 27 * tailOf r) (sym (eq-eqb (r .kind) 15 e)) (let z : used ≤ 192 + min (r .words .0) 8192 + 27 * tailOf r = omega (arith, few) in z)
 
--- an event's bytes are all there
-pub tail-there : (bs : List ℕ) (r : Record) → r ≡ recordOf bs → 0 < nextOf bs → tailAt r + tailOf r ≤ length bs
-tail-there bs r e h = subst (λ (x : Record). tailAt x + tailOf x ≤ length bs) (sym e) (all-there bs h)
+    pub turned-write :
+        (fx' : List ℕ) → r .kind ≡ 16 → Told (plainOf ws) (plainOf xs) (writeIn r rec (length fx)) out out' used → fx' ≡ sets fx 0 (storedBy (plainOf ws) (writeIn r rec (length fx)))
+        → used ≤ 192 + 27 * tailOf r → Turned ws xs rec fx fx' out out' used
+    turned-write fx' e t l few = turned 16 fx' e t l (omega (arith, few))
 
--- the room that a turn may take
-module _ (r : Record) (k : ℕ) where
-  pub room-other : k ≤ 192 → k ≤ roomOf r
-  room-other h = omega (arith, h)
-
-  pub room-write : k ≤ 192 + 27 * tailOf r → k ≤ roomOf r
-  room-write h = omega (arith, h)
-
-  pub room-read : r .kind ≡ 15 → k ≤ 192 + min (r .words .0) 8192 → k ≤ roomOf r
-  room-read e h =
-      subst (λ (b : Bool). k ≤ 192 + cond b (min (r .words .0) 8192) 0 + 27 * tailOf r) (sym (eq-eqb (r .kind) 15 e)) (let z : k ≤ 192 + min (r .words .0) 8192 + 27 * tailOf r = omega (arith, h) in z)
-
-pub room-of : (bs : List ℕ) (r : Record) (k : ℕ) → r ≡ recordOf bs → k ≤ roomOf r → k ≤ roomOf (recordOf bs)
-room-of bs r k is h = subst (λ (x : Record). k ≤ roomOf x) is h
+    pub turned-other : isOther (r .kind) → Told (plainOf ws) (plainOf xs) (here (r .kind)) out out' used → used ≤ 192 → Turned ws xs rec fx fx out out' used
+    turned-other o t few =
+        turned (r .kind) fx refl t
+        (ap (λ (b : Bool). sets fx 0 (cond b (step (plainOf ws) (here (r .kind)) .effects) []))
+        (sym (others r (wordsAt rec (firstAt r) (r .first)) (wordsAt rec (secondAt r) (r .second)) (take (tailOf r) (drop (tailAt r) rec)) (length fx) (plainOf ws) (r .kind) o .1)))
+        (omega (arith, few))

@@ -6,9 +6,7 @@ use native.Mathlib.Omega.{arith}
 use lib.ListN.{length, set, take, drop, replicate, length-replicate, length-append, length-drop, take-append-drop, drop-of-length-le}
 use lib.Seq.{sets, length-sets, length-take-le, drop-drop}
 use Rattle.word_put.proofs.Stores.{sets-then}
-use Rattle.state.specs.declared.State.{State}
-use Rattle.state.specs.State.{freshState}
-use Rattle.events.specs.World.{World, world}
+use Rattle.events.specs.World.{World}
 use Rattle.events.specs.Event.{Event, step}
 use Rattle.events.specs.Run.{Turn, Run, next, runFrom, run}
 use Rattle.events.specs.WellFormed.{WellFormed}
@@ -16,14 +14,12 @@ use Rattle.events.proofs.WellFormed.{formed-run}
 use Rattle.outcome_bytes.specs.Output.{outcomeBytes}
 use Rattle.state_bytes.specs.StateBytes.{stateBytes, stateSize}
 use Rattle.record.specs.Record.{recordOf, sizeOf, nextOf, eventAt, Decoded, stops, before, decoded}
-use Rattle.handles.specs.declared.Handles.{Handles}
-use Rattle.slot.specs.declared.Slot.{Slot}
-use Rattle.table.specs.declared.Table.{Table}
-use Rattle.table.specs.Table.{freshTable}
-use Rattle.wait_queue.specs.declared.WaitQueue.{WaitQueue}
+use Rattle.layout.specs.Layout.{plainOf}
+use Rattle.packed.specs.Step.{freshWords}
+use Rattle.packed.proofs.Agree.{fresh-plain}
 use Rattle.record.proofs.Laws.{some, next-size, next-there, walk-ends, walk-goes-on}
 use Rattle.run_room.specs.Room.{roomOf, needed, leftOf}
-use Rattle.run.specs.Run.{Told, runOf, storedBy, toldOf, lentAfter, outputOf, wholeEnd}
+use Rattle.run.specs.Run.{Turned, runOf, storedBy, toldOf, lentAfter, outputOf, wholeEnd}
 use Rattle.run_room.proofs.Rooms.{needed-ends, needed-goes-on, left-there, left-ends, left-all, left-on}
 use Rattle.word_put.proofs.Stores.{part-is}
 
@@ -61,20 +57,9 @@ after es d = record { events = es ++ d .events; left = d .left }
 abbrev zeros : List ℕ
 zeros = replicate 1024 0
 
--- the state that the run holds, in its parts
-abbrev pub stateOf : ℕ → List Slot → List ℕ → ℕ → List ℕ → List ℕ → Handles → WaitQueue → State
-stateOf scheme slots next head all outside handles queue =
-    record {
-      driver = record { scheme = scheme; handles = handles; queue = queue };
-      table = record { slots = slots; next = next; head = head; holds = record { holds = all; outside = outside } };
-    }
-
-pub fresh-is : (scheme : ℕ) (t : Table) → t ≡ freshTable → stateOf scheme (t .slots) (t .next) (t .head) (replicate 64 0) (replicate 64 0) (record { at = replicate 64 0 }) (record { first = 0; len = 0 }) ≡ freshState scheme
-fresh-is scheme t e = ap (λ (x : Table). stateOf scheme (x .slots) (x .next) (x .head) (replicate 64 0) (replicate 64 0) (record { at = replicate 64 0 }) (record { first = 0; len = 0 })) e
-
-pub record Going (scheme : ℕ) (ev out₀ fx₀ : List ℕ) (end : ℕ) (out fx words : List ℕ) (s : State) (at j : ℕ) : Type 0 where
+pub record Going (scheme : ℕ) (ev out₀ fx₀ : List ℕ) (end : ℕ) (out fx s : List ℕ) (at j : ℕ) : Type 0 where
   pub done : List Event
-  pub state : world s words ≡ run scheme zeros done .world
+  pub state : plainOf s ≡ run scheme zeros done .world
   pub lent : fx ≡ lentAfter fx₀ (run scheme zeros done .turns)
   pub told : out ≡ sets out₀ 0 (toldOf (run scheme zeros done .turns))
   pub count : j ≡ length (toldOf (run scheme zeros done .turns))
@@ -85,12 +70,12 @@ pub record Going (scheme : ℕ) (ev out₀ fx₀ : List ℕ) (end : ℕ) (out fx
   pub ends : end ≡ length ev - leftOf ev
 
 pub begins :
-    (scheme : ℕ) (ev out fx : List ℕ) (end : ℕ) (s : State) → needed ev ≤ length out → end ≡ length ev - leftOf ev → s ≡ freshState scheme
-    → Going scheme ev out fx end out fx zeros s 0 0
+    (scheme : ℕ) (ev out fx : List ℕ) (end : ℕ) (s : List ℕ) → needed ev ≤ length out → end ≡ length ev - leftOf ev → s ≡ freshWords scheme zeros
+    → Going scheme ev out fx end out fx s 0 0
 begins scheme ev out fx end s h en es =
     record {
       done = [];
-      state = ap (λ (x : State). world x zeros) es;
+      state = ap plainOf es ∙ fresh-plain scheme zeros (length-replicate {A = ℕ} 1024 0);
       lent = refl;
       told = refl;
       count = refl;
@@ -101,11 +86,11 @@ begins scheme ev out fx end s h en es =
       ends = en;
     }
 
-module _ (scheme : ℕ) (ev out₀ fx₀ : List ℕ) (end : ℕ) (out fx words : List ℕ) (s : State) (at j : ℕ) (g : Going scheme ev out₀ fx₀ end out fx words s at j) where
+module _ (scheme : ℕ) (ev out₀ fx₀ : List ℕ) (end : ℕ) (out fx s : List ℕ) (at j : ℕ) (g : Going scheme ev out₀ fx₀ end out fx s at j) where
   abbrev R : Run
   R = run scheme zeros (g .done)
 
-  pub whole : WellFormed (world s words)
+  pub whole : WellFormed (plainOf s)
   whole = subst WellFormed (sym (g .state)) (formed-run scheme zeros (length-replicate {A = ℕ} 1024 0) (g .done))
 
   pub out-length : length out ≡ length out₀
@@ -145,22 +130,22 @@ module _ (scheme : ℕ) (ev out₀ fx₀ : List ℕ) (end : ℕ) (out fx words :
         omega (arith, g .room, few, ap (λ (x : List ℕ). roomOf (recordOf x)) (part-is ev at), needed-goes-on (drop at ev) (some-left inside), ap needed rest-is)
 
     -- one event more
-    module _ (out' fx' words' : List ℕ) (s' : State) (used : ℕ) (ew : world s' words' ≡ step (world s words) (eventAt (length fx) part) .world)
-        (eo : out' ≡ sets out j (outcomeBytes (step (world s words) (eventAt (length fx) part)))) (eu : used ≡ length (outcomeBytes (step (world s words) (eventAt (length fx) part))))
-        (ef : fx' ≡ sets fx 0 (storedBy (world s words) (eventAt (length fx) part))) (few : used ≤ roomOf (recordOf part)) where
+    module _ (out' fx' s' : List ℕ) (used : ℕ) (ew : plainOf s' ≡ step (plainOf s) (eventAt (length fx) part) .world)
+        (eo : out' ≡ sets out j (outcomeBytes (step (plainOf s) (eventAt (length fx) part)))) (eu : used ≡ length (outcomeBytes (step (plainOf s) (eventAt (length fx) part))))
+        (ef : fx' ≡ sets fx 0 (storedBy (plainOf s) (eventAt (length fx) part))) (few : used ≤ roomOf (recordOf part)) where
       abbrev e : Event
       e = eventAt (length fx₀) (drop at ev)
 
       same-event : eventAt (length fx) part ≡ e
       same-event = ap₂ eventAt fx-length (part-is ev at)
 
-      told-is : outcomeBytes (step (world s words) (eventAt (length fx) part)) ≡ outcomeBytes (step (R .world) e)
+      told-is : outcomeBytes (step (plainOf s) (eventAt (length fx) part)) ≡ outcomeBytes (step (R .world) e)
       told-is = ap₂ (λ (w : World) (x : Event). outcomeBytes (step w x)) (g .state) same-event
 
       more-is : run scheme zeros (g .done ++ (e ∷ [])) ≡ next R e
       more-is = run-more (g .done) _ e
 
-      pub goes-on : Going scheme ev out₀ fx₀ end out' fx' words' s' (at + size) (j + used)
+      pub goes-on : Going scheme ev out₀ fx₀ end out' fx' s' (at + size) (j + used)
       goes-on =
           record {
             done = g .done ++ (e ∷ []);
@@ -169,7 +154,7 @@ module _ (scheme : ℕ) (ev out₀ fx₀ : List ℕ) (end : ℕ) (out fx words :
                 ef ∙ ap₂ (λ (l : List ℕ) (x : List ℕ). sets l 0 x) (g .lent) (ap₂ storedBy (g .state) same-event) ∙ sym (ap (λ (r : Run). lentAfter fx₀ (r .turns)) more-is);
             told =
                 eo
-                ∙ ap₂ (λ (l : List ℕ) (n : ℕ). sets l n (outcomeBytes (step (world s words) (eventAt (length fx) part)))) (g .told) (let z : j ≡ 0 + length (toldOf (R .turns)) = omega (arith, g .count) in z)
+                ∙ ap₂ (λ (l : List ℕ) (n : ℕ). sets l n (outcomeBytes (step (plainOf s) (eventAt (length fx) part)))) (g .told) (let z : j ≡ 0 + length (toldOf (R .turns)) = omega (arith, g .count) in z)
                 ∙ ap (sets (sets out₀ 0 (toldOf (R .turns))) (0 + length (toldOf (R .turns)))) told-is
                 ∙ sets-then (toldOf (R .turns)) (outcomeBytes (step (R .world) e)) out₀ 0
                 ∙ sym (ap (λ (r : Run). sets out₀ 0 (toldOf (r .turns))) more-is);
@@ -187,12 +172,11 @@ module _ (scheme : ℕ) (ev out₀ fx₀ : List ℕ) (end : ℕ) (out fx words :
           }
 
     -- the same of a turn that was lent the output from j on
-    pub goes-on-told :
-        (back fx' words' : List ℕ) (s' : State) (used : ℕ) → Told (world s words) (world s' words') (eventAt (length fx) part) (take (length out - j) (drop j out)) back used
-        → fx' ≡ sets fx 0 (storedBy (world s words) (eventAt (length fx) part)) → used ≤ roomOf (recordOf part)
-        → Going scheme ev out₀ fx₀ end (take j out ++ (back ++ drop (length out - j) (drop j out))) fx' words' s' (at + size) (j + used)
-    goes-on-told back fx' words' s' used t ef few =
-        goes-on _ fx' words' s' used (t .0) (behind out (outcomeBytes (step (world s words) (eventAt (length fx) part))) back j in-out (t .1 .0)) (t .1 .1) ef few
+    pub goes-on-turned :
+        (back fx' s' : List ℕ) (used : ℕ) → Turned s s' part fx fx' (take (length out - j) (drop j out)) back used
+        → Going scheme ev out₀ fx₀ end (take j out ++ (back ++ drop (length out - j) (drop j out))) fx' s' (at + size) (j + used)
+    goes-on-turned back fx' s' used t =
+        goes-on _ fx' s' used (t .told .0) (behind out (outcomeBytes (step (plainOf s) (eventAt (length fx) part))) back j in-out (t .told .1 .0)) (t .told .1 .1) (t .lent) (t .room)
 
   -- the end
   module _ (stop : end ≤ at) where
@@ -210,15 +194,15 @@ module _ (scheme : ℕ) (ev out₀ fx₀ : List ℕ) (end : ℕ) (out fx words :
     pub end-room : j + stateSize ≤ length out₀
     end-room = omega (arith, g .room, needed-ends (drop at ev) none)
 
-    module _ (out' : List ℕ) (size-is : length (stateBytes (world s words)) ≡ stateSize) (eo : out' ≡ sets out j (stateBytes (world s words))) where
-      state-is : stateBytes (world s words) ≡ stateBytes (R .world)
+    module _ (out' : List ℕ) (size-is : length (stateBytes (plainOf s)) ≡ stateSize) (eo : out' ≡ sets out j (stateBytes (plainOf s))) where
+      state-is : stateBytes (plainOf s) ≡ stateBytes (R .world)
       state-is = ap stateBytes (g .state)
 
       pub out-is : out' ≡ sets out₀ 0 (outputOf (runOf scheme (length fx₀) ev))
       out-is =
           eo
-          ∙ ap₂ (λ (l : List ℕ) (n : ℕ). sets l n (stateBytes (world s words))) (g .told) (let z : j ≡ 0 + length (toldOf (R .turns)) = omega (arith, g .count) in z)
-          ∙ sets-then (toldOf (R .turns)) (stateBytes (world s words)) out₀ 0
+          ∙ ap₂ (λ (l : List ℕ) (n : ℕ). sets l n (stateBytes (plainOf s))) (g .told) (let z : j ≡ 0 + length (toldOf (R .turns)) = omega (arith, g .count) in z)
+          ∙ sets-then (toldOf (R .turns)) (stateBytes (plainOf s)) out₀ 0
           ∙ ap (λ (x : List ℕ). sets out₀ 0 (toldOf (R .turns) ++ x)) state-is
           ∙ sym (ap (λ (r : Run). sets out₀ 0 (outputOf r)) run-is)
 
@@ -232,7 +216,7 @@ module _ (scheme : ℕ) (ev out₀ fx₀ : List ℕ) (end : ℕ) (out fx words :
         where
           written-is : j + stateSize ≡ length (outputOf (runOf scheme (length fx₀) ev))
           written-is =
-              (let z : j + stateSize ≡ length (toldOf (R .turns) ++ stateBytes (world s words)) = omega (arith, g .count, size-is, length-append (toldOf (R .turns)) (stateBytes (world s words))) in z)
+              (let z : j + stateSize ≡ length (toldOf (R .turns) ++ stateBytes (plainOf s)) = omega (arith, g .count, size-is, length-append (toldOf (R .turns)) (stateBytes (plainOf s))) in z)
               ∙ ap (λ (x : List ℕ). length (toldOf (R .turns) ++ x)) state-is
               ∙ sym (ap (λ (r : Run). length (outputOf r)) run-is)
 

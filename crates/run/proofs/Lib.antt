@@ -1,5 +1,5 @@
+pub mod Silent
 pub mod ByKind
 pub mod Turns
-pub mod Lanes
 pub mod Going
 pub mod Claimed

@@ -10,9 +10,9 @@ use lib.ListN.{length, set, take, drop, take-append-drop, length-take, length-dr
 use lib.Seq.{sets, sets-eq, length-sets, set-append-left, take-at, length-take-le}
 use borrow.Author.Tests.{ne-eqb, lt-ltb, le-ltb}
 use Rattle.events.specs.World.{World, queueOf, withQueue}
-use Rattle.events.specs.Outcome.{Answer, Outcome, outcome, said, refuse}
-use Rattle.events.specs.Complete.{Entered, accepted, rejected, entryOf, entriesOf, stopped, onEntered, shortWords, writeOn, writeOf}
-use Rattle.schemev2.specs.declared.Cqe.{Cqe}
+use Rattle.events.specs.Outcome.{Answer, Outcome, said}
+use Rattle.events.specs.Complete.{writeOf}
+use Rattle.events.specs.Event.{read, write, on}
 use Rattle.events.specs.Read.{readOf}
 use Rattle.events.specs.WellFormed.{WellFormed}
 use Rattle.events.proofs.Exact as effects
@@ -23,6 +23,12 @@ use Rattle.record.proofs.Laws.{each-length}
 use Rattle.wait_queue.specs.Queue.{wordsFrom, unread, removed}
 use Rattle.wait_queue.proofs.Unread.{length-bytes, length-words}
 use Rattle.answer.specs.declared.Answer.the-variants.{Bytes}
+use Rattle.layout.specs.Layout.{plainOf}
+use Rattle.packed.proofs.Agree.{steps-agree}
+use Rattle.step.specs.Does.{Does}
+use Rattle.w_write.specs.Writing.{Writes}
+use Rattle.run.specs.Run.{Told}
+use Rattle.run.proofs.Silent.{silent}
 use Rattle.wait_queue_receive.specs.Receive.{copied, emptyBy, receivedIf}
 
 -- a front that is there
@@ -93,73 +99,80 @@ same-read w len flags h =
     go true = λ i. record { answer = emptyBy (eqb (flags / 0x4_0000 % 2) 0) (none-same len i) (few-same len i); queue = queueOf w }
     go false = ap (λ (n : ℕ). record { answer = Bytes n; queue = removed (queueOf w) (n / 64) }) few
 
--- a read into m bytes that are as good as len
-module _ (w : World) (len flags n m k : ℕ) (b front : List ℕ) (size : 8192 ≤ length b) (en : n ≡ min len 8192) (em : m ≡ length (take n b)) (ek : k ≡ min n (queueOf w .len * 64))
-    (is : front ≡ sets (take n b) 0 (readOf w m flags .bytes)) where
+-- a read into m bytes that are as good as len, on words
+module _ (ws xs : List ℕ) (len flags n m k : ℕ) (b front : List ℕ) (a : Answer) (room : 8192 ≤ length b) (en : n ≡ min len 8192) (em : m ≡ length (take n b))
+    (ek : k ≡ min n (queueOf (plainOf ws) .len * 64)) (d : Does ws xs (on (read m flags)) a []) (is : front ≡ sets (take n b) 0 (readOf (plainOf ws) m flags .bytes)) where
+  abbrev w : World
+  w = plainOf ws
+
   exact : m ≡ n
-  exact = em ∙ length-take-le n b (omega (arith, size, en))
+  exact = em ∙ length-take-le n b (omega (arith, room, en))
 
   counts : k ≡ length (readOf w m flags .bytes)
   counts = ek ∙ ap (λ (x : ℕ). min x (queueOf w .len * 64)) (sym exact) ∙ read-counts w m flags
 
   pub read-part : k ≡ length (take k (front ++ drop n b))
-  read-part = front-counts b front (readOf w m flags .bytes) n k (omega (arith, size, en)) (omega (arith, ek)) counts is
+  read-part = front-counts b front (readOf w m flags .bytes) n k (omega (arith, room, en)) (omega (arith, ek)) counts is
 
-  pub read-holds : take k (front ++ drop n b) ≡ readOf w m flags .bytes
-  read-holds = front-holds b front (readOf w m flags .bytes) n k (omega (arith, size, en)) (omega (arith, ek)) counts is
+  read-holds : take k (front ++ drop n b) ≡ readOf w m flags .bytes
+  read-holds = front-holds b front (readOf w m flags .bytes) n k (omega (arith, room, en)) (omega (arith, ek)) counts is
 
-  pub read-whole : WellFormed w → readOf w m flags ≡ readOf w len flags
+  read-whole : WellFormed w → readOf w m flags ≡ readOf w len flags
   read-whole i = ap (λ (x : ℕ). readOf w x flags) (exact ∙ en) ∙ same-read w len flags (i .room)
 
--- a write reads nothing
-on-bytes : (es : List Cqe) (w : World) (n : ℕ) (fx : List ℕ) → writeOn w es n fx .bytes ≡ []
-on-bytes [] w n fx = refl
-on-bytes (e ∷ es) w n fx = go (λ u gx. on-bytes es u (suc n) (fx ++ gx)) (entryOf w e)
-  where
-    go : ((u : World) (gx : List ℕ) → writeOn u es (suc n) (fx ++ gx) .bytes ≡ []) → (x : Entered) → onEntered x (λ gx u. writeOn u es (suc n) (fx ++ gx)) (λ k gx u. outcome (stopped n k) (fx ++ gx) u) .bytes ≡ []
-    go more (accepted gx u) = more u gx
-    go more (rejected k gx u) = refl
+  pub read-told :
+      length ws ≡ 2060 → WellFormed w → (out out' : List ℕ) (used : ℕ) → out' ≡ sets out 0 (told a [] (take k (front ++ drop n b))) → used ≡ length (told a [] (take k (front ++ drop n b)))
+      → Told w (plainOf xs) (on (read len flags)) out out' used
+  read-told size i out out' used eo eu =
+      turned out out' used (readOf w m flags) (readOf w len flags) a [] (take k (front ++ drop n b)) (plainOf xs) (read-whole i) (d .answer) (d .effects) read-holds
+      (ap plainOf (d .words) ∙ steps-agree ws size (on (read m flags)) tt) (eo, eu)
 
-write-bytes : (w : World) (words : ℕ) (bs : List ℕ) → [] ≡ writeOf w words bs .bytes
-write-bytes w words bs = go (shortWords words bs)
-  where
-    go : (b : Bool) → [] ≡ cond b (refuse w 204) (writeOn w (entriesOf bs) 0 []) .bytes
-    go true = refl
-    go false = sym (on-bytes (entriesOf bs) w 0 [])
+  pub read-most : (used : ℕ) → used ≤ 48 + length (take k (front ++ drop n b)) → used ≤ 192 + min len 8192
+  read-most used h = omega (arith, h, read-part, ek, en)
 
 pub tail-counts : (bs : List ℕ) (at k : ℕ) → at + k ≤ length bs → length (take k (drop at bs)) ≡ k
 tail-counts bs at k h = length-take-le k (drop at bs) (omega (arith, h, length-drop at bs))
 
--- a write that is lent a front of the words
-module _ (w : World) (i : WellFormed w) (words n m k : ℕ) (fx front bs bs' : List ℕ) (en : n ≡ min words (length fx)) (em : m ≡ length (take n fx)) (ek : k ≡ length (writeOf w m bs .effects))
-    (eb : bs ≡ bs') (is : front ≡ sets (take n fx) 0 (writeOf w m bs .effects)) where
+-- a write that is lent a front of the words, on words
+module _ (ws xs : List ℕ) (i : WellFormed (plainOf ws)) (words n k : ℕ) (fx front bs bs' : List ℕ) (a : Answer) (en : n ≡ min words (length fx)) (eb : bs ≡ bs')
+    (d : Writes ws xs (take n fx) front bs a k) where
+  abbrev u : World
+  u = plainOf ws
+
+  abbrev m : ℕ
+  m = length (take n fx)
+
   lent : m ≡ n
-  lent = em ∙ length-take-le n fx (omega (arith, en))
+  lent = length-take-le n fx (omega (arith, en))
 
   fits : k ≤ n
-  fits = omega (arith, lent, ek, effects.write-room w i m bs)
+  fits = omega (arith, lent, d .count, effects.write-room u i m bs)
 
   pub write-part : k ≡ length (take k (front ++ drop n fx))
-  write-part = front-counts fx front (writeOf w m bs .effects) n k (omega (arith, en)) fits ek is
+  write-part = front-counts fx front (writeOf u m bs .effects) n k (omega (arith, en)) fits (d .count) (d .lent)
 
-  pub write-holds : take k (front ++ drop n fx) ≡ writeOf w m bs .effects
-  write-holds = front-holds fx front (writeOf w m bs .effects) n k (omega (arith, en)) fits ek is
-
-  pub write-none : [] ≡ writeOf w m bs .bytes
-  write-none = write-bytes w m bs
+  write-holds : take k (front ++ drop n fx) ≡ writeOf u m bs .effects
+  write-holds = front-holds fx front (writeOf u m bs .effects) n k (omega (arith, en)) fits (d .count) (d .lent)
 
   -- 18 effects an entry have room in 27 bytes for each of its own
-  pub write-most : (tail : ℕ) → length bs' ≡ tail → 48 + 8 * k ≤ 192 + 27 * tail
-  write-most tail e = omega (arith, ek, effects.write-most w i m bs, ap length eb, e)
+  pub write-most : (used tail : ℕ) → length bs' ≡ tail → used ≤ 48 + 8 * length (take k (front ++ drop n fx)) → used ≤ 192 + 27 * tail
+  write-most used tail e h = omega (arith, h, write-part, d .count, effects.write-most u i m bs, ap length eb, e)
 
   pub write-fits : k ≤ length (front ++ drop n fx)
   write-fits = omega (arith, write-part, length-take k (front ++ drop n fx))
 
-  pub write-whole : writeOf w m bs ≡ writeOf w (min words (length fx)) bs'
-  write-whole = ap₂ (writeOf w) (lent ∙ en) eb
+  write-whole : writeOf u m bs ≡ writeOf u (min words (length fx)) bs'
+  write-whole = ap₂ (writeOf u) (lent ∙ en) eb
 
-  pub write-back : front ++ drop n fx ≡ sets fx 0 (writeOf w (min words (length fx)) bs' .effects)
-  write-back = front-back fx front (writeOf w m bs .effects) n k (omega (arith, en)) fits ek is ∙ ap (λ (o : Outcome). sets fx 0 (o .effects)) write-whole
+  pub write-back : front ++ drop n fx ≡ sets fx 0 (writeOf u (min words (length fx)) bs' .effects)
+  write-back = front-back fx front (writeOf u m bs .effects) n k (omega (arith, en)) fits (d .count) (d .lent) ∙ ap (λ (o : Outcome). sets fx 0 (o .effects)) write-whole
+
+  pub write-told :
+      (out out' : List ℕ) (used : ℕ) → out' ≡ sets out 0 (told a (take k (front ++ drop n fx)) []) → used ≡ length (told a (take k (front ++ drop n fx)) [])
+      → Told u (plainOf xs) (on (write (min words (length fx)) bs')) out out' used
+  write-told out out' used eo eu =
+      turned out out' used (writeOf u m bs) (writeOf u (min words (length fx)) bs') a (take k (front ++ drop n fx)) [] (plainOf xs) write-whole (d .answer) write-holds
+      (silent u (write m bs) refl) (d .left) (eo, eu)
 
 -- the bytes of a record
 pub tail-is : (bs : List ℕ) (at k at' k' : ℕ) → at ≡ at' → k ≡ k' → take (at + k - at) (drop at bs) ≡ take k' (drop at' bs)

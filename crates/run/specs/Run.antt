@@ -1,9 +1,9 @@
 -- A run as bytes: decoded to events (crate record), run as `Run` of crate events has it, and told in bytes (crate outcome_bytes).
-use Prim.Native.Nat.{ℕ, _-_, _/_, min}
+use Prim.Native.Nat.{ℕ, _-_, _≤_, min}
 use mathlib.Core.Path.{_≡_}
-use mathlib.Core.Bool.{Bool, false, cond, _||_, _&&_}
+use mathlib.Core.Bool.{Bool, cond, _&&_}
 use mathlib.Core.List.{List, [], _∷_, _++_}
-use lib.Dec.{eqb, leb, ltb}
+use lib.Dec.{eqb, leb}
 use lib.ListN.{length, take, drop, replicate}
 use lib.Seq.{sets}
 use Rattle.events.specs.World.{World}
@@ -11,11 +11,12 @@ use Rattle.events.specs.Event.{wake, read, write, Event, on, step}
 use Rattle.events.specs.History.{viewOf}
 use Rattle.events.specs.Run.{Turn, Run, run}
 use Rattle.events.specs.Effects.{isWrite}
+use Rattle.layout.specs.Layout.{plainOf}
 use Rattle.outcome_bytes.specs.Output.{outcomeBytes}
 use Rattle.state_bytes.specs.StateBytes.{stateBytes}
 use Rattle.record.specs.declared.Record.{Record}
-use Rattle.record.specs.Record.{firstAt, secondAt, tailAt, tailOf, wordsAt, eventNamed, decoded}
-use Rattle.run_room.specs.Room.{needed, leftOf}
+use Rattle.record.specs.Record.{recordOf, tailAt, tailOf, eventAt, decoded}
+use Rattle.run_room.specs.Room.{roomOf, needed, leftOf}
 use Rattle.run.specs.declared.RunEnd.{RunEnd}
 
 -- the run of the events that bytes hold, from a fresh state with its queue's words 0; `lent` words are there for writes
@@ -36,24 +37,20 @@ readIn r = on (read (r .words .0) (r .number))
 abbrev pub writeIn : Record → List ℕ → ℕ → Event
 writeIn r bs lent = on (write (min (r .words .0) lent) (take (tailOf r) (drop (tailAt r) bs)))
 
--- the host's events and the write look at more than one slot
-abbrev pub isOnState : ℕ → Bool
-isOnState kind = ltb kind 6 || eqb kind 16
-
--- a close, a detach and a read look at no slot, a write of one entry at one
-abbrev pub isQueue : ℕ → Bool
-isQueue kind = eqb kind 12 || (eqb kind 13 || eqb kind 15)
-
-abbrev pub isSingle : Record → Bool
-isSingle r = cond (eqb (r .kind) 16) (eqb (r .number / 16) 1) false
+-- an event of another kind: at most one effect, and no reply
+abbrev pub isOther : ℕ → Type 0
+isOther kind = (kind ≡ 14 → ⊥) × (kind ≡ 15 → ⊥) × (kind ≡ 16 → ⊥)
 
 -- what a turn leaves, told of the world that it found: the world, the output from its start on, and how much of it was used
 abbrev pub Told : World → World → Event → List ℕ → List ℕ → ℕ → Type 0
 Told w u e out out' used = (u ≡ step w e .world) × ((out' ≡ sets out 0 (outcomeBytes (step w e))) × (used ≡ length (outcomeBytes (step w e))))
 
--- the other events, with their lists
-abbrev pub listIn : ℕ → Record → List ℕ → List ℕ → ℕ → Event
-listIn kind r rec bs lent = eventNamed kind r (wordsAt rec (firstAt r) (r .first)) (wordsAt rec (secondAt r) (r .second)) bs lent
+-- a turn of the event that a record holds, from the words ws to xs: what it tells, what it stores in the words that writes are lent,
+-- and that it keeps to its room
+pub record Turned (ws xs rec fx fx' out out' : List ℕ) (used : ℕ) : Type 0 where
+  pub told : Told (plainOf ws) (plainOf xs) (eventAt (length fx) rec) out out' used
+  pub lent : fx' ≡ sets fx 0 (storedBy (plainOf ws) (eventAt (length fx) rec))
+  pub room : used ≤ roomOf (recordOf rec)
 
 -- turns stand newest first
 abbrev pub toldOf : List Turn → List ℕ

@@ -1,17 +1,16 @@
 // What a run writes of the state at its end, into bytes that are lent. What lies past the end is not stored.
-use handles::Handles;
-use holds::Holds;
-use state::State;
+use ids::Tag;
 use status::Status;
-use table::Table;
 ghost use mathlib.Core.Path.{_≡_};
-ghost use mathlib.Core.List.{List as Words};
-ghost use Prim.Native.Nat.{ℕ, _≤_};
+ghost use Prim.Native.Nat.{_≤_};
+ghost use lib.Count.{ones as onesIn};
 ghost use lib.ListN.{length};
 ghost use lib.Seq.{sets};
 ghost use Rattle.le.specs.Le.{bytesOf};
-ghost use Rattle.events.specs.World.{world};
-ghost use Rattle.state_bytes.specs.StateBytes.{statusPair, statusWords, stateBytes, stateSize};
+ghost use Rattle.status.specs.Status.{isIn, wordOf};
+ghost use Rattle.events.specs.World.{tableOf};
+ghost use Rattle.layout.specs.Layout.{plainOf};
+ghost use Rattle.state_bytes.specs.StateBytes.{statusWords, stateBytes, stateSize};
 
 // How many bytes it takes.
 pub const STATE_SIZE: usize = 1608;
@@ -28,67 +27,68 @@ fn put_counts(out: &mut [u8], at: usize, a: &[u64])
     }
 }
 
-// A status word and its count of ones.
-fn put_status(out: &mut [u8], at: usize, t: Table, which: Status)
+// 64 of them.
+fn put_part(out: &mut [u8], at: usize, a: [u64; 64])
     requires { ⌜ at ≤ 0x1_0000 ⌝ }
-    ensures { λ r. ⌜ now (out .exit) ≡ sets (now (out .entry)) at (bytesOf (statusPair t which)) ⌝ }
+    ensures { λ r. ⌜ now (out .exit) ≡ sets (now (out .entry)) at (bytesOf a) ⌝ }
+    ensures { λ r. ⌜ length a ≡ 64 ⌝ }
 {
-    let w = status::word(t, which);
-    let n = status::count(t, which);
-    le_put::put_two(out, at, w, n as u64);
-}
-
-// The four status words.
-fn put_statuses(out: &mut [u8], at: usize, t: Table)
-    requires { ⌜ at ≤ 0x1000 ⌝ }
-    ensures { λ r. ⌜ now (out .exit) ≡ sets (now (out .entry)) at (bytesOf (statusWords t)) ⌝ }
-{
-    put_status(out, at, t, Status::Placeholder);
-    put_status(out, at + 16, t, Status::Waiting);
-    put_status(out, at + 32, t, Status::Responded);
-    put_status(out, at + 48, t, Status::Fmap);
-}
-
-fn put_holds(out: &mut [u8], at: usize, h: Holds)
-    requires { ⌜ at ≤ 0x1_0000 ⌝ }
-    ensures { λ r. ⌜ now (out .exit) ≡ sets (now (out .entry)) at (bytesOf (h .holds)) ⌝ }
-    ensures { λ r. ⌜ length (h .holds) ≡ 64 ⌝ }
-{
-    let a = h.holds;
     put_counts(out, at, &a);
 }
 
-fn put_outside(out: &mut [u8], at: usize, h: Holds)
-    requires { ⌜ at ≤ 0x1_0000 ⌝ }
-    ensures { λ r. ⌜ now (out .exit) ≡ sets (now (out .entry)) at (bytesOf (h .outside)) ⌝ }
-    ensures { λ r. ⌜ length (h .outside) ≡ 64 ⌝ }
+// From the last slot to the first, so that slot 0 ends in bit 0.
+fn status_word(s: &[u64; 2060], which: Status) -> u64
+    ensures { λ r. ⌜ r ≡ wordOf (isIn which) (tableOf (plainOf (now (s .entry))) .slots) ⌝ }
 {
-    let a = h.outside;
-    put_counts(out, at, &a);
+    let mut w: u64 = 0;
+    let mut i: u64 = 64;
+    while 0 < i {
+        i -= 1;
+        let n = ids::slot_of(Tag(i));
+        let v = words::load(s, n);
+        w = w * 2 + status::is_in(v, which);
+    }
+    w
 }
 
-fn put_handles(out: &mut [u8], at: usize, n: Handles)
-    requires { ⌜ at ≤ 0x1_0000 ⌝ }
-    ensures { λ r. ⌜ now (out .exit) ≡ sets (now (out .entry)) at (bytesOf (n .at)) ⌝ }
-    ensures { λ r. ⌜ length (n .at) ≡ 64 ⌝ }
+fn ones(word: u64) -> u32
+    ensures { λ r. ⌜ r ≡ onesIn word ⌝ }
 {
-    let a = n.at;
-    put_counts(out, at, &a);
+    u64::count_ones(word)
+}
+
+// The four status words, each with its count of ones.
+pub fn statuses(s: &[u64; 2060]) -> [u64; 8]
+    ensures { λ r. ⌜ r ≡ statusWords (tableOf (plainOf (now (s .entry)))) ⌝ }
+{
+    let placeholder = status_word(s, Status::Placeholder);
+    let waiting = status_word(s, Status::Waiting);
+    let responded = status_word(s, Status::Responded);
+    let fmap = status_word(s, Status::Fmap);
+    [
+        placeholder,
+        ones(placeholder) as u64,
+        waiting,
+        ones(waiting) as u64,
+        responded,
+        ones(responded) as u64,
+        fmap,
+        ones(fmap) as u64,
+    ]
 }
 
 // The state at the end of a run.
-pub fn put_state(out: &mut [u8], s: State)
-    ensures { λ r. ⌜ ((ws : Words ℕ) → now (out .exit) ≡ sets (now (out .entry)) 0 (stateBytes (world s ws))) ⌝ }
-    ensures { λ r. ⌜ ((ws : Words ℕ) → length (stateBytes (world s ws)) ≡ stateSize) ⌝ }
+pub fn put_state(out: &mut [u8], s: &[u64; 2060])
+    ensures { λ r. ⌜ now (out .exit) ≡ sets (now (out .entry)) 0 (stateBytes (plainOf (now (s .entry)))) ⌝ }
+    ensures { λ r. ⌜ length (stateBytes (plainOf (now (s .entry)))) ≡ stateSize ⌝ }
 {
-    let t = s.table;
-    let h = t.holds;
-    let d = s.driver;
-    let n = d.handles;
-    let q = d.queue;
-    le_put::put8(out, 0, q.len);
-    put_holds(out, 8, h);
-    put_outside(out, 520, h);
-    put_handles(out, 1032, n);
-    put_statuses(out, 1544, t);
+    let all = words::all(s);
+    let outside = words::outside(s);
+    let handles = words::handles(s);
+    let statuses = statuses(s);
+    le_put::put8(out, 0, words::unread(s));
+    put_part(out, 8, all);
+    put_part(out, 520, outside);
+    put_part(out, 1032, handles);
+    put_counts(out, 1544, &statuses);
 }

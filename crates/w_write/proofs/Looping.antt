@@ -194,8 +194,8 @@ module _ (ws fx bs : List ℕ) where
 
   pub with-room :
       length bs / 16 ≤ length fx / 54 → (x : Outcome) → x ≡ writeOn (plainOf ws) (entriesOf bs) 0 [] → (xs gx : List ℕ) (a : Answer) (j : ℕ) → a ≡ x .answer → gx ≡ sets fx 0 (x .effects)
-      → j ≡ length (x .effects) → xs ≡ storedAll ws (writeStores (plainOf ws) (entriesOf bs)) → Writes ws xs fx gx bs a j
-  with-room q x e xs gx a j ea eg ej ex =
+      → j ≡ length (x .effects) → xs ≡ storedAll ws (writeStores (plainOf ws) (entriesOf bs)) → plainOf xs ≡ x .world → Writes ws xs fx gx bs a j
+  with-room q x e xs gx a j ea eg ej ex el =
       let t = le-ltb (length fx) (54 * (length bs / 16)) (omega (arith, q)) in
       let z : x ≡ o = e ∙ ap (λ (b : Bool). cond b (refuse (plainOf ws) 204) (writeOn (plainOf ws) (entriesOf bs) 0 [])) (sym t) in
       record {
@@ -203,6 +203,7 @@ module _ (ws fx bs : List ℕ) where
         lent = eg ∙ ap (λ (y : Outcome). sets fx 0 (y .effects)) z;
         count = ej ∙ ap (λ (y : Outcome). length (y .effects)) z;
         words = ex ∙ ap (λ (b : Bool). storedAll ws (cond b [] (writeStores (plainOf ws) (entriesOf bs)))) (sym t);
+        left = el ∙ ap (λ (y : Outcome). y .world) z;
       }
 
   pub too-short : length fx / 54 < length bs / 16 → Writes ws ws fx fx bs (no 204) 0
@@ -214,6 +215,7 @@ module _ (ws fx bs : List ℕ) where
         lent = ap (λ (y : Outcome). sets fx 0 (y .effects)) z;
         count = ap (λ (y : Outcome). length (y .effects)) z;
         words = ap (λ (b : Bool). storedAll ws (cond b [] (writeStores (plainOf ws) (entriesOf bs)))) (sym t);
+        left = ap (λ (y : Outcome). y .world) z;
       }
 
 -- the end

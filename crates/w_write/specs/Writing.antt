@@ -37,9 +37,10 @@ pub record Enters (ws xs fx gx : List ℕ) (at : ℕ) (e : Cqe) (k j : ℕ) : Ty
   pub stored : xs ≡ storedAll ws (entryStores (plainOf ws) e)
   pub left : plainOf xs ≡ after (plainOf ws) (e .tag) (decisionAt (plainOf ws) e)
 
--- a write: its answer, the effects in the lent words and how many words these are, and every word of the state
+-- a write: its answer, the effects in the lent words and how many words these are, every word of the state, and so the plain state
 pub record Writes (ws xs fx gx bs : List ℕ) (a : Answer) (j : ℕ) : Type 0 where
   pub answer : a ≡ step (plainOf ws) (on (write (length fx) bs)) .answer
   pub lent : gx ≡ sets fx 0 (step (plainOf ws) (on (write (length fx) bs)) .effects)
   pub count : j ≡ length (step (plainOf ws) (on (write (length fx) bs)) .effects)
   pub words : xs ≡ wordsAfter ws (on (write (length fx) bs))
+  pub left : plainOf xs ≡ step (plainOf ws) (on (write (length fx) bs)) .world

@@ -1,8 +1,8 @@
 -- `answer_words::wake_words` meets its contract. Assumes nothing.
-use mathlib.Core.Path.{refl, sym, ap, _∙_}
+use mathlib.Core.Path.{sym, ap, _∙_}
 use Rattle.events.specs.Wake.{responseFrom}
 use Rattle.answer_words.specs.Words.{replyOf, fdsOf}
-use Rattle.answer_words.proofs.Laws.{with-reply, without-reply}
+use Rattle.answer_words.proofs.Laws.{with-reply, without-reply, settled-wake}
 use borrow.Author.Needs.{needs}
 use Rattle.answer_words.proofs.wake_words.Statement.{statement}
 use Rattle.answer_words.proofs.wake_words.Tie as tie
@@ -24,7 +24,8 @@ returns c =
     let a = c .before .before .before .before .before .before .args in
     let w = c .before .before .before .before .before .words .ensures (responseFrom (a .r) (a .fds)) in
     let e = sym (with-reply (responseFrom (a .r) (a .fds)) (a .a) _ w (c .before .before .if1 .taken)) in
-    (w, (c .before .reply-words .ensures ∙ ap replyOf e, (c .list-words .ensures ∙ ap fdsOf e, (c .before .before .before .before .effect-words .ensures, refl))))
+    let fx = c .before .before .before .before .effect-words .ensures in
+    λ ws xs v d. settled-wake ws xs v _ _ d _ w (c .before .reply-words .ensures ∙ ap replyOf e) (c .list-words .ensures ∙ ap fdsOf e) (fx .0) (fx .1)
 
 lone-requires : tie.Need-lone-requires
 lone-requires c κs = search needs
@@ -37,7 +38,8 @@ returns-2 c =
     let a = c .before .before .before .before .before .before .args in
     let w = c .before .before .before .before .before .words .ensures (responseFrom (a .r) (a .fds)) in
     let n = without-reply (responseFrom (a .r) (a .fds)) (a .a) _ w (c .before .before .if1 .left) in
-    (w, (c .before .lone .ensures ∙ n .0, (c .empty .ensures ∙ n .1, (c .before .before .before .before .effect-words .ensures, refl))))
+    let fx = c .before .before .before .before .effect-words .ensures in
+    λ ws xs v d. settled-wake ws xs v _ _ d _ w (c .before .lone .ensures ∙ n .0) (c .empty .ensures ∙ n .1) (fx .0) (fx .1)
 
 pub wake-words-spec : {M : Type 1} → statement M
 wake-words-spec =

@@ -22,11 +22,11 @@ same-length c = search needs
 
 returns : tie.Need-returns
 returns c =
-    let a = c .before .before .before .before .before .before .before .before .before .args in
-    let fx = effectWords (a .e) in
+    let a = c .before .before .before .before .before .before .before .before .before .before .args in
+    let fx = effectWords (a .done .effect) in
     let p = c .before .before .before .before .before .before .put-answer .ensures in
     let r = c .before .before .put-rest .ensures in
-    let t = step-runs (a .out .now) _ _ (bytesOf (answerWords (said (a .a)))) (bytesOf (length fx ∷ fx)) (bytes8 0) _ _ (p .0) (p .1 .0) (r .0) (r .1 .0) in
+    let t = step-runs (a .out .now) _ _ (bytesOf (answerWords (said (a .done .answer)))) (bytesOf (length fx ∷ fx)) (bytes8 0) _ _ (p .0) (p .1 .0) (r .0) (r .1 .0) in
     (t .0, (t .1, omega (arith, r .1 .1, p .1 .1)))
 
 pub put-step-spec : {M : Type 1} → statement M

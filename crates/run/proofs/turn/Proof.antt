@@ -1,56 +1,80 @@
 -- `run::turn` meets its contract. Assumes nothing.
-use Rattle.run.proofs.Lanes.{no-read}
-use Rattle.run.proofs.ByKind.{as-turn, as-part, parts, part-high, room-other}
-use Rattle.run.proofs.Turns.{front-length}
-use Rattle.part_step.specs.PartStep.{placeOf}
-use lib.ListN.{take}
-use native.Mathlib.Omega.{arith}
-use Prim.Native.Nat.{_<_}
 use borrow.Author.Needs.{needs}
+use Rattle.run.proofs.ByKind.{tail-there, turned-wake, turned-read, turned-write, turned-other}
+use Rattle.record.specs.Record.{tailAt, tailOf}
+use lib.ListN.{length, take, drop}
 use Rattle.run.proofs.turn.Statement.{statement}
 use Rattle.run.proofs.turn.Tie as tie
+use Rattle.run.proofs.event_turn.Reads as event-turn-reads
+use Rattle.run.proofs.read_turn.Reads as read-turn-reads
+use Rattle.run.proofs.wake_turn.Reads as wake-turn-reads
+use Rattle.run.proofs.write_turn.Reads as write-turn-reads
 
 wake-turn-requires : tie.Need-wake-turn-requires
 wake-turn-requires c κs = search needs
+
+read-turn-requires : tie.Need-read-turn-requires
+read-turn-requires c κs = search needs
+
+write-turn-requires : tie.Need-write-turn-requires
+write-turn-requires c κs = (c .before .before .before .before .before .before .before .before .before .before .pre .0, tail-there (c .before .before .before .before .before .before .before .before .before .before .args .rec .now) (c .before .before .before .before .before .before .before .before .before .before .args .fx .now) (c .before .before .before .before .before .before .before .before .before .before .args .r) (c .before .before .before .before .before .before .before .before .before .before .pre .2) (c .before .before .before .before .before .before .before .before .before .before .pre .1))
+
+event-turn-requires : tie.Need-event-turn-requires
+event-turn-requires c κs = search needs
 
 same-length : tie.Need-same-length
 same-length c = search needs
 
 returns : tie.Need-returns
-returns c = let a = c .before .before .before .before .before .before .before .before .before .before .args in (λ s bs lent long. as-turn s (a .p) (c .before .before .wake-turn .result .part) _ _ _ _ _ _ (a .r) (take (a .r .first) (a .first .now)) (take (a .r .second) (a .second .now)) bs lent (a .r .kind) 14 (c .before .before .before .before .before .before .if1 .taken) (c .before .before .wake-turn .ensures .0 s (a .all .now) long), room-other (a .r) _ (c .before .before .wake-turn .ensures .1))
-
-cast-n : tie.Need-cast-n
-cast-n c = search needs
-
-cast-m : tie.Need-cast-m
-cast-m c = search needs
-
-slice-aggregate-list-turn : tie.Need-slice-aggregate-list-turn
-slice-aggregate-list-turn c = let a = c .before .before .before .before .before .before .before .before .before .before .args in front-length (a .first .now) (a .r .first) (let z : a .r .first < 256 = search needs in omega (arith, z, c .before .before .before .before .before .before .before .before .before .before .pre .1 .1 .0))
-
-slice-aggregate-list-turn-2 : tie.Need-slice-aggregate-list-turn-2
-slice-aggregate-list-turn-2 c = let a = c .before .before .before .before .before .before .before .before .before .before .before .args in front-length (a .second .now) (a .r .second) (let z : a .r .second < 256 = search needs in omega (arith, z, c .before .before .before .before .before .before .before .before .before .before .before .pre .1 .1 .1))
-
-list-turn-requires : tie.Need-list-turn-requires
-list-turn-requires c κs = search needs
+returns c = turned-wake (c .before .before .before .before .before .before .before .before .before .before .before .before .args .rec .now) (c .before .before .before .before .before .before .before .before .before .before .before .before .args .fx .now) (c .before .before .before .before .before .before .before .before .before .before .before .before .args .r) (c .before .before .before .before .before .before .before .before .before .before .before .before .pre .2) (c .before .before .before .before .before .before .before .before .before .before .before .before .args .s .now) _ (c .before .before .before .before .before .before .before .before .before .before .before .before .args .out .now) _ _ (c .before .before .before .before .before .match .keys1) (c .before .before .wake-turn .ensures .0) (c .before .before .wake-turn .ensures .1)
 
 same-length-2 : tie.Need-same-length-2
 same-length-2 c = search needs
 
+same-length-3 : tie.Need-same-length-3
+same-length-3 c = search needs
+
 returns-2 : tie.Need-returns-2
-returns-2 c = let a = c .before .before .before .before .before .before .before .before .before .before .before .before .before .before .before .args in let g = part-high (a .r .kind) (c .before .before .before .before .before .before .before .before .before .before .before .before .before .before .before .pre .0) in (λ s bs lent long. as-part s (a .p) (c .before .before .list-turn .result .part) _ _ _ _ _ _ (a .r) (take (a .r .first) (a .first .now)) (take (a .r .second) (a .second .now)) bs lent (a .r .kind) (placeOf (a .r .kind) (a .r) (take (a .r .first) (a .first .now)) (a .p .head)) _ (parts (a .r) (take (a .r .first) (a .first .now)) (take (a .r .second) (a .second .now)) bs lent (a .r .kind) (g .0) (c .before .before .before .before .before .before .before .before .before .before .before .if1 .left) (no-read (a .r .kind) (c .before .before .before .before .before .before .before .before .before .before .before .before .before .before .before .pre .1 .0)) (g .1)) (c .before .before .list-turn .ensures .0 s), room-other (a .r) _ (c .before .before .list-turn .ensures .1))
+returns-2 c = turned-read (c .before .before .before .before .before .before .before .before .before .before .before .before .before .before .before .args .rec .now) (c .before .before .before .before .before .before .before .before .before .before .before .before .before .before .before .args .fx .now) (c .before .before .before .before .before .before .before .before .before .before .before .before .before .before .before .args .r) (c .before .before .before .before .before .before .before .before .before .before .before .before .before .before .before .pre .2) (c .before .before .before .before .before .before .before .before .before .before .before .before .before .before .before .args .s .now) _ (c .before .before .before .before .before .before .before .before .before .before .before .before .before .before .before .args .out .now) _ _ (c .before .before .before .before .before .before .before .before .match .keys2) (c .before .before .before .before .read-turn .ensures .0) (c .before .before .before .before .read-turn .ensures .1)
+
+same-length-4 : tie.Need-same-length-4
+same-length-4 c = search needs
+
+same-length-5 : tie.Need-same-length-5
+same-length-5 c = search needs
+
+returns-3 : tie.Need-returns-3
+returns-3 c = turned-write (c .before .before .before .before .before .before .before .before .before .before .before .before .before .before .before .args .rec .now) (c .before .before .before .before .before .before .before .before .before .before .before .before .before .before .before .args .fx .now) (c .before .before .before .before .before .before .before .before .before .before .before .before .before .before .before .args .r) (c .before .before .before .before .before .before .before .before .before .before .before .before .before .before .before .pre .2) (c .before .before .before .before .before .before .before .before .before .before .before .before .before .before .before .args .s .now) _ (c .before .before .before .before .before .before .before .before .before .before .before .before .before .before .before .args .out .now) _ _ _ (c .before .before .before .before .before .before .before .before .match .keys3) (c .before .before .before .before .write-turn .ensures .0) (c .before .before .before .before .write-turn .ensures .1 .0) (c .before .before .before .before .write-turn .ensures .1 .1)
+
+same-length-6 : tie.Need-same-length-6
+same-length-6 c = search needs
+
+same-length-7 : tie.Need-same-length-7
+same-length-7 c = search needs
+
+same-length-8 : tie.Need-same-length-8
+same-length-8 c = search needs
+
+returns-4 : tie.Need-returns-4
+returns-4 c = turned-other (c .before .before .before .before .before .before .before .before .before .before .before .before .before .before .before .before .before .before .args .rec .now) (c .before .before .before .before .before .before .before .before .before .before .before .before .before .before .before .before .before .before .args .fx .now) (c .before .before .before .before .before .before .before .before .before .before .before .before .before .before .before .before .before .before .args .r) (c .before .before .before .before .before .before .before .before .before .before .before .before .before .before .before .before .before .before .pre .2) (c .before .before .before .before .before .before .before .before .before .before .before .before .before .before .before .before .before .before .args .s .now) _ (c .before .before .before .before .before .before .before .before .before .before .before .before .before .before .before .before .before .before .args .out .now) _ _ (c .before .before .before .before .before .before .before .before .before .before .before .match .rest .0 .0 .1, c .before .before .before .before .before .before .before .before .before .before .before .match .rest .0 .1, c .before .before .before .before .before .before .before .before .before .before .before .match .rest .1) (c .before .before .before .before .before .before .event-turn .ensures .0 (take (tailOf (c .before .before .before .before .before .before .before .before .before .before .before .before .before .before .before .before .before .before .args .r)) (drop (tailAt (c .before .before .before .before .before .before .before .before .before .before .before .before .before .before .before .before .before .before .args .r)) (c .before .before .before .before .before .before .before .before .before .before .before .before .before .before .before .before .before .before .args .rec .now))) (length (c .before .before .before .before .before .before .before .before .before .before .before .before .before .before .before .before .before .before .args .fx .now))) (c .before .before .before .before .before .before .event-turn .ensures .1)
 
 pub turn-spec : {M : Type 1} → statement M
 turn-spec =
     tie.close
     (tie.spec
     wake-turn-requires
+    read-turn-requires
+    write-turn-requires
+    event-turn-requires
     same-length
     returns
-    cast-n
-    cast-m
-    slice-aggregate-list-turn
-    slice-aggregate-list-turn-2
-    list-turn-requires
     same-length-2
-    returns-2)
+    same-length-3
+    returns-2
+    same-length-4
+    same-length-5
+    returns-3
+    same-length-6
+    same-length-7
+    same-length-8
+    returns-4)

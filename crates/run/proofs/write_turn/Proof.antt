@@ -1,12 +1,17 @@
 -- `run::write_turn` meets its contract. Assumes nothing.
 use borrow.Author.Needs.{needs}
+use Rattle.run.proofs.Turns.{front-length, tail-is, tail-counts, write-part, write-fits, write-back, write-told, write-most}
+use Rattle.record.specs.Record.{tailAt, tailOf}
+use lib.ListN.{take, drop}
+use native.Mathlib.Omega.{arith}
+use mathlib.Core.Path.{refl}
 use Rattle.run.proofs.write_turn.Statement.{statement}
 use Rattle.run.proofs.write_turn.Tie as tie
-use mathlib.Core.Path.{refl}
-use native.Mathlib.Omega.{arith}
-use Rattle.events.specs.World.{world}
-use Rattle.record.specs.Record.{tailAt, tailOf}
-use Rattle.run.proofs.Turns.{tail-counts, write-most, front-length, write-part, write-holds, write-fits, write-whole, write-back, write-none, tail-is, turned}
+use Rattle.lent_bytes.proofs.put_completed.Reads as put-completed-reads
+use Rattle.record.proofs.tail.Reads as tail-reads
+use Rattle.record.proofs.tail_at.Reads as tail-at-reads
+use Rattle.run_room.proofs.least.Reads as least-reads
+use Rattle.w_write.proofs.write.Reads as write-reads
 
 least-requires : tie.Need-least-requires
 least-requires c κs = search needs
@@ -21,7 +26,7 @@ slice-relend-prefix-write : tie.Need-slice-relend-prefix-write
 slice-relend-prefix-write c = search needs
 
 slice-aggregate-write : tie.Need-slice-aggregate-write
-slice-aggregate-write c = front-length (c .before .before .before .before .before .before .before .before .args .fx .now) (c .before .before .before .least .result) (omega (arith, c .before .before .before .least .ensures))
+slice-aggregate-write c = front-length (c .before .before .before .before .before .before .before .before .before .args .fx .now) (c .before .before .before .before .least .result) (omega (arith, c .before .before .before .before .least .ensures))
 
 add-write : tie.Need-add-write
 add-write c = search needs
@@ -39,10 +44,10 @@ write-requires : tie.Need-write-requires
 write-requires c κs = search needs
 
 slice-reshare-prefix-put-completed : tie.Need-slice-reshare-prefix-put-completed
-slice-reshare-prefix-put-completed c = write-fits (world (c .before .before .before .before .before .before .before .before .before .before .before .before .before .before .args .s) (c .before .before .before .before .before .before .before .before .before .before .before .before .before .before .args .words .now)) (c .before .before .before .before .before .before .before .before .before .before .before .before .before .before .pre .0) (c .before .before .before .before .before .before .before .before .before .before .before .before .before .before .args .r .words .0) (c .before .before .before .before .before .before .before .before .before .least .result) _ (c .before .before .before .before .write .result .words) (c .before .before .before .before .before .before .before .before .before .before .before .before .before .before .args .fx .now) _ _ _ (c .before .before .before .before .before .before .before .before .before .least .ensures) refl (c .before .before .before .before .write .ensures .1 .1 .1 (c .before .before .before .before .before .before .before .before .before .before .before .before .before .before .args .words .now)) (tail-is (c .before .before .before .before .before .before .before .before .before .before .before .before .before .before .args .rec .now) _ _ _ _ (c .before .before .before .before .before .before .before .before .tail-at .ensures .0) (c .before .before .before .before .before .before .before .tail .ensures .0)) (c .before .before .before .before .write .ensures .1 .1 .0 (c .before .before .before .before .before .before .before .before .before .before .before .before .before .before .args .words .now))
+slice-reshare-prefix-put-completed c = write-fits (c .before .before .before .before .before .before .before .before .before .before .before .before .before .before .args .s .now) _ (c .before .before .before .before .before .before .before .before .before .before .before .before .before .before .pre .0) (c .before .before .before .before .before .before .before .before .before .before .before .before .before .before .args .r .words .0) (c .before .before .before .before .before .before .before .before .before .least .result) (c .before .before .before .write .result .words) (c .before .before .before .before .before .before .before .before .before .before .before .before .before .before .args .fx .now) _ _ (take (tailOf (c .before .before .before .before .before .before .before .before .before .before .before .before .before .before .args .r)) (drop (tailAt (c .before .before .before .before .before .before .before .before .before .before .before .before .before .before .args .r)) (c .before .before .before .before .before .before .before .before .before .before .before .before .before .before .args .rec .now))) _ (c .before .before .before .before .before .before .before .before .before .least .ensures) (tail-is (c .before .before .before .before .before .before .before .before .before .before .before .before .before .before .args .rec .now) (c .before .before .before .before .before .before .before .before .tail-at .result) (c .before .before .before .before .before .before .before .tail .result) (tailAt (c .before .before .before .before .before .before .before .before .before .before .before .before .before .before .args .r)) (tailOf (c .before .before .before .before .before .before .before .before .before .before .before .before .before .before .args .r)) (c .before .before .before .before .before .before .before .before .tail-at .ensures .0) (c .before .before .before .before .before .before .before .tail .ensures .0)) (c .before .before .before .write .ensures)
 
 slice-aggregate-put-completed : tie.Need-slice-aggregate-put-completed
-slice-aggregate-put-completed c = write-part (world (c .before .before .before .before .before .before .before .before .before .before .before .before .before .before .before .args .s) (c .before .before .before .before .before .before .before .before .before .before .before .before .before .before .before .args .words .now)) (c .before .before .before .before .before .before .before .before .before .before .before .before .before .before .before .pre .0) (c .before .before .before .before .before .before .before .before .before .before .before .before .before .before .before .args .r .words .0) (c .before .before .before .before .before .before .before .before .before .before .least .result) _ (c .before .before .before .before .before .write .result .words) (c .before .before .before .before .before .before .before .before .before .before .before .before .before .before .before .args .fx .now) _ _ _ (c .before .before .before .before .before .before .before .before .before .before .least .ensures) refl (c .before .before .before .before .before .write .ensures .1 .1 .1 (c .before .before .before .before .before .before .before .before .before .before .before .before .before .before .before .args .words .now)) (tail-is (c .before .before .before .before .before .before .before .before .before .before .before .before .before .before .before .args .rec .now) _ _ _ _ (c .before .before .before .before .before .before .before .before .before .tail-at .ensures .0) (c .before .before .before .before .before .before .before .before .tail .ensures .0)) (c .before .before .before .before .before .write .ensures .1 .1 .0 (c .before .before .before .before .before .before .before .before .before .before .before .before .before .before .before .args .words .now))
+slice-aggregate-put-completed c = write-part (c .before .before .before .before .before .before .before .before .before .before .before .before .before .before .before .args .s .now) _ (c .before .before .before .before .before .before .before .before .before .before .before .before .before .before .before .pre .0) (c .before .before .before .before .before .before .before .before .before .before .before .before .before .before .before .args .r .words .0) (c .before .before .before .before .before .before .before .before .before .before .least .result) (c .before .before .before .before .write .result .words) (c .before .before .before .before .before .before .before .before .before .before .before .before .before .before .before .args .fx .now) _ _ (take (tailOf (c .before .before .before .before .before .before .before .before .before .before .before .before .before .before .before .args .r)) (drop (tailAt (c .before .before .before .before .before .before .before .before .before .before .before .before .before .before .before .args .r)) (c .before .before .before .before .before .before .before .before .before .before .before .before .before .before .before .args .rec .now))) _ (c .before .before .before .before .before .before .before .before .before .before .least .ensures) (tail-is (c .before .before .before .before .before .before .before .before .before .before .before .before .before .before .before .args .rec .now) (c .before .before .before .before .before .before .before .before .before .tail-at .result) (c .before .before .before .before .before .before .before .before .tail .result) (tailAt (c .before .before .before .before .before .before .before .before .before .before .before .before .before .before .before .args .r)) (tailOf (c .before .before .before .before .before .before .before .before .before .before .before .before .before .before .before .args .r)) (c .before .before .before .before .before .before .before .before .before .tail-at .ensures .0) (c .before .before .before .before .before .before .before .before .tail .ensures .0)) (c .before .before .before .before .write .ensures)
 
 put-completed-requires : tie.Need-put-completed-requires
 put-completed-requires c κs = search needs
@@ -54,7 +59,7 @@ same-length-2 : tie.Need-same-length-2
 same-length-2 c = search needs
 
 returns : tie.Need-returns
-returns c = let w = world (c .before .before .before .before .before .before .before .before .before .before .before .before .before .before .before .before .before .before .args .s) (c .before .before .before .before .before .before .before .before .before .before .before .before .before .before .before .before .before .before .args .words .now) in let t = turned (c .before .before .before .before .before .before .before .before .before .before .before .before .before .before .before .before .before .before .args .out .now) _ _ _ _ _ _ _ _ (write-whole (world (c .before .before .before .before .before .before .before .before .before .before .before .before .before .before .before .before .before .before .args .s) (c .before .before .before .before .before .before .before .before .before .before .before .before .before .before .before .before .before .before .args .words .now)) (c .before .before .before .before .before .before .before .before .before .before .before .before .before .before .before .before .before .before .pre .0) (c .before .before .before .before .before .before .before .before .before .before .before .before .before .before .before .before .before .before .args .r .words .0) (c .before .before .before .before .before .before .before .before .before .before .before .before .before .least .result) _ (c .before .before .before .before .before .before .before .before .write .result .words) (c .before .before .before .before .before .before .before .before .before .before .before .before .before .before .before .before .before .before .args .fx .now) _ _ _ (c .before .before .before .before .before .before .before .before .before .before .before .before .before .least .ensures) refl (c .before .before .before .before .before .before .before .before .write .ensures .1 .1 .1 (c .before .before .before .before .before .before .before .before .before .before .before .before .before .before .before .before .before .before .args .words .now)) (tail-is (c .before .before .before .before .before .before .before .before .before .before .before .before .before .before .before .before .before .before .args .rec .now) _ _ _ _ (c .before .before .before .before .before .before .before .before .before .before .before .before .tail-at .ensures .0) (c .before .before .before .before .before .before .before .before .before .before .before .tail .ensures .0)) (c .before .before .before .before .before .before .before .before .write .ensures .1 .1 .0 (c .before .before .before .before .before .before .before .before .before .before .before .before .before .before .before .before .before .before .args .words .now))) (c .before .before .before .before .before .before .before .before .write .ensures .0 (c .before .before .before .before .before .before .before .before .before .before .before .before .before .before .before .before .before .before .args .words .now)) (write-holds (world (c .before .before .before .before .before .before .before .before .before .before .before .before .before .before .before .before .before .before .args .s) (c .before .before .before .before .before .before .before .before .before .before .before .before .before .before .before .before .before .before .args .words .now)) (c .before .before .before .before .before .before .before .before .before .before .before .before .before .before .before .before .before .before .pre .0) (c .before .before .before .before .before .before .before .before .before .before .before .before .before .before .before .before .before .before .args .r .words .0) (c .before .before .before .before .before .before .before .before .before .before .before .before .before .least .result) _ (c .before .before .before .before .before .before .before .before .write .result .words) (c .before .before .before .before .before .before .before .before .before .before .before .before .before .before .before .before .before .before .args .fx .now) _ _ _ (c .before .before .before .before .before .before .before .before .before .before .before .before .before .least .ensures) refl (c .before .before .before .before .before .before .before .before .write .ensures .1 .1 .1 (c .before .before .before .before .before .before .before .before .before .before .before .before .before .before .before .before .before .before .args .words .now)) (tail-is (c .before .before .before .before .before .before .before .before .before .before .before .before .before .before .before .before .before .before .args .rec .now) _ _ _ _ (c .before .before .before .before .before .before .before .before .before .before .before .before .tail-at .ensures .0) (c .before .before .before .before .before .before .before .before .before .before .before .tail .ensures .0)) (c .before .before .before .before .before .before .before .before .write .ensures .1 .1 .0 (c .before .before .before .before .before .before .before .before .before .before .before .before .before .before .before .before .before .before .args .words .now))) (write-none (world (c .before .before .before .before .before .before .before .before .before .before .before .before .before .before .before .before .before .before .args .s) (c .before .before .before .before .before .before .before .before .before .before .before .before .before .before .before .before .before .before .args .words .now)) (c .before .before .before .before .before .before .before .before .before .before .before .before .before .before .before .before .before .before .pre .0) (c .before .before .before .before .before .before .before .before .before .before .before .before .before .before .before .before .before .before .args .r .words .0) (c .before .before .before .before .before .before .before .before .before .before .before .before .before .least .result) _ (c .before .before .before .before .before .before .before .before .write .result .words) (c .before .before .before .before .before .before .before .before .before .before .before .before .before .before .before .before .before .before .args .fx .now) _ _ _ (c .before .before .before .before .before .before .before .before .before .before .before .before .before .least .ensures) refl (c .before .before .before .before .before .before .before .before .write .ensures .1 .1 .1 (c .before .before .before .before .before .before .before .before .before .before .before .before .before .before .before .before .before .before .args .words .now)) (tail-is (c .before .before .before .before .before .before .before .before .before .before .before .before .before .before .before .before .before .before .args .rec .now) _ _ _ _ (c .before .before .before .before .before .before .before .before .before .before .before .before .tail-at .ensures .0) (c .before .before .before .before .before .before .before .before .before .before .before .tail .ensures .0)) (c .before .before .before .before .before .before .before .before .write .ensures .1 .1 .0 (c .before .before .before .before .before .before .before .before .before .before .before .before .before .before .before .before .before .before .args .words .now))) (c .before .before .before .before .before .before .before .before .write .ensures .1 .0 (c .before .before .before .before .before .before .before .before .before .before .before .before .before .before .before .before .before .before .args .words .now)) (c .before .before .put-completed .ensures .0, c .before .before .put-completed .ensures .1 .0) in (t .0, (t .1 .0, (t .1 .1, (write-back (world (c .before .before .before .before .before .before .before .before .before .before .before .before .before .before .before .before .before .before .args .s) (c .before .before .before .before .before .before .before .before .before .before .before .before .before .before .before .before .before .before .args .words .now)) (c .before .before .before .before .before .before .before .before .before .before .before .before .before .before .before .before .before .before .pre .0) (c .before .before .before .before .before .before .before .before .before .before .before .before .before .before .before .before .before .before .args .r .words .0) (c .before .before .before .before .before .before .before .before .before .before .before .before .before .least .result) _ (c .before .before .before .before .before .before .before .before .write .result .words) (c .before .before .before .before .before .before .before .before .before .before .before .before .before .before .before .before .before .before .args .fx .now) _ _ _ (c .before .before .before .before .before .before .before .before .before .before .before .before .before .least .ensures) refl (c .before .before .before .before .before .before .before .before .write .ensures .1 .1 .1 (c .before .before .before .before .before .before .before .before .before .before .before .before .before .before .before .before .before .before .args .words .now)) (tail-is (c .before .before .before .before .before .before .before .before .before .before .before .before .before .before .before .before .before .before .args .rec .now) _ _ _ _ (c .before .before .before .before .before .before .before .before .before .before .before .before .tail-at .ensures .0) (c .before .before .before .before .before .before .before .before .before .before .before .tail .ensures .0)) (c .before .before .before .before .before .before .before .before .write .ensures .1 .1 .0 (c .before .before .before .before .before .before .before .before .before .before .before .before .before .before .before .before .before .before .args .words .now)), omega (arith, c .before .before .put-completed .ensures .1 .1, write-part (world (c .before .before .before .before .before .before .before .before .before .before .before .before .before .before .before .before .before .before .args .s) (c .before .before .before .before .before .before .before .before .before .before .before .before .before .before .before .before .before .before .args .words .now)) (c .before .before .before .before .before .before .before .before .before .before .before .before .before .before .before .before .before .before .pre .0) (c .before .before .before .before .before .before .before .before .before .before .before .before .before .before .before .before .before .before .args .r .words .0) (c .before .before .before .before .before .before .before .before .before .before .before .before .before .least .result) _ (c .before .before .before .before .before .before .before .before .write .result .words) (c .before .before .before .before .before .before .before .before .before .before .before .before .before .before .before .before .before .before .args .fx .now) _ _ _ (c .before .before .before .before .before .before .before .before .before .before .before .before .before .least .ensures) refl (c .before .before .before .before .before .before .before .before .write .ensures .1 .1 .1 (c .before .before .before .before .before .before .before .before .before .before .before .before .before .before .before .before .before .before .args .words .now)) (tail-is (c .before .before .before .before .before .before .before .before .before .before .before .before .before .before .before .before .before .before .args .rec .now) _ _ _ _ (c .before .before .before .before .before .before .before .before .before .before .before .before .tail-at .ensures .0) (c .before .before .before .before .before .before .before .before .before .before .before .tail .ensures .0)) (c .before .before .before .before .before .before .before .before .write .ensures .1 .1 .0 (c .before .before .before .before .before .before .before .before .before .before .before .before .before .before .before .before .before .before .args .words .now)), write-most (world (c .before .before .before .before .before .before .before .before .before .before .before .before .before .before .before .before .before .before .args .s) (c .before .before .before .before .before .before .before .before .before .before .before .before .before .before .before .before .before .before .args .words .now)) (c .before .before .before .before .before .before .before .before .before .before .before .before .before .before .before .before .before .before .pre .0) (c .before .before .before .before .before .before .before .before .before .before .before .before .before .before .before .before .before .before .args .r .words .0) (c .before .before .before .before .before .before .before .before .before .before .before .before .before .least .result) _ (c .before .before .before .before .before .before .before .before .write .result .words) (c .before .before .before .before .before .before .before .before .before .before .before .before .before .before .before .before .before .before .args .fx .now) _ _ _ (c .before .before .before .before .before .before .before .before .before .before .before .before .before .least .ensures) refl (c .before .before .before .before .before .before .before .before .write .ensures .1 .1 .1 (c .before .before .before .before .before .before .before .before .before .before .before .before .before .before .before .before .before .before .args .words .now)) (tail-is (c .before .before .before .before .before .before .before .before .before .before .before .before .before .before .before .before .before .before .args .rec .now) _ _ _ _ (c .before .before .before .before .before .before .before .before .before .before .before .before .tail-at .ensures .0) (c .before .before .before .before .before .before .before .before .before .before .before .tail .ensures .0)) (c .before .before .before .before .before .before .before .before .write .ensures .1 .1 .0 (c .before .before .before .before .before .before .before .before .before .before .before .before .before .before .before .before .before .before .args .words .now)) (tailOf (c .before .before .before .before .before .before .before .before .before .before .before .before .before .before .before .before .before .before .args .r)) (tail-counts (c .before .before .before .before .before .before .before .before .before .before .before .before .before .before .before .before .before .before .args .rec .now) (tailAt (c .before .before .before .before .before .before .before .before .before .before .before .before .before .before .before .before .before .before .args .r)) (tailOf (c .before .before .before .before .before .before .before .before .before .before .before .before .before .before .before .before .before .before .args .r)) (c .before .before .before .before .before .before .before .before .before .before .before .before .before .before .before .before .before .before .pre .1)))))))
+returns c = (write-told (c .before .before .before .before .before .before .before .before .before .before .before .before .before .before .before .before .before .before .args .s .now) _ (c .before .before .before .before .before .before .before .before .before .before .before .before .before .before .before .before .before .before .pre .0) (c .before .before .before .before .before .before .before .before .before .before .before .before .before .before .before .before .before .before .args .r .words .0) (c .before .before .before .before .before .before .before .before .before .before .before .before .before .least .result) (c .before .before .before .before .before .before .before .write .result .words) (c .before .before .before .before .before .before .before .before .before .before .before .before .before .before .before .before .before .before .args .fx .now) _ _ (take (tailOf (c .before .before .before .before .before .before .before .before .before .before .before .before .before .before .before .before .before .before .args .r)) (drop (tailAt (c .before .before .before .before .before .before .before .before .before .before .before .before .before .before .before .before .before .before .args .r)) (c .before .before .before .before .before .before .before .before .before .before .before .before .before .before .before .before .before .before .args .rec .now))) _ (c .before .before .before .before .before .before .before .before .before .before .before .before .before .least .ensures) (tail-is (c .before .before .before .before .before .before .before .before .before .before .before .before .before .before .before .before .before .before .args .rec .now) (c .before .before .before .before .before .before .before .before .before .before .before .before .tail-at .result) (c .before .before .before .before .before .before .before .before .before .before .before .tail .result) (tailAt (c .before .before .before .before .before .before .before .before .before .before .before .before .before .before .before .before .before .before .args .r)) (tailOf (c .before .before .before .before .before .before .before .before .before .before .before .before .before .before .before .before .before .before .args .r)) (c .before .before .before .before .before .before .before .before .before .before .before .before .tail-at .ensures .0) (c .before .before .before .before .before .before .before .before .before .before .before .tail .ensures .0)) (c .before .before .before .before .before .before .before .write .ensures) (c .before .before .before .before .before .before .before .before .before .before .before .before .before .before .before .before .before .before .args .out .now) _ _ (c .before .before .put-completed .ensures .0) (c .before .before .put-completed .ensures .1 .0), (write-back (c .before .before .before .before .before .before .before .before .before .before .before .before .before .before .before .before .before .before .args .s .now) _ (c .before .before .before .before .before .before .before .before .before .before .before .before .before .before .before .before .before .before .pre .0) (c .before .before .before .before .before .before .before .before .before .before .before .before .before .before .before .before .before .before .args .r .words .0) (c .before .before .before .before .before .before .before .before .before .before .before .before .before .least .result) (c .before .before .before .before .before .before .before .write .result .words) (c .before .before .before .before .before .before .before .before .before .before .before .before .before .before .before .before .before .before .args .fx .now) _ _ (take (tailOf (c .before .before .before .before .before .before .before .before .before .before .before .before .before .before .before .before .before .before .args .r)) (drop (tailAt (c .before .before .before .before .before .before .before .before .before .before .before .before .before .before .before .before .before .before .args .r)) (c .before .before .before .before .before .before .before .before .before .before .before .before .before .before .before .before .before .before .args .rec .now))) _ (c .before .before .before .before .before .before .before .before .before .before .before .before .before .least .ensures) (tail-is (c .before .before .before .before .before .before .before .before .before .before .before .before .before .before .before .before .before .before .args .rec .now) (c .before .before .before .before .before .before .before .before .before .before .before .before .tail-at .result) (c .before .before .before .before .before .before .before .before .before .before .before .tail .result) (tailAt (c .before .before .before .before .before .before .before .before .before .before .before .before .before .before .before .before .before .before .args .r)) (tailOf (c .before .before .before .before .before .before .before .before .before .before .before .before .before .before .before .before .before .before .args .r)) (c .before .before .before .before .before .before .before .before .before .before .before .before .tail-at .ensures .0) (c .before .before .before .before .before .before .before .before .before .before .before .tail .ensures .0)) (c .before .before .before .before .before .before .before .write .ensures), write-most (c .before .before .before .before .before .before .before .before .before .before .before .before .before .before .before .before .before .before .args .s .now) _ (c .before .before .before .before .before .before .before .before .before .before .before .before .before .before .before .before .before .before .pre .0) (c .before .before .before .before .before .before .before .before .before .before .before .before .before .before .before .before .before .before .args .r .words .0) (c .before .before .before .before .before .before .before .before .before .before .before .before .before .least .result) (c .before .before .before .before .before .before .before .write .result .words) (c .before .before .before .before .before .before .before .before .before .before .before .before .before .before .before .before .before .before .args .fx .now) _ _ (take (tailOf (c .before .before .before .before .before .before .before .before .before .before .before .before .before .before .before .before .before .before .args .r)) (drop (tailAt (c .before .before .before .before .before .before .before .before .before .before .before .before .before .before .before .before .before .before .args .r)) (c .before .before .before .before .before .before .before .before .before .before .before .before .before .before .before .before .before .before .args .rec .now))) _ (c .before .before .before .before .before .before .before .before .before .before .before .before .before .least .ensures) (tail-is (c .before .before .before .before .before .before .before .before .before .before .before .before .before .before .before .before .before .before .args .rec .now) (c .before .before .before .before .before .before .before .before .before .before .before .before .tail-at .result) (c .before .before .before .before .before .before .before .before .before .before .before .tail .result) (tailAt (c .before .before .before .before .before .before .before .before .before .before .before .before .before .before .before .before .before .before .args .r)) (tailOf (c .before .before .before .before .before .before .before .before .before .before .before .before .before .before .before .before .before .before .args .r)) (c .before .before .before .before .before .before .before .before .before .before .before .before .tail-at .ensures .0) (c .before .before .before .before .before .before .before .before .before .before .before .tail .ensures .0)) (c .before .before .before .before .before .before .before .write .ensures) _ _ (tail-counts (c .before .before .before .before .before .before .before .before .before .before .before .before .before .before .before .before .before .before .args .rec .now) (tailAt (c .before .before .before .before .before .before .before .before .before .before .before .before .before .before .before .before .before .before .args .r)) (tailOf (c .before .before .before .before .before .before .before .before .before .before .before .before .before .before .before .before .before .before .args .r)) (c .before .before .before .before .before .before .before .before .before .before .before .before .before .before .before .before .before .before .pre .1)) (c .before .before .put-completed .ensures .1 .1)))
 
 pub write-turn-spec : {M : Type 1} → statement M
 write-turn-spec =

@@ -1,42 +1,79 @@
 -- `state_bytes::put_state` meets its contract. Assumes nothing.
 use borrow.Author.Needs.{needs}
+use Rattle.state_bytes.proofs.Laws.{stateOf, told, whole, whole-size}
+use Rattle.state_bytes.specs.StateBytes.{stateBytes}
+use Rattle.layout.specs.Layout.{plainOf}
+use Rattle.le.specs.Le.{bytesOf}
+use lib.Seq.{sets}
+use lib.ListN.{length}
+use mathlib.Core.Path.{_≡_, sym, ap, _∙_}
+use native.Mathlib.Omega.{arith}
+use mathlib.Core.List.{List}
+use Prim.Native.Nat.{ℕ}
 use Rattle.state_bytes.proofs.put_state.Statement.{statement}
 use Rattle.state_bytes.proofs.put_state.Tie as tie
-use mathlib.Core.Path.{refl}
-use mathlib.Core.List.{[], _∷_, _++_}
-use Rattle.le.specs.Le.{bytesOf}
-use Rattle.state_bytes.specs.StateBytes.{statusWords}
-use Rattle.state_bytes.proofs.Laws.{next-run, sixty-four, whole-size}
+use Rattle.le_put.proofs.put8.Reads as put8-reads
+use Rattle.state_bytes.proofs.put_counts.Reads as put-counts-reads
+use Rattle.state_bytes.proofs.put_part.Reads as put-part-reads
+use Rattle.state_bytes.proofs.statuses.Reads as statuses-reads
+use Rattle.words.proofs.all.Reads as all-reads
+use Rattle.words.proofs.handles.Reads as handles-reads
+use Rattle.words.proofs.outside.Reads as outside-reads
+use Rattle.words.proofs.unread.Reads as unread-reads
+
+all-requires : tie.Need-all-requires
+all-requires c κs = search needs
+
+outside-requires : tie.Need-outside-requires
+outside-requires c κs = search needs
+
+handles-requires : tie.Need-handles-requires
+handles-requires c κs = search needs
+
+statuses-requires : tie.Need-statuses-requires
+statuses-requires c κs = search needs
+
+unread-requires : tie.Need-unread-requires
+unread-requires c κs = search needs
 
 put8-requires : tie.Need-put8-requires
 put8-requires c κs = search needs
 
-put-holds-requires : tie.Need-put-holds-requires
-put-holds-requires c κs = search needs
+put-part-requires : tie.Need-put-part-requires
+put-part-requires c κs = search needs
 
-put-outside-requires : tie.Need-put-outside-requires
-put-outside-requires c κs = search needs
+put-part-requires-2 : tie.Need-put-part-requires-2
+put-part-requires-2 c κs = search needs
 
-put-handles-requires : tie.Need-put-handles-requires
-put-handles-requires c κs = search needs
+put-part-requires-3 : tie.Need-put-part-requires-3
+put-part-requires-3 c κs = search needs
 
-put-statuses-requires : tie.Need-put-statuses-requires
-put-statuses-requires c κs = search needs
+slice-aggregate-put-counts : tie.Need-slice-aggregate-put-counts
+slice-aggregate-put-counts c = search needs
+
+put-counts-requires : tie.Need-put-counts-requires
+put-counts-requires c κs = (omega arith, omega (arith, ap length (c .before .before .before .before .before .before .before .before .before .before .before .before .before .before .before .before .before .before .before .statuses .ensures)))
 
 same-length : tie.Need-same-length
 same-length c = search needs
 
 returns : tie.Need-returns
-returns c = let c2 = c .before .before in let c6 = c2 .before .before .before .before in let c10 = c6 .before .before .before .before in let c14 = c10 .before .before .before .before in let c18 = c14 .before .before .before .before in let c26 = c18 .before .before .before .before .before .before .before .before in let l = c26 .args .out .now in let s = c26 .args .s in let q = bytesOf (s .driver .queue .len ∷ []) in let h = bytesOf (s .table .holds .holds) in let o = bytesOf (s .table .holds .outside) in let n = bytesOf (s .driver .handles .at) in let e = next-run l _ _ (q ++ h ++ o ++ n) (bytesOf (statusWords (s .table))) 0 1544 1544 (next-run l _ _ (q ++ h ++ o) n 0 1032 1032 (next-run l _ _ (q ++ h) o 0 520 520 (next-run l _ _ q h 0 8 8 (c18 .put8 .ensures) refl refl (c14 .put-holds .ensures .0)) (sixty-four q (s .table .holds .holds) 8 refl (c14 .put-holds .ensures .1)) refl (c10 .put-outside .ensures .0)) (sixty-four (q ++ h) (s .table .holds .outside) 520 (sixty-four q (s .table .holds .holds) 8 refl (c14 .put-holds .ensures .1)) (c10 .put-outside .ensures .1)) refl (c6 .put-handles .ensures .0)) (sixty-four (q ++ h ++ o) (s .driver .handles .at) 1032 (sixty-four (q ++ h) (s .table .holds .outside) 520 (sixty-four q (s .table .holds .holds) 8 refl (c14 .put-holds .ensures .1)) (c10 .put-outside .ensures .1)) (c6 .put-handles .ensures .1)) refl (c2 .put-statuses .ensures) in (λ ws. e, λ ws. whole-size (q ++ h ++ o) n (bytesOf (statusWords (s .table))) (s .driver .handles .at) refl (c6 .put-handles .ensures .1) (sixty-four (q ++ h) (s .table .holds .outside) 520 (sixty-four q (s .table .holds .holds) 8 refl (c14 .put-holds .ensures .1)) (c10 .put-outside .ensures .1)) refl)
+returns c = let e = whole (c .before .before .before .before .before .before .before .before .before .before .before .before .before .before .before .before .before .before .before .before .before .before .before .before .before .before .before .args .out .now) _ _ _ _ _ (c .before .before .before .before .before .before .before .before .before .before .before .before .before .before .before .before .before .before .before .before .unread .result) (c .before .before .before .before .before .before .before .before .before .before .before .before .before .before .before .before .before .before .before .before .before .before .before .before .before .all .result) (c .before .before .before .before .before .before .before .before .before .before .before .before .before .before .before .before .before .before .before .before .before .before .before .before .outside .result) (c .before .before .before .before .before .before .before .before .before .before .before .before .before .before .before .before .before .before .before .before .before .before .before .handles .result) (c .before .before .before .before .before .before .before .before .before .before .before .before .before .before .before .before .before .before .before .before .before .before .statuses .result) (c .before .before .before .before .before .before .before .before .before .before .before .before .before .before .before .put-part .ensures .1) (c .before .before .before .before .before .before .before .before .before .before .before .put-part2 .ensures .1) (c .before .before .before .before .before .before .before .put-part3 .ensures .1) (c .before .before .before .before .before .before .before .before .before .before .before .before .before .before .before .before .before .before .before .put8 .ensures) (c .before .before .before .before .before .before .before .before .before .before .before .before .before .before .before .put-part .ensures .0) (c .before .before .before .before .before .before .before .before .before .before .before .put-part2 .ensures .0) (c .before .before .before .before .before .before .before .put-part3 .ensures .0) (c .before .before .put-counts .ensures) in let is : stateOf (c .before .before .before .before .before .before .before .before .before .before .before .before .before .before .before .before .before .before .before .before .unread .result) (c .before .before .before .before .before .before .before .before .before .before .before .before .before .before .before .before .before .before .before .before .before .before .before .before .before .all .result) (c .before .before .before .before .before .before .before .before .before .before .before .before .before .before .before .before .before .before .before .before .before .before .before .before .outside .result) (c .before .before .before .before .before .before .before .before .before .before .before .before .before .before .before .before .before .before .before .before .before .before .before .handles .result) (c .before .before .before .before .before .before .before .before .before .before .before .before .before .before .before .before .before .before .before .before .before .before .statuses .result) ≡ stateBytes (plainOf (c .before .before .before .before .before .before .before .before .before .before .before .before .before .before .before .before .before .before .before .before .before .before .before .before .before .before .before .args .s .now)) = told (plainOf (c .before .before .before .before .before .before .before .before .before .before .before .before .before .before .before .before .before .before .before .before .before .before .before .before .before .before .before .args .s .now)) _ _ _ _ _ (c .before .before .before .before .before .before .before .before .before .before .before .before .before .before .before .before .before .before .before .before .unread .ensures) (c .before .before .before .before .before .before .before .before .before .before .before .before .before .before .before .before .before .before .before .before .before .before .before .before .before .all .ensures) (c .before .before .before .before .before .before .before .before .before .before .before .before .before .before .before .before .before .before .before .before .before .before .before .before .outside .ensures) (c .before .before .before .before .before .before .before .before .before .before .before .before .before .before .before .before .before .before .before .before .before .before .before .handles .ensures) (c .before .before .before .before .before .before .before .before .before .before .before .before .before .before .before .before .before .before .before .before .before .before .statuses .ensures) in (e ∙ ap (sets (c .before .before .before .before .before .before .before .before .before .before .before .before .before .before .before .before .before .before .before .before .before .before .before .before .before .before .before .args .out .now) 0) is, sym (ap length is) ∙ whole-size (c .before .before .before .before .before .before .before .before .before .before .before .before .before .before .before .before .before .before .before .before .before .before .before .before .before .before .before .args .out .now) (c .before .before .before .before .before .before .before .before .before .before .before .before .before .before .before .before .before .before .before .before .before .before .before .before .before .before .before .args .out .now) (c .before .before .before .before .before .before .before .before .before .before .before .before .before .before .before .before .before .before .before .before .before .before .before .before .before .before .before .args .out .now) (c .before .before .before .before .before .before .before .before .before .before .before .before .before .before .before .before .before .before .before .before .before .before .before .before .before .before .before .args .out .now) (c .before .before .before .before .before .before .before .before .before .before .before .before .before .before .before .before .before .before .before .before .before .before .before .before .before .before .before .args .out .now) (c .before .before .before .before .before .before .before .before .before .before .before .before .before .before .before .before .before .before .before .before .before .before .before .before .before .before .before .args .out .now) (c .before .before .before .before .before .before .before .before .before .before .before .before .before .before .before .before .before .before .before .before .unread .result) (c .before .before .before .before .before .before .before .before .before .before .before .before .before .before .before .before .before .before .before .before .before .before .before .before .before .all .result) (c .before .before .before .before .before .before .before .before .before .before .before .before .before .before .before .before .before .before .before .before .before .before .before .before .outside .result) (c .before .before .before .before .before .before .before .before .before .before .before .before .before .before .before .before .before .before .before .before .before .before .before .handles .result) (c .before .before .before .before .before .before .before .before .before .before .before .before .before .before .before .before .before .before .before .before .before .before .statuses .result) (c .before .before .before .before .before .before .before .before .before .before .before .before .before .before .before .put-part .ensures .1) (c .before .before .before .before .before .before .before .before .before .before .before .put-part2 .ensures .1) (c .before .before .before .before .before .before .before .put-part3 .ensures .1) (ap (λ (x : List ℕ). length (bytesOf x)) (c .before .before .before .before .before .before .before .before .before .before .before .before .before .before .before .before .before .before .before .before .before .before .statuses .ensures)))
 
 pub put-state-spec : {M : Type 1} → statement M
 put-state-spec =
     tie.close
     (tie.spec
+    all-requires
+    outside-requires
+    handles-requires
+    statuses-requires
+    unread-requires
     put8-requires
-    put-holds-requires
-    put-outside-requires
-    put-handles-requires
-    put-statuses-requires
+    put-part-requires
+    put-part-requires-2
+    put-part-requires-3
+    slice-aggregate-put-counts
+    put-counts-requires
     same-length
     returns)

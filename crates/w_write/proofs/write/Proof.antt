@@ -53,7 +53,7 @@ returns-2 : tie.Need-returns-2 Inv-loop μ-loop
 returns-2 c =
     let a = c .before .before .before .before .before .before .before .before .before .before .before .before .before .before .before .args in
     let l = c .before .before .before .before .before .before .before .before .before .before .before .loop in
-    with-room (a .s .now) (a .fx .now) (a .bytes .now) (c .before .before .before .before .before .before .before .before .before .before .before .before .if1 .left) _ (stops (a .s .now) (a .fx .now) (a .bytes .now) _ (l .s) (l .fx) (l .i) (l .j) (l .inv .3) (c .before .before .before .before .before .before .before .before .before .before .loop-test .taken) (c .before .before .before .before .before .before .before .before .cqe .result) (c .before .before .before .before .before .before .before .before .cqe .ensures ∙ ap cqeOf (part-is (a .bytes .now) (16 * l .i))) _ _ _ _ (c .before .before .before .before .before .entry .ensures .0) (c .before .if2 .taken)) _ _ _ _ (c .stop .ensures) (stops-lent (a .s .now) (a .fx .now) (a .bytes .now) _ (l .s) (l .fx) (l .i) (l .j) (l .inv .3) (c .before .before .before .before .before .before .before .before .before .before .loop-test .taken) (c .before .before .before .before .before .before .before .before .cqe .result) (c .before .before .before .before .before .before .before .before .cqe .ensures ∙ ap cqeOf (part-is (a .bytes .now) (16 * l .i))) _ _ _ _ (c .before .before .before .before .before .entry .ensures .0) (c .before .if2 .taken)) (stops-count (a .s .now) (a .fx .now) (a .bytes .now) _ (l .s) (l .fx) (l .i) (l .j) (l .inv .3) (c .before .before .before .before .before .before .before .before .before .before .loop-test .taken) (c .before .before .before .before .before .before .before .before .cqe .result) (c .before .before .before .before .before .before .before .before .cqe .ensures ∙ ap cqeOf (part-is (a .bytes .now) (16 * l .i))) _ _ _ _ (c .before .before .before .before .before .entry .ensures .0) (c .before .if2 .taken)) (stops-words (a .s .now) (a .fx .now) (a .bytes .now) _ (l .s) (l .fx) (l .i) (l .j) (l .inv .3) (c .before .before .before .before .before .before .before .before .before .before .loop-test .taken) (c .before .before .before .before .before .before .before .before .cqe .result) (c .before .before .before .before .before .before .before .before .cqe .ensures ∙ ap cqeOf (part-is (a .bytes .now) (16 * l .i))) _ _ _ _ (c .before .before .before .before .before .entry .ensures .0) (c .before .if2 .taken))
+    with-room (a .s .now) (a .fx .now) (a .bytes .now) (c .before .before .before .before .before .before .before .before .before .before .before .before .if1 .left) _ (stops (a .s .now) (a .fx .now) (a .bytes .now) _ (l .s) (l .fx) (l .i) (l .j) (l .inv .3) (c .before .before .before .before .before .before .before .before .before .before .loop-test .taken) (c .before .before .before .before .before .before .before .before .cqe .result) (c .before .before .before .before .before .before .before .before .cqe .ensures ∙ ap cqeOf (part-is (a .bytes .now) (16 * l .i))) _ _ _ _ (c .before .before .before .before .before .entry .ensures .0) (c .before .if2 .taken)) _ _ _ _ (c .stop .ensures) (stops-lent (a .s .now) (a .fx .now) (a .bytes .now) _ (l .s) (l .fx) (l .i) (l .j) (l .inv .3) (c .before .before .before .before .before .before .before .before .before .before .loop-test .taken) (c .before .before .before .before .before .before .before .before .cqe .result) (c .before .before .before .before .before .before .before .before .cqe .ensures ∙ ap cqeOf (part-is (a .bytes .now) (16 * l .i))) _ _ _ _ (c .before .before .before .before .before .entry .ensures .0) (c .before .if2 .taken)) (stops-count (a .s .now) (a .fx .now) (a .bytes .now) _ (l .s) (l .fx) (l .i) (l .j) (l .inv .3) (c .before .before .before .before .before .before .before .before .before .before .loop-test .taken) (c .before .before .before .before .before .before .before .before .cqe .result) (c .before .before .before .before .before .before .before .before .cqe .ensures ∙ ap cqeOf (part-is (a .bytes .now) (16 * l .i))) _ _ _ _ (c .before .before .before .before .before .entry .ensures .0) (c .before .if2 .taken)) (stops-words (a .s .now) (a .fx .now) (a .bytes .now) _ (l .s) (l .fx) (l .i) (l .j) (l .inv .3) (c .before .before .before .before .before .before .before .before .before .before .loop-test .taken) (c .before .before .before .before .before .before .before .before .cqe .result) (c .before .before .before .before .before .before .before .before .cqe .ensures ∙ ap cqeOf (part-is (a .bytes .now) (16 * l .i))) _ _ _ _ (c .before .before .before .before .before .entry .ensures .0) (c .before .if2 .taken)) (c .before .before .before .before .before .entry .ensures .0 .left)
 
 add-i : tie.Need-add-i Inv-loop μ-loop
 add-i c = let l = c .before .before .before .before .before .before .before .before .before .before .loop in omega (arith, c .before .before .before .before .before .before .before .before .before .loop-test .taken, l .inv .4)
@@ -77,7 +77,7 @@ returns-3 : tie.Need-returns-3 Inv-loop μ-loop
 returns-3 c =
     let a = c .before .before .before .before .before .args in
     let l = c .before .loop in
-    with-room (a .s .now) (a .fx .now) (a .bytes .now) (c .before .before .if1 .left) _ (ends (a .s .now) (a .fx .now) (a .bytes .now) _ (l .s) (l .fx) (l .i) (l .j) (l .inv .3) (omega (arith, l .inv .0, c .loop-test .left))) _ _ _ _ refl (l .inv .3 .lent) (sym (l .inv .3 .words)) (ends-words (a .s .now) (a .fx .now) (a .bytes .now) _ (l .s) (l .fx) (l .i) (l .j) (l .inv .3) (omega (arith, l .inv .0, c .loop-test .left)))
+    with-room (a .s .now) (a .fx .now) (a .bytes .now) (c .before .before .if1 .left) _ (ends (a .s .now) (a .fx .now) (a .bytes .now) _ (l .s) (l .fx) (l .i) (l .j) (l .inv .3) (omega (arith, l .inv .0, c .loop-test .left))) _ _ _ _ refl (l .inv .3 .lent) (sym (l .inv .3 .words)) (ends-words (a .s .now) (a .fx .now) (a .bytes .now) _ (l .s) (l .fx) (l .i) (l .j) (l .inv .3) (omega (arith, l .inv .0, c .loop-test .left))) refl
 
 pub write-spec : {M : Type 1} → statement M
 write-spec =
