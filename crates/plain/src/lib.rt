@@ -8,10 +8,11 @@ use state::State;
 use table::Table;
 use wait_queue::WaitQueue;
 ghost use mathlib.Core.Path.{_≡_};
-ghost use lib.ListN.{length};
+ghost use lib.ListN.{length, replicate};
 ghost use lib.Seq.{sets};
 ghost use Rattle.events.specs.World.{world, tableOf};
 ghost use Rattle.layout.specs.Layout.{slotPlace, slotsWords, plainOf, packedOf};
+ghost use Rattle.packed.specs.Step.{freshWords};
 
 fn slots(s: &[u64; 2060]) -> [Slot; 64]
     ensures { λ r. ⌜ r ≡ tableOf (plainOf (now (s .entry))) .slots ⌝ }
@@ -97,4 +98,13 @@ pub fn packed(st: State, queue: &[u64; 1024], s: &mut [u64; 2060])
     words::put_driver(s, d.scheme, q.first, q.len);
     words::put_handles(s, &at);
     words::put_queue(s, queue);
+}
+
+// The words of a fresh state, its queue's words 0.
+pub fn fresh_words(scheme: u64, s: &mut [u64; 2060])
+    ensures { λ r. ⌜ now (s .exit) ≡ freshWords scheme (replicate 1024 0) ⌝ }
+{
+    let fresh = state::fresh(scheme);
+    let queue = [0; 1024];
+    packed(fresh, &queue, s);
 }

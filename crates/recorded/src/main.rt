@@ -1,5 +1,5 @@
 // The recorded runs in data/, each run again and compared byte for byte with what was recorded: docs/RECORDED.md.
-use answer_words::StepWords;
+use answer_words::AnswerWords;
 use libc::STDOUT_FILENO;
 use state_bytes::STATE_SIZE;
 ghost use mathlib.Core.Path.{_≡_};
@@ -276,34 +276,20 @@ fn replay_named(name: &[u8]) {
     libc::close(fd);
 }
 
-fn opened() -> StepWords {
-    let s = state::fresh(7);
-    host_step::open(s, 5)
-}
-
-fn copied(o: StepWords) -> StepWords {
-    let s = o.state;
-    host_step::copy(s, 5)
-}
-
-fn placed(o: StepWords) -> StepWords {
-    let s = o.state;
-    host_step::put(s, 5, 0)
-}
-
 // Copies until one is refused, no more than 65,536.
-fn copied_on(o: StepWords) -> StepWords {
-    let mut p = o;
+fn copied_on(s: &mut [u64; 2060]) -> AnswerWords {
+    let mut said = answer_words::done(0);
     let mut i: u64 = 0;
     while i < 65536 {
-        p = copied(p);
-        let answer = p.answer;
-        if answer.kind != 0 {
-            return p;
+        let done = w_host::copy(s, 5);
+        let answer = done.answer;
+        said = answer_words::words(answer);
+        if said.kind != 0 {
+            return said;
         }
         i += 1;
     }
-    p
+    said
 }
 
 fn print_limit(kind: u64, value: u64, told: &[u8]) {
@@ -315,18 +301,18 @@ fn print_limit(kind: u64, value: u64, told: &[u8]) {
     io::write_all(STDOUT_FILENO, b"\n");
 }
 
-fn print_step(o: StepWords) {
-    let answer = o.answer;
-    let s = o.state;
-    let mut told = [0; STATE_SIZE];
-    state_bytes::put_state(&mut told, s);
-    print_limit(answer.kind, answer.value, &told);
-}
-
 // 01's 207, which no file has, since a run to it has 65,536 events: description 5 is opened, copied, put into handle 0 and copied on
 // until that is refused.
 fn hold_limit() {
-    print_step(copied_on(placed(copied(opened()))));
+    let mut s = [0; 2060];
+    plain::fresh_words(7, &mut s);
+    w_host::open(&mut s, 5);
+    w_host::copy(&mut s, 5);
+    w_host::put(&mut s, 5, 0);
+    let answer = copied_on(&mut s);
+    let mut told = [0; STATE_SIZE];
+    state_bytes::put_state(&mut told, &s);
+    print_limit(answer.kind, answer.value, &told);
 }
 
 fn main() {

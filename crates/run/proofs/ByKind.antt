@@ -47,27 +47,64 @@ module _ (r : Record) (xs ys bs : List ℕ) (lent : ℕ) where
   others w k =
       let a = r .words in
       let c = r .number in
-      looked-up (Plain w) (eventTable r xs ys bs lent) (supplyOf a)
-      (λ o. (λ h. tt, refl, silent w (supply (a .0) (a .1) (a .2) (a .3)) refl)
-      , (λ o. (λ h. tt, refl, refl)
-      , (λ o. (λ h. tt, refl, refl)
-      , (λ o. (λ h. tt, refl, refl)
-      , (λ o. (λ h. tt, refl, refl)
-      , (λ o. (λ h. tt, refl, refl)
-      , (λ o. (λ h. h, refl, silent w (reserve c) refl)
-      , (λ o. (λ h. h, refl, silent w (submit (a .0) c (a .1) (r .flags) (record { 0 = a .2; 1 = a .3; 2 = a .4; 3 = a .5; 4 = a .6; 5 = a .7 }) (a .8) xs) refl)
-      , (λ o. (λ h. h, refl, silent w (call c (a .0) (record { 0 = a .1; 1 = a .2; 2 = a .3; 3 = a .4; 4 = a .5; 5 = a .6 }) (r .uid) (r .gid) (a .7) xs) refl)
-      , (λ o. (λ h. h, refl, silent w (generic c (a .0) xs (a .1) (a .2) ys) refl)
-      , (λ o. (λ h. h, refl, silent w (stdfs c (a .0) xs (a .1) (a .2) ys) refl)
-      , (λ o. (λ h. h, refl, silent w (fmap c (a .0) (a .1) (a .2) (r .uid) (r .gid) (a .3)) refl)
-      , (λ o. (λ h. tt, refl, silent w (close (a .0)) refl)
-      , (λ o. (λ h. tt, refl, silent w (detach (a .0) (a .1)) refl)
-      , (λ o. absurd (o .0 refl)
-      , (λ o. absurd (o .1 refl)
-      , (λ o. absurd (o .2 refl)
-      , (λ o. (λ h. tt, refl, silent w (move xs ys) refl)
-      , (λ o. (λ h. tt, refl, silent w (obtain xs) refl)
-      , (tt))))))))))))))))))))
+      looked-up (Plain w) (eventTable r xs ys bs lent) (supplyOf a) (
+        λ o. (λ h. tt, refl, silent w (supply (a .0) (a .1) (a .2) (a .3)) refl),
+        (
+          λ o. (λ h. tt, refl, refl),
+          (
+            λ o. (λ h. tt, refl, refl),
+            (
+              λ o. (λ h. tt, refl, refl),
+              (
+                λ o. (λ h. tt, refl, refl),
+                (
+                  λ o. (λ h. tt, refl, refl),
+                  (
+                    λ o. (λ h. h, refl, silent w (reserve c) refl),
+                    (
+                      λ o. (λ h. h, refl, silent w (submit (a .0) c (a .1) (r .flags) (record { 0 = a .2; 1 = a .3; 2 = a .4; 3 = a .5; 4 = a .6; 5 = a .7 }) (a .8) xs) refl),
+                      (
+                        λ o. (λ h. h, refl, silent w (call c (a .0) (record { 0 = a .1; 1 = a .2; 2 = a .3; 3 = a .4; 4 = a .5; 5 = a .6 }) (r .uid) (r .gid) (a .7) xs) refl),
+                        (
+                          λ o. (λ h. h, refl, silent w (generic c (a .0) xs (a .1) (a .2) ys) refl),
+                          (
+                            λ o. (λ h. h, refl, silent w (stdfs c (a .0) xs (a .1) (a .2) ys) refl),
+                            (
+                              λ o. (λ h. h, refl, silent w (fmap c (a .0) (a .1) (a .2) (r .uid) (r .gid) (a .3)) refl),
+                              (
+                                λ o. (λ h. tt, refl, silent w (close (a .0)) refl),
+                                (
+                                  λ o. (λ h. tt, refl, silent w (detach (a .0) (a .1)) refl),
+                                  (
+                                    λ o. absurd (o .0 refl),
+                                    (
+                                      λ o. absurd (o .1 refl),
+                                      (
+                                        λ o. absurd (o .2 refl),
+                                        (
+                                          λ o. (λ h. tt, refl, silent w (move xs ys) refl),
+                                          (
+                                            λ o. (λ h. tt, refl, silent w (obtain xs) refl),
+                                            (tt),
+                                          ),
+                                        ),
+                                      ),
+                                    ),
+                                  ),
+                                ),
+                              ),
+                            ),
+                          ),
+                        ),
+                      ),
+                    ),
+                  ),
+                ),
+              ),
+            ),
+          ),
+        ),
+      )
       (λ k o. (λ h. tt, refl, silent w (supply (a .0) (a .1) (a .2) (a .3)) refl)) k
 
   -- a kind that is none of the others: a supply

@@ -8,14 +8,13 @@ use step::Step;
 ghost use mathlib.Core.Path.{_≡_};
 ghost use mathlib.Core.List.{List};
 ghost use Prim.Native.Nat.{ℕ, _+_, _-_, _*_, _≤_, _<_, min};
-ghost use lib.ListN.{length, take, drop, replicate};
+ghost use lib.ListN.{length, take, drop};
 ghost use lib.Seq.{sets};
 ghost use Rattle.effect.specs.Effect.{effectWords};
 ghost use Rattle.record.specs.Record.{recordOf, firstAt, secondAt, tailAt, tailOf, wordsAt, nextOf, eventNamed, eventAt};
 ghost use Rattle.events.specs.Outcome.{said};
 ghost use Rattle.events.specs.WellFormed.{WellFormed};
 ghost use Rattle.layout.specs.Layout.{plainOf};
-ghost use Rattle.packed.specs.Step.{freshWords};
 ghost use Rattle.step.specs.Does.{Does};
 ghost use Rattle.run_room.specs.Room.{roomOf, needed, leftOf};
 ghost use Rattle.run.specs.Run.{Told, isOther, wakeIn, readIn, writeIn, Turned, storedBy, runOf, outputOf, lentAfter, wholeEnd, endOf, outAfter, fxAfter};
@@ -58,7 +57,16 @@ fn event(s: &mut [u64; 2060], r: Record, first: &[u64], second: &[u64]) -> Step
             a.8,
             first,
         ),
-        8 => w_call::call(s, c, a.0, Args(a.1, a.2, a.3, a.4, a.5, a.6), r.uid, r.gid, a.7, first),
+        8 => w_call::call(
+            s,
+            c,
+            a.0,
+            Args(a.1, a.2, a.3, a.4, a.5, a.6),
+            r.uid,
+            r.gid,
+            a.7,
+            first,
+        ),
         9 => w_generic::call_generic(s, c, a.0, first, a.1, a.2, second),
         10 => w_generic::translate_std_fs_call(s, c, a.0, first, a.1, a.2, second),
         11 => w_fmap::request_fmap(s, c, a.0, a.1, a.2, r.uid, r.gid, a.3),
@@ -161,15 +169,6 @@ fn turn(
     }
 }
 
-// A fresh state, its queue's words 0.
-fn begin(scheme: u64, s: &mut [u64; 2060])
-    ensures { λ r. ⌜ now (s .exit) ≡ freshWords scheme (replicate 1024 0) ⌝ }
-{
-    let fresh = state::fresh(scheme);
-    let queue = [0; 1024];
-    plain::packed(fresh, &queue, s);
-}
-
 // All records up to the end are events, and what they write has room.
 fn run_all(scheme: u64, events: &[u8], end: usize, out: &mut [u8], fx: &mut [u64]) -> RunEnd
     requires { ⌜ (needed (now events) ≤ length (now out)) × ((end ≡ length (now events) - leftOf (now events)) × (leftOf (now events) ≡ 0)) ⌝ }
@@ -179,7 +178,7 @@ fn run_all(scheme: u64, events: &[u8], end: usize, out: &mut [u8], fx: &mut [u64
     ensures { λ r. ⌜ r .written ≤ length (now (out .entry)) ⌝ }
 {
     let mut s = [0; 2060];
-    begin(scheme, &mut s);
+    plain::fresh_words(scheme, &mut s);
     let mut buf = [0; 8192];
     let mut first = [0; 255];
     let mut second = [0; 255];

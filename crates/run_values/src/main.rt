@@ -6,10 +6,11 @@ fn number(n: u64) {
 }
 
 fn fifteen() {
-    let s = state::fresh(7);
+    let mut s = [0; 2060];
+    plain::fresh_words(7, &mut s);
     let bytes = [9; 15];
     let mut fx = [0; 54];
-    let r = write::write(s, &mut fx, &bytes);
+    let r = w_write::write(&mut s, &mut fx, &bytes);
     let said = r.answer;
     let answer = answer_words::words(said);
     io::write_all(STDOUT_FILENO, b"15 bytes written: ");

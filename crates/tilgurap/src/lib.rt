@@ -1,6 +1,6 @@
-// The functions that a host in another language calls: each event as a step on a state that the host owns, by value; the run;
-// the readings; error words and entries. A host may hand any state: what is promised of a step is the equation alone, and demand 3
-// holds of states that came from the fresh one.
+// The functions that a host in another language calls: each event as a step on the state's words, which the host owns and lends, and
+// which are changed in place; the run; the readings; the plain state; error words and entries. A host may lend any words: what is
+// promised of a step is the equation alone, and demand 3 holds of words that came from a fresh state.
 use answer_words::AnswerWords;
 use answer_words::StepWords;
 use answer_words::WakeWords;
@@ -10,35 +10,26 @@ use fd_list::List;
 use ids::Tag;
 use reading_step::OpenedWords;
 use reading_step::Regular;
-use record::Nine;
-use record::Record;
 use run::RunEnd;
 use schemev2::Args;
 use schemev2::Cqe;
 use schemev2::Sqe;
 use slot::Reply;
 use state::State;
-use state_step::Completed;
-use state_step::ReadState;
-use status::Status;
 ghost use mathlib.Core.Path.{_≡_};
-ghost use mathlib.Core.List.{List as Words};
-ghost use Prim.Native.Nat.{ℕ, _≤_};
+ghost use Prim.Native.Nat.{_≤_};
 ghost use lib.ListN.{length};
 ghost use lib.Seq.{sets};
 ghost use Rattle.answer.specs.Numbered.{numberOf};
 ghost use Rattle.answer_words.specs.Words.{wordsOf, Settled, SettledWake};
 ghost use Rattle.error.specs.declared.Result.the-variants.{Err};
 ghost use Rattle.error.specs.Errors.{demuxOf, muxOf, resultAnswer};
-ghost use Rattle.events.specs.World.{world};
-ghost use Rattle.events.specs.Host.{hostOpenOf, hostCopyOf, hostDropOf, hostPutOf, hostEndedOf};
-ghost use Rattle.events.specs.Submit.{reserveOf, submitOf, callOf, genericOf, stdfsOf, fmapOf, closeOf, detachOf};
-ghost use Rattle.events.specs.Wake.{responseFrom, wakeOf};
-ghost use Rattle.events.specs.Read.{readOf};
-ghost use Rattle.events.specs.Complete.{writeOf};
-ghost use Rattle.events.specs.Descriptors.{moveOf, obtainCallOf};
-ghost use Rattle.events.specs.Supply.{supplyOf};
+ghost use Rattle.events.specs.World.{world, tableOf};
+ghost use Rattle.events.specs.Event.{hostPut, reserve, submit, call, generic, stdfs, fmap, close, detach, wake, read, write, move, obtain, supply, hostOpen, hostCopy, hostDrop, hostEnded, on, step};
+ghost use Rattle.events.specs.Wake.{responseFrom};
 ghost use Rattle.events.specs.Replies.{intoRegularOf, callGenericOf, noticeOf, kopenatOf, kdupOf};
+ghost use Rattle.layout.specs.Layout.{plainOf, packedOf};
+ghost use Rattle.packed.specs.Step.{wordsAfter};
 ghost use Rattle.state_bytes.specs.StateBytes.{statusWords};
 ghost use Rattle.parse_cqe.specs.Parsed.{parsedOf, parsedAnswer};
 ghost use Rattle.reading_step.specs.Opened.{openedWords, readAs};
@@ -47,63 +38,56 @@ ghost use Rattle.schemev2.specs.Entry.{sqeOf, cqeOf, sqeBytes, cqeBytes};
 ghost use Rattle.state.specs.State.{freshState};
 
 #[no_mangle]
-pub extern "C" fn tilgurap_open(s: State, description: u64) -> StepWords
-    ensures { λ r. ⌜ ((ws : Words ℕ) → Settled r ws (hostOpenOf (world s ws) description)) ⌝ }
+pub extern "C" fn tilgurap_open(words: &mut [u64; 2060], description: u64) -> StepWords
+    ensures { λ r. ⌜ Settled r (now (words .entry)) (now (words .exit)) (hostOpen description) ⌝ }
 {
-    host_step::open(s, description)
+    let done = w_host::open(words, description);
+    answer_words::step_words(done)
 }
 
 #[no_mangle]
-pub extern "C" fn tilgurap_copy(s: State, description: u64) -> StepWords
-    ensures { λ r. ⌜ ((ws : Words ℕ) → Settled r ws (hostCopyOf (world s ws) description)) ⌝ }
+pub extern "C" fn tilgurap_copy(words: &mut [u64; 2060], description: u64) -> StepWords
+    ensures { λ r. ⌜ Settled r (now (words .entry)) (now (words .exit)) (hostCopy description) ⌝ }
 {
-    host_step::copy(s, description)
+    let done = w_host::copy(words, description);
+    answer_words::step_words(done)
 }
 
 #[no_mangle]
-pub extern "C" fn tilgurap_drop(s: State, description: u64) -> StepWords
-    ensures { λ r. ⌜ ((ws : Words ℕ) → Settled r ws (hostDropOf (world s ws) description)) ⌝ }
+pub extern "C" fn tilgurap_drop(words: &mut [u64; 2060], description: u64) -> StepWords
+    ensures { λ r. ⌜ Settled r (now (words .entry)) (now (words .exit)) (hostDrop description) ⌝ }
 {
-    host_step::drop(s, description)
+    let done = w_host::drop(words, description);
+    answer_words::step_words(done)
 }
 
 #[no_mangle]
-pub extern "C" fn tilgurap_put(s: State, description: u64, handle: u64) -> StepWords
-    ensures { λ r. ⌜ ((ws : Words ℕ) → Settled r ws (hostPutOf (world s ws) description handle)) ⌝ }
+pub extern "C" fn tilgurap_put(words: &mut [u64; 2060], description: u64, handle: u64) -> StepWords
+    ensures { λ r. ⌜ Settled r (now (words .entry)) (now (words .exit)) (on (hostPut description handle)) ⌝ }
 {
-    host_step::put(s, description, handle)
+    let done = w_host::put(words, description, handle);
+    answer_words::step_words(done)
 }
 
 #[no_mangle]
-pub extern "C" fn tilgurap_ended(s: State, caller: u32) -> StepWords
-    ensures { λ r. ⌜ ((ws : Words ℕ) → Settled r ws (hostEndedOf (world s ws) caller)) ⌝ }
+pub extern "C" fn tilgurap_ended(words: &mut [u64; 2060], caller: u32) -> StepWords
+    ensures { λ r. ⌜ Settled r (now (words .entry)) (now (words .exit)) (hostEnded caller) ⌝ }
 {
-    host_step::ended(s, caller)
+    let done = w_host::ended(words, caller);
+    answer_words::step_words(done)
 }
 
 #[no_mangle]
-pub extern "C" fn tilgurap_next_id(s: State, words: &mut [u64; 1024], caller: u32) -> StepWords
-    ensures { λ r. ⌜ Settled r (now (words .exit)) (reserveOf (world s (now (words .entry))) caller) ⌝ }
+pub extern "C" fn tilgurap_next_id(words: &mut [u64; 2060], caller: u32) -> StepWords
+    ensures { λ r. ⌜ Settled r (now (words .entry)) (now (words .exit)) (on (reserve caller)) ⌝ }
 {
-    let r = Record {
-        kind: 6,
-        first: 0,
-        second: 0,
-        flags: 0,
-        number: caller,
-        uid: 0,
-        gid: 0,
-        words: Nine(0, 0, 0, 0, 0, 0, 0, 0, 0),
-    };
-    let none = [0; 1];
-    let nothing = [0; 1];
-    state_step::one_effect(s, words, r, &none[..0], &nothing[..0])
+    let done = w_next_id::next_id(words, caller);
+    answer_words::step_words(done)
 }
 
 #[no_mangle]
 pub extern "C" fn tilgurap_submit(
-    s: State,
-    words: &mut [u64; 1024],
+    words: &mut [u64; 2060],
     tag: Tag,
     caller: u32,
     opcode: u64,
@@ -112,36 +96,15 @@ pub extern "C" fn tilgurap_submit(
     pid: u64,
     fds: &[u64],
 ) -> StepWords
-    ensures { λ r. ⌜ Settled r (now (words .exit)) (submitOf (world s (now (words .entry))) (tag .0) caller opcode flags args pid (now (fds .entry))) ⌝ }
+    ensures { λ r. ⌜ Settled r (now (words .entry)) (now (words .exit)) (on (submit (tag .0) caller opcode flags args pid (now (fds .entry)))) ⌝ }
 {
-    let r = Record {
-        kind: 7,
-        first: 0,
-        second: 0,
-        flags: flags,
-        number: caller,
-        uid: 0,
-        gid: 0,
-        words: Nine(
-            tag.0,
-            opcode,
-            args.0,
-            args.1,
-            args.2,
-            args.3,
-            args.4,
-            args.5,
-            pid,
-        ),
-    };
-    let none = [0; 1];
-    state_step::one_effect(s, words, r, fds, &none[..0])
+    let done = w_submit::submit(words, tag, caller, opcode, flags, args, pid, fds);
+    answer_words::step_words(done)
 }
 
 #[no_mangle]
 pub extern "C" fn tilgurap_call(
-    s: State,
-    words: &mut [u64; 1024],
+    words: &mut [u64; 2060],
     caller: u32,
     opcode: u64,
     args: Args,
@@ -150,36 +113,15 @@ pub extern "C" fn tilgurap_call(
     pid: u64,
     fds: &[u64],
 ) -> StepWords
-    ensures { λ r. ⌜ Settled r (now (words .exit)) (callOf (world s (now (words .entry))) caller opcode args uid gid pid (now (fds .entry))) ⌝ }
+    ensures { λ r. ⌜ Settled r (now (words .entry)) (now (words .exit)) (on (call caller opcode args uid gid pid (now (fds .entry)))) ⌝ }
 {
-    let r = Record {
-        kind: 8,
-        first: 0,
-        second: 0,
-        flags: 0,
-        number: caller,
-        uid: uid,
-        gid: gid,
-        words: Nine(
-            opcode,
-            args.0,
-            args.1,
-            args.2,
-            args.3,
-            args.4,
-            args.5,
-            pid,
-            0,
-        ),
-    };
-    let none = [0; 1];
-    state_step::one_effect(s, words, r, fds, &none[..0])
+    let done = w_call::call(words, caller, opcode, args, uid, gid, pid, fds);
+    answer_words::step_words(done)
 }
 
 #[no_mangle]
 pub extern "C" fn tilgurap_call_generic(
-    s: State,
-    words: &mut [u64; 1024],
+    words: &mut [u64; 2060],
     caller: u32,
     pid: u64,
     fds: &[u64],
@@ -187,25 +129,15 @@ pub extern "C" fn tilgurap_call_generic(
     len: u64,
     metadata: &[u64],
 ) -> StepWords
-    ensures { λ r. ⌜ Settled r (now (words .exit)) (genericOf (world s (now (words .entry))) caller pid (now (fds .entry)) base len (now (metadata .entry))) ⌝ }
+    ensures { λ r. ⌜ Settled r (now (words .entry)) (now (words .exit)) (on (generic caller pid (now (fds .entry)) base len (now (metadata .entry)))) ⌝ }
 {
-    let r = Record {
-        kind: 9,
-        first: 0,
-        second: 0,
-        flags: 0,
-        number: caller,
-        uid: 0,
-        gid: 0,
-        words: Nine(pid, base, len, 0, 0, 0, 0, 0, 0),
-    };
-    state_step::one_effect(s, words, r, fds, metadata)
+    let done = w_generic::call_generic(words, caller, pid, fds, base, len, metadata);
+    answer_words::step_words(done)
 }
 
 #[no_mangle]
 pub extern "C" fn tilgurap_translate_std_fs_call(
-    s: State,
-    words: &mut [u64; 1024],
+    words: &mut [u64; 2060],
     caller: u32,
     pid: u64,
     fds: &[u64],
@@ -213,25 +145,15 @@ pub extern "C" fn tilgurap_translate_std_fs_call(
     len: u64,
     metadata: &[u64],
 ) -> StepWords
-    ensures { λ r. ⌜ Settled r (now (words .exit)) (stdfsOf (world s (now (words .entry))) caller pid (now (fds .entry)) base len (now (metadata .entry))) ⌝ }
+    ensures { λ r. ⌜ Settled r (now (words .entry)) (now (words .exit)) (on (stdfs caller pid (now (fds .entry)) base len (now (metadata .entry)))) ⌝ }
 {
-    let r = Record {
-        kind: 10,
-        first: 0,
-        second: 0,
-        flags: 0,
-        number: caller,
-        uid: 0,
-        gid: 0,
-        words: Nine(pid, base, len, 0, 0, 0, 0, 0, 0),
-    };
-    state_step::one_effect(s, words, r, fds, metadata)
+    let done = w_generic::translate_std_fs_call(words, caller, pid, fds, base, len, metadata);
+    answer_words::step_words(done)
 }
 
 #[no_mangle]
 pub extern "C" fn tilgurap_request_fmap(
-    s: State,
-    words: &mut [u64; 1024],
+    words: &mut [u64; 2060],
     caller: u32,
     id: u64,
     pages: u64,
@@ -240,168 +162,112 @@ pub extern "C" fn tilgurap_request_fmap(
     gid: u32,
     pid: u64,
 ) -> StepWords
-    ensures { λ r. ⌜ Settled r (now (words .exit)) (fmapOf (world s (now (words .entry))) caller id pages flags uid gid pid) ⌝ }
+    ensures { λ r. ⌜ Settled r (now (words .entry)) (now (words .exit)) (on (fmap caller id pages flags uid gid pid)) ⌝ }
 {
-    let r = Record {
-        kind: 11,
-        first: 0,
-        second: 0,
-        flags: 0,
-        number: caller,
-        uid: uid,
-        gid: gid,
-        words: Nine(id, pages, flags, pid, 0, 0, 0, 0, 0),
-    };
-    let none = [0; 1];
-    let nothing = [0; 1];
-    state_step::one_effect(s, words, r, &none[..0], &nothing[..0])
+    let done = w_fmap::request_fmap(words, caller, id, pages, flags, uid, gid, pid);
+    answer_words::step_words(done)
 }
 
 #[no_mangle]
-pub extern "C" fn tilgurap_close(s: State, words: &mut [u64; 1024], id: u64) -> StepWords
-    ensures { λ r. ⌜ Settled r (now (words .exit)) (closeOf (world s (now (words .entry))) id) ⌝ }
+pub extern "C" fn tilgurap_close(words: &mut [u64; 2060], id: u64) -> StepWords
+    ensures { λ r. ⌜ Settled r (now (words .entry)) (now (words .exit)) (on (close id)) ⌝ }
 {
-    let r = Record {
-        kind: 12,
-        first: 0,
-        second: 0,
-        flags: 0,
-        number: 0,
-        uid: 0,
-        gid: 0,
-        words: Nine(id, 0, 0, 0, 0, 0, 0, 0, 0),
-    };
-    let none = [0; 1];
-    let nothing = [0; 1];
-    state_step::one_effect(s, words, r, &none[..0], &nothing[..0])
+    let done = w_close::close(words, id);
+    answer_words::step_words(done)
 }
 
 #[no_mangle]
-pub extern "C" fn tilgurap_detach(s: State, words: &mut [u64; 1024], id: u64, pid: u64) -> StepWords
-    ensures { λ r. ⌜ Settled r (now (words .exit)) (detachOf (world s (now (words .entry))) id pid) ⌝ }
+pub extern "C" fn tilgurap_detach(words: &mut [u64; 2060], id: u64, pid: u64) -> StepWords
+    ensures { λ r. ⌜ Settled r (now (words .entry)) (now (words .exit)) (on (detach id pid)) ⌝ }
 {
-    let r = Record {
-        kind: 13,
-        first: 0,
-        second: 0,
-        flags: 0,
-        number: 0,
-        uid: 0,
-        gid: 0,
-        words: Nine(id, pid, 0, 0, 0, 0, 0, 0, 0),
-    };
-    let none = [0; 1];
-    let nothing = [0; 1];
-    state_step::one_effect(s, words, r, &none[..0], &nothing[..0])
+    let done = w_close::detach(words, id, pid);
+    answer_words::step_words(done)
 }
 
 #[no_mangle]
 pub extern "C" fn tilgurap_wake(
-    s: State,
-    words: &mut [u64; 1024],
+    words: &mut [u64; 2060],
     tag: Tag,
     caller: u32,
     killed: u64,
     base: u64,
     count: u64,
 ) -> WakeWords
-    ensures { λ r. ⌜ SettledWake r (now (words .exit)) (wakeOf (world s (now (words .entry))) (tag .0) caller killed base count) ⌝ }
+    ensures { λ r. ⌜ SettledWake r (now (words .entry)) (now (words .exit)) (on (wake (tag .0) caller killed base count)) ⌝ }
 {
-    state_step::wake(s, words, tag, caller, killed, base, count)
+    let done = w_wake::wake(words, tag, caller, killed, base, count);
+    let answer = done.answer;
+    let reply = done.reply;
+    let fds = done.fds;
+    let fx = done.effect;
+    answer_words::wake_words(answer, reply, fds, fx)
 }
 
 #[no_mangle]
-pub extern "C" fn tilgurap_read(
-    s: State,
-    words: &[u64; 1024],
-    out: &mut [u8],
-    flags: u32,
-) -> ReadState
-    ensures { λ r. ⌜ r .answer ≡ wordsOf (readOf (world s (now (words .entry))) (length (now (out .entry))) flags .answer) ⌝ }
-    ensures { λ r. ⌜ world (r .state) (now (words .entry)) ≡ readOf (world s (now (words .entry))) (length (now (out .entry))) flags .world ⌝ }
-    ensures { λ r. ⌜ now (out .exit) ≡ sets (now (out .entry)) 0 (readOf (world s (now (words .entry))) (length (now (out .entry))) flags .bytes) ⌝ }
+pub extern "C" fn tilgurap_read(words: &mut [u64; 2060], out: &mut [u8], flags: u32) -> AnswerWords
+    ensures { λ r. ⌜ r ≡ wordsOf (step (plainOf (now (words .entry))) (on (read (length (now (out .entry))) flags)) .answer) ⌝ }
+    ensures { λ r. ⌜ now (words .exit) ≡ wordsAfter (now (words .entry)) (on (read (length (now (out .entry))) flags)) ⌝ }
+    ensures { λ r. ⌜ now (out .exit) ≡ sets (now (out .entry)) 0 (step (plainOf (now (words .entry))) (on (read (length (now (out .entry))) flags)) .bytes) ⌝ }
 {
-    state_step::read(s, words, out, flags)
+    let answer = w_read::read(words, out, flags);
+    answer_words::words(answer)
+}
+
+// So many of the lent words hold effects, three to each.
+#[repr(C)]
+pub struct Completed {
+    pub answer: AnswerWords,
+    pub words: usize,
 }
 
 #[no_mangle]
-pub extern "C" fn tilgurap_write(s: State, fx: &mut [u64], bytes: &[u8]) -> Completed
-    ensures { λ r. ⌜ ((ws : Words ℕ) → r .answer ≡ wordsOf (writeOf (world s ws) (length (now (fx .entry))) (now (bytes .entry)) .answer)) ⌝ }
-    ensures { λ r. ⌜ ((ws : Words ℕ) → world (r .state) ws ≡ writeOf (world s ws) (length (now (fx .entry))) (now (bytes .entry)) .world) ⌝ }
-    ensures { λ r. ⌜ ((ws : Words ℕ) → now (fx .exit) ≡ sets (now (fx .entry)) 0 (writeOf (world s ws) (length (now (fx .entry))) (now (bytes .entry)) .effects)) ⌝ }
-    ensures { λ r. ⌜ ((ws : Words ℕ) → r .words ≡ length (writeOf (world s ws) (length (now (fx .entry))) (now (bytes .entry)) .effects)) ⌝ }
+pub extern "C" fn tilgurap_write(words: &mut [u64; 2060], fx: &mut [u64], bytes: &[u8]) -> Completed
+    ensures { λ r. ⌜ r .answer ≡ wordsOf (step (plainOf (now (words .entry))) (on (write (length (now (fx .entry))) (now (bytes .entry)))) .answer) ⌝ }
+    ensures { λ r. ⌜ now (words .exit) ≡ wordsAfter (now (words .entry)) (on (write (length (now (fx .entry))) (now (bytes .entry)))) ⌝ }
+    ensures { λ r. ⌜ now (fx .exit) ≡ sets (now (fx .entry)) 0 (step (plainOf (now (words .entry))) (on (write (length (now (fx .entry))) (now (bytes .entry)))) .effects) ⌝ }
+    ensures { λ r. ⌜ r .words ≡ length (step (plainOf (now (words .entry))) (on (write (length (now (fx .entry))) (now (bytes .entry)))) .effects) ⌝ }
 {
-    state_step::write(s, fx, bytes)
+    let done = w_write::write(words, fx, bytes);
+    let answer = done.answer;
+    let said = answer_words::words(answer);
+    Completed {
+        answer: said,
+        words: done.words,
+    }
 }
 
 #[no_mangle]
 pub extern "C" fn tilgurap_call_fdwrite(
-    s: State,
-    words: &mut [u64; 1024],
+    words: &mut [u64; 2060],
     metadata: &[u64],
     fds: &[u64],
 ) -> StepWords
-    ensures { λ r. ⌜ Settled r (now (words .exit)) (moveOf (world s (now (words .entry))) (now (metadata .entry)) (now (fds .entry))) ⌝ }
+    ensures { λ r. ⌜ Settled r (now (words .entry)) (now (words .exit)) (on (move (now (metadata .entry)) (now (fds .entry)))) ⌝ }
 {
-    let r = Record {
-        kind: 17,
-        first: 0,
-        second: 0,
-        flags: 0,
-        number: 0,
-        uid: 0,
-        gid: 0,
-        words: Nine(0, 0, 0, 0, 0, 0, 0, 0, 0),
-    };
-    state_step::one_effect(s, words, r, metadata, fds)
+    let done = w_fd::call_fdwrite(words, metadata, fds);
+    answer_words::step_words(done)
 }
 
 #[no_mangle]
-pub extern "C" fn tilgurap_call_fdread(
-    s: State,
-    words: &mut [u64; 1024],
-    metadata: &[u64],
-) -> StepWords
-    ensures { λ r. ⌜ Settled r (now (words .exit)) (obtainCallOf (world s (now (words .entry))) (now (metadata .entry))) ⌝ }
+pub extern "C" fn tilgurap_call_fdread(words: &mut [u64; 2060], metadata: &[u64]) -> StepWords
+    ensures { λ r. ⌜ Settled r (now (words .entry)) (now (words .exit)) (on (obtain (now (metadata .entry)))) ⌝ }
 {
-    let r = Record {
-        kind: 18,
-        first: 0,
-        second: 0,
-        flags: 0,
-        number: 0,
-        uid: 0,
-        gid: 0,
-        words: Nine(0, 0, 0, 0, 0, 0, 0, 0, 0),
-    };
-    let none = [0; 1];
-    state_step::one_effect(s, words, r, metadata, &none[..0])
+    let done = w_fd::call_fdread(words, metadata);
+    answer_words::step_words(done)
 }
 
 #[no_mangle]
 pub extern "C" fn tilgurap_provide_mmap(
-    s: State,
-    words: &mut [u64; 1024],
+    words: &mut [u64; 2060],
     tag: Tag,
     offset: u64,
     base: u64,
     count: u64,
 ) -> StepWords
-    ensures { λ r. ⌜ Settled r (now (words .exit)) (supplyOf (world s (now (words .entry))) (tag .0) offset base count) ⌝ }
+    ensures { λ r. ⌜ Settled r (now (words .entry)) (now (words .exit)) (on (supply (tag .0) offset base count)) ⌝ }
 {
-    let r = Record {
-        kind: 19,
-        first: 0,
-        second: 0,
-        flags: 0,
-        number: 0,
-        uid: 0,
-        gid: 0,
-        words: Nine(tag.0, offset, base, count, 0, 0, 0, 0, 0),
-    };
-    let none = [0; 1];
-    let nothing = [0; 1];
-    state_step::one_effect(s, words, r, &none[..0], &nothing[..0])
+    let done = w_supply::provide_mmap(words, tag, offset, base, count);
+    answer_words::step_words(done)
 }
 
 #[no_mangle]
@@ -449,6 +315,8 @@ pub extern "C" fn tilgurap_run(scheme: u64, events: &[u8], out: &mut [u8], fx: &
     run::run(scheme, events, out, fx)
 }
 
+// The plain state: a fresh one; the one in some words, the queue's words stored in those lent; and the words of one. The first words
+// of a host are those of a fresh state and a queue of zeros.
 #[no_mangle]
 pub extern "C" fn tilgurap_fresh(scheme: u64) -> State
     ensures { λ r. ⌜ r ≡ freshState scheme ⌝ }
@@ -456,31 +324,27 @@ pub extern "C" fn tilgurap_fresh(scheme: u64) -> State
     state::fresh(scheme)
 }
 
+#[no_mangle]
+pub extern "C" fn tilgurap_plain(words: &[u64; 2060], queue: &mut [u64; 1024]) -> State
+    ensures { λ r. ⌜ world r (now (queue .exit)) ≡ plainOf (now (words .entry)) ⌝ }
+{
+    plain::plain(words, queue)
+}
+
+#[no_mangle]
+pub extern "C" fn tilgurap_packed(s: State, queue: &[u64; 1024], words: &mut [u64; 2060])
+    ensures { λ r. ⌜ now (words .exit) ≡ packedOf (world s (now (queue .entry))) ⌝ }
+{
+    plain::packed(s, queue, words);
+}
+
 // The four status words, each with its count of ones: Placeholder, Waiting, Responded, Fmap.
 #[no_mangle]
-pub extern "C" fn tilgurap_status(s: State, out: &mut [u64; 8])
-    ensures { λ r. ⌜ now (out .exit) ≡ statusWords (s .table) ⌝ }
+pub extern "C" fn tilgurap_status(words: &[u64; 2060], out: &mut [u64; 8])
+    ensures { λ r. ⌜ now (out .exit) ≡ statusWords (tableOf (plainOf (now (words .entry)))) ⌝ }
 {
-    let t = s.table;
-    let placeholder = status::word(t, Status::Placeholder);
-    let placeholders = status::count(t, Status::Placeholder);
-    let waiting = status::word(t, Status::Waiting);
-    let waitings = status::count(t, Status::Waiting);
-    let responded = status::word(t, Status::Responded);
-    let respondeds = status::count(t, Status::Responded);
-    let fmap = status::word(t, Status::Fmap);
-    let fmaps = status::count(t, Status::Fmap);
-    let words: [u64; 8] = [
-        placeholder,
-        placeholders as u64,
-        waiting,
-        waitings as u64,
-        responded,
-        respondeds as u64,
-        fmap,
-        fmaps as u64,
-    ];
-    *out = words;
+    let all = state_bytes::statuses(words);
+    *out = all;
 }
 
 // An errno as a result word.

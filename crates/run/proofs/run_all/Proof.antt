@@ -13,7 +13,7 @@ use Rattle.run.proofs.run_all.Statement.{statement}
 use Rattle.run.proofs.run_all.Tie as tie
 use Rattle.record.proofs.record_at.Reads as record-at-reads
 use Rattle.record.proofs.size_by.Reads as size-by-reads
-use Rattle.run.proofs.begin.Reads as begin-reads
+use Rattle.plain.proofs.fresh_words.Reads as fresh-words-reads
 use Rattle.run.proofs.turn.Reads as turn-reads
 use Rattle.state_bytes.proofs.put_state.Reads as put-state-reads
 
@@ -23,11 +23,11 @@ Inv-loop scheme events end out₀ fx₀ s₀ buf₀ first₀ second₀ at₀ j�
 abbrev μ-loop : tie.MeasureT-loop
 μ-loop scheme events end out₀ fx₀ s₀ buf₀ first₀ second₀ at₀ j₀ out fx s buf first second at j = length events - at
 
-begin-requires : tie.Need-begin-requires Inv-loop μ-loop
-begin-requires c κs = search needs
+fresh-words-requires : tie.Need-fresh-words-requires Inv-loop μ-loop
+fresh-words-requires c κs = search needs
 
 loop-holds : tie.Need-loop-holds Inv-loop μ-loop
-loop-holds c = let a = c .before .before .before .before .before .args in (begins (a .scheme) (a .events .now) (a .out .now) (a .fx .now) (a .end) _ (c .before .before .before .before .before .pre .0) (c .before .before .before .before .before .pre .1 .0) (c .begin .ensures), length-replicate {A = ℕ} 8192 0, length-replicate {A = ℕ} 255 0, length-replicate {A = ℕ} 255 0)
+loop-holds c = let a = c .before .before .before .before .before .args in (begins (a .scheme) (a .events .now) (a .out .now) (a .fx .now) (a .end) _ (c .before .before .before .before .before .pre .0) (c .before .before .before .before .before .pre .1 .0) (c .fresh-words .ensures), length-replicate {A = ℕ} 8192 0, length-replicate {A = ℕ} 255 0, length-replicate {A = ℕ} 255 0)
 
 sub-record-at : tie.Need-sub-record-at Inv-loop μ-loop
 sub-record-at c = omega (arith, c .before .loop .inv .0 .place)
@@ -116,7 +116,7 @@ run-all-spec =
     (tie.spec
     Inv-loop
     μ-loop
-    begin-requires
+    fresh-words-requires
     loop-holds
     sub-record-at
     part-record-at-start

@@ -1,4 +1,4 @@
--- `run::begin` meets its contract. Assumes nothing.
+-- `plain::fresh_words` meets its contract. Assumes nothing.
 use borrow.Author.Needs.{needs}
 use Rattle.layout.specs.Layout.{packedOf}
 use Rattle.events.specs.World.{world}
@@ -6,9 +6,9 @@ use Rattle.state.specs.declared.State.{State}
 use lib.ListN.{replicate}
 use mathlib.Core.Path.{ap, _∙_}
 use Prim.Native.Nat.{ℕ}
-use Rattle.run.proofs.begin.Statement.{statement}
-use Rattle.run.proofs.begin.Tie as tie
+use Rattle.plain.proofs.fresh_words.Statement.{statement}
+use Rattle.plain.proofs.fresh_words.Tie as tie
 use Rattle.plain.proofs.packed.Reads as packed-reads
 use Rattle.state.proofs.fresh.Reads as fresh-reads
 
 fresh-requires : tie.Need-fresh-requires
@@ -20,5 +20,5 @@ packed-requires c κs = search needs
 returns : tie.Need-returns
 returns c = c .packed .ensures ∙ ap (λ (x : State). packedOf (world x (replicate 1024 0))) (c .before .before .before .fresh .ensures)
 
-pub begin-spec : {M : Type 1} → statement M
-begin-spec = tie.close (tie.spec fresh-requires packed-requires returns)
+pub fresh-words-spec : {M : Type 1} → statement M
+fresh-words-spec = tie.close (tie.spec fresh-requires packed-requires returns)
