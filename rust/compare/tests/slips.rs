@@ -45,8 +45,8 @@ impl Port for Slipped {
     }
 }
 
-fn slot(layer: &mut Layer, tag: u64) -> &mut Slot {
-    &mut layer.parts_mut().table.slots[tag as usize]
+fn change_slot(layer: &mut Layer, tag: u64, change: impl FnOnce(&mut Slot)) {
+    layer.change_parts(|state| change(&mut state.table.slots[tag as usize]));
 }
 
 fn occupied(layer: &Layer) -> usize {
@@ -69,10 +69,12 @@ const SLIPS: [Slip; 18] = [
         before: NOT_BEFORE,
         after: |_, layer, event, line| {
             if let (Event::Wake { tag, .. }, Answer::No(4)) = (event, &line.answer) {
-                let table = &mut layer.parts_mut().table;
-                table.slots[*tag as usize].state = 0;
-                table.next[*tag as usize] = table.head;
-                table.head = *tag;
+                layer.change_parts(|state| {
+                    let table = &mut state.table;
+                    table.slots[*tag as usize].state = 0;
+                    table.next[*tag as usize] = table.head;
+                    table.head = *tag;
+                });
             }
         },
         most: FEW,
@@ -81,22 +83,25 @@ const SLIPS: [Slip; 18] = [
         name: "a reply to a Responded slot is accepted",
         before: |layer, event| {
             if let Event::Write { .. } = event {
-                for slot in &mut layer.parts_mut().table.slots {
-                    slot.state = if slot.state == 3 { 2 } else { slot.state };
-                }
+                layer.change_parts(|state| {
+                    for slot in &mut state.table.slots {
+                        slot.state = if slot.state == 3 { 2 } else { slot.state };
+                    }
+                });
             }
             None
         },
         after: |before, layer, event, _| {
             // those that had no reply now are Responded again
             if let Event::Write { .. } = event {
-                for tag in 0..64 {
-                    let was = before.parts().table.slots[tag];
-                    let now = slot(layer, tag as u64);
-                    if was.state == 3 && now.state == 2 {
-                        *now = was;
+                layer.change_parts(|state| {
+                    let slots = state.table.slots.iter_mut();
+                    for (now, was) in slots.zip(before.parts().table.slots) {
+                        if was.state == 3 && now.state == 2 {
+                            *now = was;
+                        }
                     }
-                }
+                });
             }
         },
         most: FEW,
@@ -105,14 +110,17 @@ const SLIPS: [Slip; 18] = [
         name: "the slot vacated first is given out first",
         before: NOT_BEFORE,
         after: |before, layer, _, _| {
-            let (old, table) = (before.parts().table.head, &mut layer.parts_mut().table);
-            // a slot came to the front of one that had been vacated before
-            let (first, second) = (table.head as usize, old as usize);
-            if table.head != old && first < 64 && second < 64 && table.next[first] == old {
-                table.next[first] = table.next[second];
-                table.next[second] = first as u64;
-                table.head = old;
-            }
+            let old = before.parts().table.head;
+            layer.change_parts(|state| {
+                let table = &mut state.table;
+                // a slot came to the front of one that had been vacated before
+                let (first, second) = (table.head as usize, old as usize);
+                if table.head != old && first < 64 && second < 64 && table.next[first] == old {
+                    table.next[first] = table.next[second];
+                    table.next[second] = first as u64;
+                    table.head = old;
+                }
+            });
         },
         most: FEW,
     },
@@ -161,7 +169,7 @@ const SLIPS: [Slip; 18] = [
             if let (Event::Call { list, .. }, Answer::Ok(tag)) = (event, &line.answer)
                 && list.len() == 3
             {
-                slot(layer, *tag).fds.len = 2;
+                change_slot(layer, *tag, |slot| slot.fds.len = 2);
             }
         },
         most: FEW,
@@ -177,9 +185,9 @@ const SLIPS: [Slip; 18] = [
                         && matches!(entry[0] % 8, 0 | 5)
                         && entry[8..12] == [0xfc, 0xff, 0xff, 0xff]
                         && before.state().slots[tag as usize] == Phase::Waiting
-                        && slot(layer, tag).reply.word == 5
+                        && layer.parts().table.slots[tag as usize].reply.word == 5
                     {
-                        slot(layer, tag).reply.word = 4;
+                        change_slot(layer, tag, |slot| slot.reply.word = 4);
                     }
                 }
             }
@@ -211,7 +219,7 @@ const SLIPS: [Slip; 18] = [
         before: NOT_BEFORE,
         after: |_, layer, event, line| {
             if let (Event::Wake { tag, .. }, Answer::Blocked) = (event, &line.answer) {
-                slot(layer, *tag).canceling = false;
+                change_slot(layer, *tag, |slot| slot.canceling = false);
             }
         },
         most: FEW,
@@ -221,9 +229,11 @@ const SLIPS: [Slip; 18] = [
         before: NOT_BEFORE,
         after: |_, layer, event, _| {
             if let Event::Ended { c } = event {
-                let slots = layer.parts_mut().table.slots.iter_mut();
-                let own = slots.filter(|slot| slot.state != 0 && slot.caller == *c);
-                own.skip(1).for_each(|slot| slot.ended = false);
+                layer.change_parts(|state| {
+                    let slots = state.table.slots.iter_mut();
+                    let own = slots.filter(|slot| slot.state != 0 && slot.caller == *c);
+                    own.skip(1).for_each(|slot| slot.ended = false);
+                });
             }
         },
         most: FEW,
@@ -233,7 +243,7 @@ const SLIPS: [Slip; 18] = [
         before: NOT_BEFORE,
         after: |_, layer, event, line| {
             if let (Event::Wake { tag, .. }, Answer::No(4)) = (event, &line.answer) {
-                slot(layer, *tag).span.base = 0;
+                change_slot(layer, *tag, |slot| slot.span.base = 0);
             }
         },
         most: FEW,

@@ -1,6 +1,5 @@
 //! How many copies of the state, or of most of it, each event makes: this program's own `memcpy`
-//! counts those of 4,096 bytes and more. Two of a step's are its caller's: the state goes in by
-//! value, and what comes back is stored.
+//! counts those of 4,096 bytes and more. A step is lent the state's words and changes them in place.
 
 use std::arch::asm;
 use std::ffi::c_void;

@@ -1,5 +1,5 @@
 //! The exported functions as they are declared in `crates/tilgurap`, and twins of the structs that
-//! cross. A slice crosses as its pointer and its length.
+//! cross. A slice crosses as its pointer and its length, an array as its pointer.
 
 // they are those of the crates
 #![allow(missing_docs)]
@@ -110,33 +110,30 @@ pub struct Effect {
     pub b: u64,
 }
 
+/// What most events answer, and the effect that they made.
+#[derive(Clone, Copy, Debug, PartialEq, Eq)]
 #[repr(C)]
 pub struct StepWords {
     pub answer: AnswerWords,
     pub effect: Effect,
-    pub state: State,
 }
 
+/// What a wake answers: for kind 4 the reply, and the list beside it.
+#[derive(Clone, Copy, Debug, PartialEq, Eq)]
 #[repr(C)]
 pub struct WakeWords {
     pub answer: AnswerWords,
     pub reply: Reply,
     pub fds: List,
     pub effect: Effect,
-    pub state: State,
 }
 
-#[repr(C)]
-pub struct ReadState {
-    pub answer: AnswerWords,
-    pub state: State,
-}
-
+/// What a write answers, and how many of the lent words hold effects, three to each.
+#[derive(Clone, Copy, Debug, PartialEq, Eq)]
 #[repr(C)]
 pub struct Completed {
     pub answer: AnswerWords,
     pub words: usize,
-    pub state: State,
 }
 
 #[repr(C)]
@@ -192,28 +189,31 @@ pub struct Args(pub [u64; 6]);
 const _: () = assert!(size_of::<Slot>() == 72 && size_of::<List>() == 17);
 const _: () = assert!(size_of::<Table>() == 6_152 && size_of::<Driver>() == 536);
 const _: () = assert!(size_of::<State>() == 6_688);
-const _: () = assert!(size_of::<StepWords>() == 6_728 && size_of::<WakeWords>() == 6_768);
-const _: () = assert!(size_of::<ReadState>() == 6_704 && size_of::<Completed>() == 6_712);
+const _: () = assert!(size_of::<StepWords>() == 40 && size_of::<WakeWords>() == 80);
+const _: () = assert!(size_of::<Completed>() == 24);
 const _: () = assert!(size_of::<Regular>() == 24 && size_of::<OpenedWords>() == 24);
 const _: () = assert!(size_of::<Args>() == 48);
 #[cfg(feature = "script")]
 const _: () = assert!(size_of::<RunEnd>() == 24);
 const _: () = assert!(size_of::<Sqe>() == 64 && size_of::<Cqe>() == 16);
 
-/// The queue's words.
-pub type Words = [u64; 1024];
+/// The state, which each step changes in place.
+pub type Words = [u64; 2060];
+/// The queue's words, which stand beside a state that is a struct.
+pub type QueueWords = [u64; 1024];
 
 unsafe extern "C" {
     pub fn tilgurap_fresh(scheme: u64) -> State;
-    pub fn tilgurap_status(s: State, out: *mut [u64; 8]);
-    pub fn tilgurap_open(s: State, description: u64) -> StepWords;
-    pub fn tilgurap_copy(s: State, description: u64) -> StepWords;
-    pub fn tilgurap_drop(s: State, description: u64) -> StepWords;
-    pub fn tilgurap_put(s: State, description: u64, handle: u64) -> StepWords;
-    pub fn tilgurap_ended(s: State, caller: u32) -> StepWords;
-    pub fn tilgurap_next_id(s: State, words: *mut Words, caller: u32) -> StepWords;
+    pub fn tilgurap_plain(words: *const Words, queue: *mut QueueWords) -> State;
+    pub fn tilgurap_packed(s: State, queue: *const QueueWords, words: *mut Words);
+    pub fn tilgurap_status(words: *const Words, out: *mut [u64; 8]);
+    pub fn tilgurap_open(words: *mut Words, description: u64) -> StepWords;
+    pub fn tilgurap_copy(words: *mut Words, description: u64) -> StepWords;
+    pub fn tilgurap_drop(words: *mut Words, description: u64) -> StepWords;
+    pub fn tilgurap_put(words: *mut Words, description: u64, handle: u64) -> StepWords;
+    pub fn tilgurap_ended(words: *mut Words, caller: u32) -> StepWords;
+    pub fn tilgurap_next_id(words: *mut Words, caller: u32) -> StepWords;
     pub fn tilgurap_submit(
-        s: State,
         words: *mut Words,
         tag: Tag,
         caller: u32,
@@ -225,7 +225,6 @@ unsafe extern "C" {
         fds_len: usize,
     ) -> StepWords;
     pub fn tilgurap_call(
-        s: State,
         words: *mut Words,
         caller: u32,
         opcode: u64,
@@ -237,7 +236,6 @@ unsafe extern "C" {
         fds_len: usize,
     ) -> StepWords;
     pub fn tilgurap_call_generic(
-        s: State,
         words: *mut Words,
         caller: u32,
         pid: u64,
@@ -249,7 +247,6 @@ unsafe extern "C" {
         metadata_len: usize,
     ) -> StepWords;
     pub fn tilgurap_translate_std_fs_call(
-        s: State,
         words: *mut Words,
         caller: u32,
         pid: u64,
@@ -261,7 +258,6 @@ unsafe extern "C" {
         metadata_len: usize,
     ) -> StepWords;
     pub fn tilgurap_request_fmap(
-        s: State,
         words: *mut Words,
         caller: u32,
         id: u64,
@@ -271,10 +267,9 @@ unsafe extern "C" {
         gid: u32,
         pid: u64,
     ) -> StepWords;
-    pub fn tilgurap_close(s: State, words: *mut Words, id: u64) -> StepWords;
-    pub fn tilgurap_detach(s: State, words: *mut Words, id: u64, pid: u64) -> StepWords;
+    pub fn tilgurap_close(words: *mut Words, id: u64) -> StepWords;
+    pub fn tilgurap_detach(words: *mut Words, id: u64, pid: u64) -> StepWords;
     pub fn tilgurap_wake(
-        s: State,
         words: *mut Words,
         tag: Tag,
         caller: u32,
@@ -283,21 +278,19 @@ unsafe extern "C" {
         count: u64,
     ) -> WakeWords;
     pub fn tilgurap_read(
-        s: State,
-        words: *const Words,
+        words: *mut Words,
         out: *mut u8,
         out_len: usize,
         flags: u32,
-    ) -> ReadState;
+    ) -> AnswerWords;
     pub fn tilgurap_write(
-        s: State,
+        words: *mut Words,
         fx: *mut u64,
         fx_len: usize,
         bytes: *const u8,
         bytes_len: usize,
     ) -> Completed;
     pub fn tilgurap_call_fdwrite(
-        s: State,
         words: *mut Words,
         metadata: *const u64,
         metadata_len: usize,
@@ -305,13 +298,11 @@ unsafe extern "C" {
         fds_len: usize,
     ) -> StepWords;
     pub fn tilgurap_call_fdread(
-        s: State,
         words: *mut Words,
         metadata: *const u64,
         metadata_len: usize,
     ) -> StepWords;
     pub fn tilgurap_provide_mmap(
-        s: State,
         words: *mut Words,
         tag: Tag,
         offset: u64,

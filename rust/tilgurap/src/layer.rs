@@ -1,4 +1,4 @@
-//! One layer: its state and its queue, and a method for each event.
+//! One layer: its state, and a method for each event.
 
 use std::fmt::{self, Debug, Formatter};
 
@@ -12,7 +12,7 @@ use crate::opcode::Opcode;
 use crate::refusal::{Refusal, refusal};
 use crate::reply::Reply;
 use crate::status::{Holds, Slot, SlotState, Status, StatusWord};
-use crate::steps::{GenericCall, Stepped, Steps};
+use crate::steps::{GenericCall, Steps};
 
 /// Words that a whole completion entry may make: 18 effects of three.
 const EFFECT_WORDS: usize = 54;
@@ -85,7 +85,8 @@ pub struct Written {
 ///
 /// It holds 64 slots, one for each call under way, and a queue of 128 entries for the driver. It
 /// does nothing by itself: each method is one event, and what the host has to do about it comes
-/// back as an [`Effect`].
+/// back as an [`Effect`]. Two layers are equal where every word of their states is, also those of
+/// entries that were read.
 ///
 /// ```
 /// use tilgurap::{
@@ -125,10 +126,10 @@ impl Debug for Layer {
     }
 }
 
-fn done(stepped: &Stepped) -> Result<u64, Refusal> {
-    match stepped.answer.kind {
-        0 => Ok(stepped.answer.value),
-        1 => Err(refusal(stepped.answer.value)),
+fn done(step: &ffi::StepWords) -> Result<u64, Refusal> {
+    match step.answer.kind {
+        0 => Ok(step.answer.value),
+        1 => Err(refusal(step.answer.value)),
         kind => unreachable!("{kind} is no such event's answer"),
     }
 }
@@ -138,14 +139,14 @@ fn effect(effect: ffi::Effect) -> Option<Effect> {
 }
 
 /// An accepted event that queued an entry.
-fn queued(stepped: Stepped) -> Result<(u64, Effect), Refusal> {
-    let value = done(&stepped)?;
-    let effect = effect(stepped.effect).expect("an entry that is queued makes an effect");
+fn queued(step: ffi::StepWords) -> Result<(u64, Effect), Refusal> {
+    let value = done(&step)?;
+    let effect = effect(step.effect).expect("an entry that is queued makes an effect");
     Ok((value, effect))
 }
 
-fn submitted(stepped: Stepped) -> Result<Submitted, Refusal> {
-    queued(stepped).map(|(tag, effect)| Submitted {
+fn submitted(step: ffi::StepWords) -> Result<Submitted, Refusal> {
+    queued(step).map(|(tag, effect)| Submitted {
         tag: Tag(tag),
         effect,
     })
@@ -353,10 +354,10 @@ impl Layer {
     /// is no room for the Cancel.
     pub fn wake(&mut self, tag: Tag, caller: Caller) -> Result<Wake, Refusal> {
         let woken = self.steps.wake(tag.0, caller.0, 0, 0, 0);
-        match woken.stepped.answer.kind {
-            3 => Ok(Wake::Blocked(effect(woken.stepped.effect))),
+        match woken.answer.kind {
+            3 => Ok(Wake::Blocked(effect(woken.effect))),
             4 => Ok(Wake::Replied(Reply::from_stored(woken.reply, &woken.fds))),
-            _ => Err(refusal(woken.stepped.answer.value)),
+            _ => Err(refusal(woken.answer.value)),
         }
     }
 
@@ -367,9 +368,9 @@ impl Layer {
     /// Refused: `Eintr`, and as [`wake`](Layer::wake) but for a full queue.
     pub fn wake_killed(&mut self, tag: Tag, caller: Caller, span: Span) -> Result<Reply, Refusal> {
         let woken = (self.steps).wake(tag.0, caller.0, 1, span.base, span.count);
-        match woken.stepped.answer.kind {
+        match woken.answer.kind {
             4 => Ok(Reply::from_stored(woken.reply, &woken.fds)),
-            _ => Err(refusal(woken.stepped.answer.value)),
+            _ => Err(refusal(woken.answer.value)),
         }
     }
 
@@ -475,8 +476,8 @@ impl Layer {
     /// # Ok::<(), tilgurap::Refusal>(())
     /// ```
     pub fn move_list(&mut self, tag: Tag, list: &[Description]) -> Result<usize, Refusal> {
-        let stepped = self.steps.move_list(&[1, tag.0], &numbers(list));
-        done(&stepped).map(|count| count as usize)
+        let step = self.steps.move_list(&[1, tag.0], &numbers(list));
+        done(&step).map(|count| count as usize)
     }
 
     /// The driver takes a waiting call's descriptions, which become outside holds. Returns how
@@ -485,8 +486,8 @@ impl Layer {
     /// Refused: [`Einval`](Refusal::Einval) for a vacant tag, [`Enoent`](Refusal::Enoent) where the
     /// call does not wait.
     pub fn obtain_list(&mut self, tag: Tag) -> Result<usize, Refusal> {
-        let stepped = self.steps.obtain(&[0, tag.0]);
-        done(&stepped).map(|count| count as usize)
+        let step = self.steps.obtain(&[0, tag.0]);
+        done(&step).map(|count| count as usize)
     }
 
     /// The driver supplies the page of a map request, which vacates its slot.
@@ -506,7 +507,7 @@ impl Layer {
 
     /// The number that the layer was made with.
     pub fn scheme(&self) -> SchemeNumber {
-        SchemeNumber(self.steps.state.driver.scheme)
+        SchemeNumber(self.steps.state().driver.scheme)
     }
 
     /// The four status words.
@@ -534,15 +535,17 @@ impl Layer {
 
     /// What the slot with this tag holds.
     pub fn slot(&self, tag: Tag) -> Slot {
-        let slots = &self.steps.state.table.slots;
+        let slots = self.steps.state().table.slots;
         let slot = usize::try_from(tag.0).ok().and_then(|tag| slots.get(tag));
         slot.map_or(Slot::VACANT, Slot::of)
     }
 
     /// The slots that are not vacant, by their tags.
     pub fn occupied(&self) -> Vec<(Tag, Slot)> {
-        let slots = (0..64).map(|tag| (Tag(tag), self.slot(Tag(tag))));
-        slots
+        let slots = self.steps.state().table.slots;
+        (0..64)
+            .zip(&slots)
+            .map(|(tag, slot)| (Tag(tag), Slot::of(slot)))
             .filter(|(_, slot)| slot.state != SlotState::Vacant)
             .collect()
     }
@@ -555,14 +558,14 @@ impl Layer {
 
     /// The description in a handle of the driver's.
     pub fn handle(&self, handle: Handle) -> Option<Description> {
-        let handles = &self.steps.state.driver.handles.at;
+        let handles = self.steps.state().driver.handles.at;
         let held = handles.get(usize::try_from(handle.0).ok()?)?;
         held.checked_sub(1).map(Description)
     }
 
     /// How many hold a description: 0 where it is not open.
     pub fn holds(&self, description: Description) -> Holds {
-        let counts = &self.steps.state.table.holds;
+        let counts = self.steps.state().table.holds;
         let at = |of: &[u64; 64]| {
             let place = usize::try_from(description.0).ok();
             place.and_then(|d| of.get(d)).copied().unwrap_or(0)

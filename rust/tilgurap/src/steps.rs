@@ -1,19 +1,6 @@
-//! The state and the queue's words, and each event put to them in numbers.
+//! The state's words, and each event put to them in numbers.
 
 use crate::ffi;
-
-/// What an event answered, and the effect that it made: kind 0 for none.
-pub(crate) struct Stepped {
-    pub answer: ffi::AnswerWords,
-    pub effect: ffi::Effect,
-}
-
-/// What a wake answered: for answer 4 the reply, and the list beside it.
-pub(crate) struct Woken {
-    pub stepped: Stepped,
-    pub reply: ffi::Reply,
-    pub fds: ffi::List,
-}
 
 /// What `generic` and `stdfs` carry.
 pub(crate) struct GenericCall<'a> {
@@ -25,16 +12,14 @@ pub(crate) struct GenericCall<'a> {
     pub metadata: &'a [u64],
 }
 
-/// The state that each event is given and gives back.
+/// The words that each event is lent and changes in place.
 #[derive(Clone, PartialEq, Eq)]
 pub(crate) struct Steps {
-    pub state: Box<ffi::State>,
     words: Box<ffi::Words>,
 }
 
 /// `generic` and `stdfs` take the same.
 type CallGeneric = unsafe extern "C" fn(
-    ffi::State,
     *mut ffi::Words,
     u32,
     u64,
@@ -49,56 +34,73 @@ type CallGeneric = unsafe extern "C" fn(
 impl Steps {
     /// A fresh state, given the scheme's number.
     pub fn new(scheme: u64) -> Steps {
-        Steps {
-            // SAFETY: numbers alone.
-            state: Box::new(unsafe { ffi::tilgurap_fresh(scheme) }),
-            words: Box::new([0; 1024]),
-        }
-    }
-
-    fn stepped(&mut self, step: ffi::StepWords) -> Stepped {
-        *self.state = step.state;
-        Stepped {
-            answer: step.answer,
-            effect: step.effect,
-        }
-    }
-
-    pub fn open(&mut self, d: u64) -> Stepped {
+        let mut steps = Steps {
+            words: Box::new([0; 2060]),
+        };
         // SAFETY: numbers alone.
-        let step = unsafe { ffi::tilgurap_open(*self.state, d) };
-        self.stepped(step)
+        let fresh = unsafe { ffi::tilgurap_fresh(scheme) };
+        steps.store(fresh, &[0; 1024]);
+        steps
     }
 
-    pub fn copy(&mut self, d: u64) -> Stepped {
-        // SAFETY: numbers alone.
-        let step = unsafe { ffi::tilgurap_copy(*self.state, d) };
-        self.stepped(step)
+    fn lent(&mut self) -> *mut ffi::Words {
+        &raw mut *self.words
     }
 
-    pub fn drop_one(&mut self, d: u64) -> Stepped {
-        // SAFETY: numbers alone.
-        let step = unsafe { ffi::tilgurap_drop(*self.state, d) };
-        self.stepped(step)
+    /// The words become those of this state.
+    fn store(&mut self, state: ffi::State, queue: &ffi::QueueWords) {
+        // SAFETY: the words are the layer's own, the queue's are there to be read.
+        unsafe { ffi::tilgurap_packed(state, queue, self.lent()) }
     }
 
-    pub fn put(&mut self, d: u64, h: u64) -> Stepped {
-        // SAFETY: numbers alone.
-        let step = unsafe { ffi::tilgurap_put(*self.state, d, h) };
-        self.stepped(step)
+    fn plain(&self) -> (ffi::State, ffi::QueueWords) {
+        let mut queue = [0; 1024];
+        // SAFETY: the words are the layer's own, the queue's are there to be written.
+        let state = unsafe { ffi::tilgurap_plain(&raw const *self.words, &raw mut queue) };
+        (state, queue)
     }
 
-    pub fn ended(&mut self, c: u32) -> Stepped {
-        // SAFETY: numbers alone.
-        let step = unsafe { ffi::tilgurap_ended(*self.state, c) };
-        self.stepped(step)
+    /// The state as a struct, to be looked at.
+    pub fn state(&self) -> ffi::State {
+        self.plain().0
     }
 
-    pub fn reserve(&mut self, c: u32) -> Stepped {
-        let words = &raw mut *self.words;
+    /// Changes the state's fields.
+    #[cfg(feature = "parts")]
+    pub fn change(&mut self, change: impl FnOnce(&mut ffi::State)) {
+        let (mut state, queue) = self.plain();
+        change(&mut state);
+        self.store(state, &queue);
+    }
+
+    pub fn open(&mut self, d: u64) -> ffi::StepWords {
         // SAFETY: the words are the layer's own.
-        let step = unsafe { ffi::tilgurap_next_id(*self.state, words, c) };
-        self.stepped(step)
+        unsafe { ffi::tilgurap_open(self.lent(), d) }
+    }
+
+    pub fn copy(&mut self, d: u64) -> ffi::StepWords {
+        // SAFETY: the words are the layer's own.
+        unsafe { ffi::tilgurap_copy(self.lent(), d) }
+    }
+
+    pub fn drop_one(&mut self, d: u64) -> ffi::StepWords {
+        // SAFETY: the words are the layer's own.
+        unsafe { ffi::tilgurap_drop(self.lent(), d) }
+    }
+
+    pub fn put(&mut self, d: u64, h: u64) -> ffi::StepWords {
+        // SAFETY: the words are the layer's own.
+        unsafe { ffi::tilgurap_put(self.lent(), d, h) }
+    }
+
+    pub fn ended(&mut self, c: u32) -> ffi::StepWords {
+        // SAFETY: the words are the layer's own.
+        unsafe { ffi::tilgurap_ended(self.lent(), c) }
+    }
+
+    pub fn reserve(&mut self, c: u32) -> ffi::StepWords {
+        // SAFETY: the words are the layer's own.
+        unsafe { ffi::tilgurap_next_id(self.lent(), c) }
     }
 
     #[allow(clippy::too_many_arguments)]
@@ -111,14 +113,11 @@ impl Steps {
         args: [u64; 6],
         pid: u64,
         list: &[u64],
-    ) -> Stepped {
-        let (words, tag, args) = (&raw mut *self.words, ffi::Tag(tag), ffi::Args(args));
+    ) -> ffi::StepWords {
+        let (words, tag, args) = (self.lent(), ffi::Tag(tag), ffi::Args(args));
         let (fds, len) = (list.as_ptr(), list.len());
         // SAFETY: the words are the layer's own; the list's pointer goes with its length.
-        let step = unsafe {
-            ffi::tilgurap_submit(*self.state, words, tag, c, op, fl, args, pid, fds, len)
-        };
-        self.stepped(step)
+        unsafe { ffi::tilgurap_submit(words, tag, c, op, fl, args, pid, fds, len) }
     }
 
     #[allow(clippy::too_many_arguments)]
@@ -131,21 +130,18 @@ impl Steps {
         gid: u32,
         pid: u64,
         list: &[u64],
-    ) -> Stepped {
-        let (words, args) = (&raw mut *self.words, ffi::Args(args));
+    ) -> ffi::StepWords {
+        let (words, args) = (self.lent(), ffi::Args(args));
         let (fds, len) = (list.as_ptr(), list.len());
         // SAFETY: the words are the layer's own; the list's pointer goes with its length.
-        let step =
-            unsafe { ffi::tilgurap_call(*self.state, words, c, op, args, uid, gid, pid, fds, len) };
-        self.stepped(step)
+        unsafe { ffi::tilgurap_call(words, c, op, args, uid, gid, pid, fds, len) }
     }
 
-    fn call_by(&mut self, function: CallGeneric, call: &GenericCall) -> Stepped {
+    fn call_by(&mut self, function: CallGeneric, call: &GenericCall) -> ffi::StepWords {
         // SAFETY: the words are the layer's own; each list's pointer goes with its length.
-        let step = unsafe {
+        unsafe {
             function(
-                *self.state,
-                &raw mut *self.words,
+                self.lent(),
                 call.caller,
                 call.pid,
                 call.fds.as_ptr(),
@@ -155,15 +151,14 @@ impl Steps {
                 call.metadata.as_ptr(),
                 call.metadata.len(),
             )
-        };
-        self.stepped(step)
+        }
     }
 
-    pub fn generic(&mut self, call: &GenericCall) -> Stepped {
+    pub fn generic(&mut self, call: &GenericCall) -> ffi::StepWords {
         self.call_by(ffi::tilgurap_call_generic, call)
     }
 
-    pub fn stdfs(&mut self, call: &GenericCall) -> Stepped {
+    pub fn stdfs(&mut self, call: &GenericCall) -> ffi::StepWords {
         self.call_by(ffi::tilgurap_translate_std_fs_call, call)
     }
 
@@ -177,92 +172,67 @@ impl Steps {
         uid: u32,
         gid: u32,
         pid: u64,
-    ) -> Stepped {
-        let words = &raw mut *self.words;
+    ) -> ffi::StepWords {
+        let words = self.lent();
         // SAFETY: the words are the layer's own.
-        let step = unsafe {
-            ffi::tilgurap_request_fmap(*self.state, words, c, id, pages, flags, uid, gid, pid)
-        };
-        self.stepped(step)
+        unsafe { ffi::tilgurap_request_fmap(words, c, id, pages, flags, uid, gid, pid) }
     }
 
-    pub fn close(&mut self, id: u64) -> Stepped {
+    pub fn close(&mut self, id: u64) -> ffi::StepWords {
         // SAFETY: the words are the layer's own.
-        let step = unsafe { ffi::tilgurap_close(*self.state, &raw mut *self.words, id) };
-        self.stepped(step)
+        unsafe { ffi::tilgurap_close(self.lent(), id) }
     }
 
-    pub fn detach(&mut self, id: u64, pid: u64) -> Stepped {
+    pub fn detach(&mut self, id: u64, pid: u64) -> ffi::StepWords {
         // SAFETY: the words are the layer's own.
-        let step = unsafe { ffi::tilgurap_detach(*self.state, &raw mut *self.words, id, pid) };
-        self.stepped(step)
+        unsafe { ffi::tilgurap_detach(self.lent(), id, pid) }
     }
 
-    pub fn wake(&mut self, tag: u64, c: u32, killed: u64, base: u64, count: u64) -> Woken {
-        let (words, tag) = (&raw mut *self.words, ffi::Tag(tag));
+    pub fn wake(&mut self, tag: u64, c: u32, killed: u64, base: u64, count: u64) -> ffi::WakeWords {
+        let (words, tag) = (self.lent(), ffi::Tag(tag));
         // SAFETY: the words are the layer's own.
-        let woken = unsafe { ffi::tilgurap_wake(*self.state, words, tag, c, killed, base, count) };
-        *self.state = woken.state;
-        Woken {
-            stepped: Stepped {
-                answer: woken.answer,
-                effect: woken.effect,
-            },
-            reply: woken.reply,
-            fds: woken.fds,
-        }
+        unsafe { ffi::tilgurap_wake(words, tag, c, killed, base, count) }
     }
 
     /// Bytes of `out` beyond those stored stay as they are.
     pub fn read(&mut self, out: &mut [u8], flags: u32) -> ffi::AnswerWords {
-        let (words, at, len) = (&raw const *self.words, out.as_mut_ptr(), out.len());
+        let (words, at, len) = (self.lent(), out.as_mut_ptr(), out.len());
         // SAFETY: the words are the layer's own; the pointer goes with its length.
-        let received = unsafe { ffi::tilgurap_read(*self.state, words, at, len, flags) };
-        *self.state = received.state;
-        received.answer
+        unsafe { ffi::tilgurap_read(words, at, len, flags) }
     }
 
     /// The answer, and how many of the lent words hold effects, three to each.
     pub fn write(&mut self, fx: &mut [u64], bytes: &[u8]) -> (ffi::AnswerWords, usize) {
-        let (at, lent) = (fx.as_mut_ptr(), fx.len());
-        // SAFETY: each pointer comes from the slice whose length goes with it.
-        let completed =
-            unsafe { ffi::tilgurap_write(*self.state, at, lent, bytes.as_ptr(), bytes.len()) };
-        *self.state = completed.state;
+        let (words, at, lent) = (self.lent(), fx.as_mut_ptr(), fx.len());
+        let (from, len) = (bytes.as_ptr(), bytes.len());
+        // SAFETY: the words are the layer's own; each pointer goes with its length.
+        let completed = unsafe { ffi::tilgurap_write(words, at, lent, from, len) };
         (completed.answer, completed.words)
     }
 
-    pub fn move_list(&mut self, meta: &[u64], list: &[u64]) -> Stepped {
-        let words = &raw mut *self.words;
-        let (metadata, fds) = (meta.as_ptr(), list.as_ptr());
+    pub fn move_list(&mut self, meta: &[u64], list: &[u64]) -> ffi::StepWords {
+        let (words, metadata, fds) = (self.lent(), meta.as_ptr(), list.as_ptr());
         // SAFETY: the words are the layer's own; each pointer comes from the slice whose length goes with it.
-        let step = unsafe {
-            ffi::tilgurap_call_fdwrite(*self.state, words, metadata, meta.len(), fds, list.len())
-        };
-        self.stepped(step)
+        unsafe { ffi::tilgurap_call_fdwrite(words, metadata, meta.len(), fds, list.len()) }
     }
 
-    pub fn obtain(&mut self, meta: &[u64]) -> Stepped {
-        let words = &raw mut *self.words;
-        let (metadata, len) = (meta.as_ptr(), meta.len());
+    pub fn obtain(&mut self, meta: &[u64]) -> ffi::StepWords {
+        let (words, metadata, len) = (self.lent(), meta.as_ptr(), meta.len());
         // SAFETY: the words are the layer's own; the pointer goes with its length.
-        let step = unsafe { ffi::tilgurap_call_fdread(*self.state, words, metadata, len) };
-        self.stepped(step)
+        unsafe { ffi::tilgurap_call_fdread(words, metadata, len) }
     }
 
-    pub fn supply(&mut self, tag: u64, offset: u64, base: u64, count: u64) -> Stepped {
-        let (words, tag) = (&raw mut *self.words, ffi::Tag(tag));
+    pub fn supply(&mut self, tag: u64, offset: u64, base: u64, count: u64) -> ffi::StepWords {
+        let (words, tag) = (self.lent(), ffi::Tag(tag));
         // SAFETY: the words are the layer's own.
-        let step =
-            unsafe { ffi::tilgurap_provide_mmap(*self.state, words, tag, offset, base, count) };
-        self.stepped(step)
+        unsafe { ffi::tilgurap_provide_mmap(words, tag, offset, base, count) }
     }
 
     /// Placeholder, Waiting, Responded and Fmap: one bit a slot, and the count of ones.
     pub fn status(&self) -> [(u64, u64); 4] {
-        let mut words = [0; 8];
-        // SAFETY: the words are there to be written.
-        unsafe { ffi::tilgurap_status(*self.state, &raw mut words) };
-        std::array::from_fn(|of| (words[2 * of], words[2 * of + 1]))
+        let mut out = [0; 8];
+        // SAFETY: the words are the layer's own, the others are there to be written.
+        unsafe { ffi::tilgurap_status(&raw const *self.words, &raw mut out) };
+        std::array::from_fn(|of| (out[2 * of], out[2 * of + 1]))
     }
 }

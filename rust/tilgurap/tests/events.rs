@@ -334,6 +334,21 @@ fn woken_too_early_and_killed() {
 }
 
 #[test]
+fn layers_are_equal_by_their_words() {
+    let (mut layer, tag) = waiting(&[1]);
+    let before = layer.clone();
+    assert_eq!(layer.wake(tag, Caller(101)), Err(Refusal::NotThisCallers));
+    assert_eq!(layer, before);
+    layer.close(FileNumber(1)).unwrap();
+    assert_ne!(layer, before);
+    assert_eq!((layer.unread().len(), before.unread().len()), (1, 0));
+    assert_eq!(layer.scheme(), before.scheme());
+    // an entry that was read stands there until another takes its place
+    layer.next_entry().unwrap();
+    assert_ne!(layer, before);
+}
+
+#[test]
 fn an_ended_caller() {
     let (mut layer, tag) = waiting(&[1]);
     layer.ended(CALLER);

@@ -6,7 +6,7 @@ use script::{Answer, Effect, Payload, Phase, Reply, State};
 
 use crate::ffi;
 use crate::ids::SchemeNumber;
-use crate::steps::{GenericCall, Stepped};
+use crate::steps::GenericCall;
 
 /// What an event answered, and the effect that it made, if any.
 #[derive(Clone, Debug, PartialEq, Eq)]
@@ -59,11 +59,11 @@ fn reply(reply: ffi::Reply, fds: ffi::List) -> Reply {
     }
 }
 
-impl From<Stepped> for Outcome {
-    fn from(stepped: Stepped) -> Outcome {
+impl From<ffi::StepWords> for Outcome {
+    fn from(step: ffi::StepWords) -> Outcome {
         Outcome {
-            answer: answer(stepped.answer),
-            effect: effect(stepped.effect),
+            answer: answer(step.answer),
+            effect: effect(step.effect),
         }
     }
 }
@@ -197,12 +197,12 @@ impl Layer {
     /// `wake`
     pub fn wake(&mut self, tag: u64, c: u32, killed: u64, base: u64, count: u64) -> Outcome {
         let woken = self.layer.steps.wake(tag, c, killed, base, count);
-        match woken.stepped.answer.kind {
-            4 => Outcome {
-                answer: Answer::Reply(reply(woken.reply, woken.fds)),
-                effect: effect(woken.stepped.effect),
+        Outcome {
+            answer: match woken.answer.kind {
+                4 => Answer::Reply(reply(woken.reply, woken.fds)),
+                _ => answer(woken.answer),
             },
-            _ => woken.stepped.into(),
+            effect: effect(woken.effect),
         }
     }
 
@@ -234,7 +234,7 @@ impl Layer {
 
     /// The state as a run's last line has it.
     pub fn state(&self) -> State {
-        let state = &self.layer.steps.state;
+        let state = self.layer.steps.state();
         let slots = array::from_fn(|tag| match state.table.slots[tag].state {
             1 => Phase::Placeholder,
             2 => Phase::Waiting,
@@ -254,13 +254,13 @@ impl Layer {
 
     /// The state's fields.
     #[cfg(feature = "parts")]
-    pub fn parts(&self) -> &ffi::State {
-        &self.layer.steps.state
+    pub fn parts(&self) -> ffi::State {
+        self.layer.steps.state()
     }
 
-    /// The state's fields.
+    /// Changes the state's fields.
     #[cfg(feature = "parts")]
-    pub fn parts_mut(&mut self) -> &mut ffi::State {
-        &mut self.layer.steps.state
+    pub fn change_parts(&mut self, change: impl FnOnce(&mut ffi::State)) {
+        self.layer.steps.change(change);
     }
 }
