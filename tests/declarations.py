@@ -21,8 +21,7 @@ def crossed(name, kind):
     pointer = "*mut" if lent[1] else "*const"
     if lent[3] is None:
         return [(name, f"{pointer} {lent[2]}"), (f"{name}_len", "usize")]
-    words = "Words" if (lent[2], lent[3]) == ("u64", "1024") else f"[{lent[2]}; {lent[3]}]"
-    return [(name, f"{pointer} {words}")]
+    return [(name, f"{pointer} [{lent[2]}; {lent[3]}]")]
 
 
 def arguments(text):
@@ -38,9 +37,11 @@ def layer():
 
 
 def rust(text):
+    # the state's words and the queue's have names there
+    arrays = dict(re.findall(r"^pub type (\w+) = (\[.*\]);$", text, re.M))
     found = {}
     for name, inside, out in re.findall(r"pub fn (tilgurap_\w+)\((.*?)\)(?: -> (\w+))?;", text, re.S):
-        found[name] = (arguments(inside), out)
+        found[name] = ([(arg, re.sub(r"\w+$", lambda of: arrays.get(of[0], of[0]), kind)) for arg, kind in arguments(inside)], out)
     return found
 
 
