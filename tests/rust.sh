@@ -32,6 +32,8 @@ library=${TILGURAP_LIB:-../target/staticlib}/libtilgurap.a
 if [ -f "$library" ]; then
     run_tests tilgurap
     run_tests tilgurap --all-features
+    # every step on a million arrays of words
+    run_tests tilgurap --release --test any_words
     run_tests driver
 else
     echo "skipped: tests of rust/tilgurap, rust/driver and rust/compare, since $library is not built"
