@@ -1,4 +1,4 @@
-// The ends that events share: turned down; an entry of its own queued; a slot given out, or changed, and its entry queued.
+// The ends that events share: an answer with no effect; an entry of its own queued; a slot given out, or changed, and its entry queued.
 use answer::Answer;
 use effect::Effect;
 use ids::SlotNo;
@@ -20,8 +20,8 @@ pub struct Step {
     pub effect: Effect,
 }
 
-// Nothing was stored.
-pub fn turned_down(answer: Answer) -> Step
+// An answer with no effect.
+pub fn answered(answer: Answer) -> Step
     ensures { λ r. ⌜ r .answer ≡ answer ⌝ }
     ensures { λ r. ⌜ effectWords (r .effect) ≡ [] ⌝ }
 {

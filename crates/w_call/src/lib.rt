@@ -24,13 +24,13 @@ pub fn call(
     let asked = ask::ask(s, opcode, fds);
     if !asked.good {
         let no = asked.answer;
-        return step::turned_down(no);
+        return step::answered(no);
     }
     if words::is_full(s) {
-        return step::turned_down(Answer::Full);
+        return step::answered(Answer::Full);
     }
     if words::queue_full(s) {
-        return step::turned_down(Answer::QueueFull);
+        return step::answered(Answer::QueueFull);
     }
     let n = words::head(s);
     let list = asked.list;

@@ -13,7 +13,7 @@ pub fn close(s: &mut [u64; 2060], id: u64) -> Step
     ensures { λ r. ⌜ Does (now (s .entry)) (now (s .exit)) (on (closeEvent id)) (said (r .answer)) (effectWords (r .effect)) ⌝ }
 {
     if words::queue_full(s) {
-        return step::turned_down(Answer::QueueFull);
+        return step::answered(Answer::QueueFull);
     }
     let a = Args(id, 0, 0, 0, 0, 0);
     let op = opcode::close_msg();
@@ -33,7 +33,7 @@ pub fn detach(s: &mut [u64; 2060], id: u64, pid: u64) -> Step
     ensures { λ r. ⌜ Does (now (s .entry)) (now (s .exit)) (on (detachEvent id pid)) (said (r .answer)) (effectWords (r .effect)) ⌝ }
 {
     if words::queue_full(s) {
-        return step::turned_down(Answer::QueueFull);
+        return step::answered(Answer::QueueFull);
     }
     let a = Args(id, 0, 0, 0, 0, 0);
     let op = opcode::detach();

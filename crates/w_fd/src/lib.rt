@@ -42,26 +42,26 @@ fn moved(s: &mut [u64; 2060], metadata: &[u64], list: List, count: usize) -> Ste
     match p {
         Phase::Vacant => {
             words::discard(s, list);
-            return step::turned_down(Answer::Invalid);
+            return step::answered(Answer::Invalid);
         }
         Phase::Placeholder => {
             words::discard(s, list);
-            return step::turned_down(Answer::NotFound);
+            return step::answered(Answer::NotFound);
         }
         Phase::Responded => {
             words::discard(s, list);
-            return step::turned_down(Answer::NotFound);
+            return step::answered(Answer::NotFound);
         }
         Phase::Fmap => {
             words::discard(s, list);
-            return step::turned_down(Answer::NotFound);
+            return step::answered(Answer::NotFound);
         }
         Phase::Waiting => {
             let old = v.fds;
             let w = slot::with_fds(v, list);
             words::discard(s, old);
             words::put(s, n, w);
-            return step::turned_down(Answer::Descriptions(count as u64));
+            return step::answered(Answer::Descriptions(count as u64));
         }
     }
 }
@@ -74,8 +74,8 @@ pub fn call_fdwrite(s: &mut [u64; 2060], metadata: &[u64], fds: &[u64]) -> Step
     let looked = words::look(s, fds);
     let took = looked.answer;
     match took {
-        TakeAnswer::BadArgument => step::turned_down(Answer::BadArgument),
-        TakeAnswer::TooMany => step::turned_down(Answer::TooManyFds),
+        TakeAnswer::BadArgument => step::answered(Answer::BadArgument),
+        TakeAnswer::TooMany => step::answered(Answer::TooManyFds),
         TakeAnswer::Taken => {
             let list = looked.list;
             return moved(s, metadata, list, fds.len());
@@ -91,10 +91,10 @@ pub fn call_fdread(s: &mut [u64; 2060], metadata: &[u64]) -> Step
     let v = words::load(s, n);
     let p = slot::phase_of(v);
     match p {
-        Phase::Vacant => step::turned_down(Answer::Invalid),
-        Phase::Placeholder => step::turned_down(Answer::NotFound),
-        Phase::Responded => step::turned_down(Answer::NotFound),
-        Phase::Fmap => step::turned_down(Answer::NotFound),
+        Phase::Vacant => step::answered(Answer::Invalid),
+        Phase::Placeholder => step::answered(Answer::NotFound),
+        Phase::Responded => step::answered(Answer::NotFound),
+        Phase::Fmap => step::answered(Answer::NotFound),
         Phase::Waiting => {
             let old = v.fds;
             let count = fd_list::size(old);
@@ -102,7 +102,7 @@ pub fn call_fdread(s: &mut [u64; 2060], metadata: &[u64]) -> Step
             let w = slot::with_fds(v, none);
             words::to_outside(s, old);
             words::put(s, n, w);
-            return step::turned_down(Answer::Descriptions(count as u64));
+            return step::answered(Answer::Descriptions(count as u64));
         }
     }
 }

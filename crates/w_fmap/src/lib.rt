@@ -21,10 +21,10 @@ pub fn request_fmap(
     ensures { λ r. ⌜ Does (now (s .entry)) (now (s .exit)) (on (fmap caller id pages flags uid gid pid)) (said (r .answer)) (effectWords (r .effect)) ⌝ }
 {
     if words::is_full(s) {
-        return step::turned_down(Answer::Full);
+        return step::answered(Answer::Full);
     }
     if words::queue_full(s) {
-        return step::turned_down(Answer::QueueFull);
+        return step::answered(Answer::QueueFull);
     }
     let n = words::head(s);
     let v = slot::map_request(caller);

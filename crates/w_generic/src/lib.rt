@@ -21,16 +21,16 @@ fn call_with(
     ensures { λ r. ⌜ DoesWith op (now (s .entry)) (now (s .exit)) caller pid (now (fds .entry)) base len (now (metadata .entry)) (said (r .answer)) (effectWords (r .effect)) ⌝ }
 {
     if fds.len() == 0 {
-        return step::turned_down(Answer::Invalid);
+        return step::answered(Answer::Invalid);
     }
     if 2 < fds.len() {
-        return step::turned_down(Answer::Invalid);
+        return step::answered(Answer::Invalid);
     }
     if words::is_full(s) {
-        return step::turned_down(Answer::Full);
+        return step::answered(Answer::Full);
     }
     if words::queue_full(s) {
-        return step::turned_down(Answer::QueueFull);
+        return step::answered(Answer::QueueFull);
     }
     let n = words::head(s);
     let none = fd_list::empty();
@@ -66,11 +66,11 @@ pub fn translate_std_fs_call(
     ensures { λ r. ⌜ Does (now (s .entry)) (now (s .exit)) (on (stdfs caller pid (now (fds .entry)) base len (now (metadata .entry)))) (said (r .answer)) (effectWords (r .effect)) ⌝ }
 {
     if metadata.len() < 3 {
-        return step::turned_down(Answer::Invalid);
+        return step::answered(Answer::Invalid);
     }
     let kind = metadata[0] % 256;
     if generic_entry::is_wrong_kind(kind) {
-        return step::turned_down(Answer::NotSupported);
+        return step::answered(Answer::NotSupported);
     }
     let three = [kind, metadata[1], metadata[2]];
     call_with(

@@ -22,14 +22,14 @@ pub fn open(s: &mut [u64; 2060], description: u64) -> Step
     words::sized(s);
     let found = ids::description_of(description);
     match found {
-        DescriptionFound::Outside => step::turned_down(Answer::BadArgument),
+        DescriptionFound::Outside => step::answered(Answer::BadArgument),
         DescriptionFound::At(d) => {
             if words::holds_of(s, d) != 0 {
-                return step::turned_down(Answer::BadArgument);
+                return step::answered(Answer::BadArgument);
             }
             words::raise_outside(s, d);
             words::raise(s, d);
-            return step::turned_down(Answer::Done);
+            return step::answered(Answer::Done);
         }
     }
 }
@@ -41,14 +41,14 @@ pub fn copy(s: &mut [u64; 2060], description: u64) -> Step
     words::sized(s);
     let found = words::held(s, description);
     match found {
-        DescriptionFound::Outside => step::turned_down(Answer::BadArgument),
+        DescriptionFound::Outside => step::answered(Answer::BadArgument),
         DescriptionFound::At(d) => {
             if words::holds_of(s, d) == 65535 {
-                return step::turned_down(Answer::TooManyHolds);
+                return step::answered(Answer::TooManyHolds);
             }
             words::raise_outside(s, d);
             words::raise(s, d);
-            return step::turned_down(Answer::Done);
+            return step::answered(Answer::Done);
         }
     }
 }
@@ -60,11 +60,11 @@ pub fn drop(s: &mut [u64; 2060], description: u64) -> Step
     words::sized(s);
     let found = words::held(s, description);
     match found {
-        DescriptionFound::Outside => step::turned_down(Answer::BadArgument),
+        DescriptionFound::Outside => step::answered(Answer::BadArgument),
         DescriptionFound::At(d) => {
             words::lower_outside(s, d);
             words::lower(s, d);
-            return step::turned_down(Answer::Done);
+            return step::answered(Answer::Done);
         }
     }
 }
@@ -76,17 +76,17 @@ pub fn put(s: &mut [u64; 2060], description: u64, handle: u64) -> Step
     words::sized(s);
     let found = words::held(s, description);
     match found {
-        DescriptionFound::Outside => step::turned_down(Answer::BadArgument),
+        DescriptionFound::Outside => step::answered(Answer::BadArgument),
         DescriptionFound::At(d) => {
             if 63 < handle {
-                return step::turned_down(Answer::BadArgument);
+                return step::answered(Answer::BadArgument);
             }
             if words::held_at(s, Handle(handle)) != 0 {
-                return step::turned_down(Answer::BadArgument);
+                return step::answered(Answer::BadArgument);
             }
             words::lower_outside(s, d);
             words::put_into(s, Handle(handle), d);
-            return step::turned_down(Answer::Done);
+            return step::answered(Answer::Done);
         }
     }
 }
@@ -129,5 +129,5 @@ pub fn ended(s: &mut [u64; 2060], caller: u32) -> Step
         mark(s, i, caller);
         i += 1;
     }
-    step::turned_down(Answer::Done)
+    step::answered(Answer::Done)
 }

@@ -11,7 +11,7 @@ pub fn next_id(s: &mut [u64; 2060], caller: u32) -> Step
     ensures { λ r. ⌜ Does (now (s .entry)) (now (s .exit)) (on (reserve caller)) (said (r .answer)) (effectWords (r .effect)) ⌝ }
 {
     if words::is_full(s) {
-        return step::turned_down(Answer::Full);
+        return step::answered(Answer::Full);
     }
     let n = words::head(s);
     let v = slot::placeholder(caller);

@@ -48,15 +48,15 @@ pub fn submit(
     let asked = ask::ask(s, opcode, fds);
     if !asked.good {
         let no = asked.answer;
-        return step::turned_down(no);
+        return step::answered(no);
     }
     let n = ids::slot_of(tag);
     let v = words::load(s, n);
     if !is_submittable(v, caller) {
-        return step::turned_down(Answer::NotYours);
+        return step::answered(Answer::NotYours);
     }
     if words::queue_full(s) {
-        return step::turned_down(Answer::QueueFull);
+        return step::answered(Answer::QueueFull);
     }
     let list = asked.list;
     let w = slot::waiting(caller, list);

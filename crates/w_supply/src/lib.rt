@@ -14,22 +14,22 @@ pub fn provide_mmap(s: &mut [u64; 2060], tag: Tag, offset: u64, base: u64, count
     ensures { λ r. ⌜ Does (now (s .entry)) (now (s .exit)) (on (supply (tag .0) offset base count)) (said (r .answer)) (effectWords (r .effect)) ⌝ }
 {
     if offset % 4096 != 0 {
-        return step::turned_down(Answer::Invalid);
+        return step::answered(Answer::Invalid);
     }
     if base % 4096 != 0 {
-        return step::turned_down(Answer::Invalid);
+        return step::answered(Answer::Invalid);
     }
     if count != 1 {
-        return step::turned_down(Answer::Invalid);
+        return step::answered(Answer::Invalid);
     }
     let n = ids::slot_of(tag);
     let v = words::load(s, n);
     let phase = slot::phase_of(v);
     match phase {
-        Phase::Vacant => step::turned_down(Answer::Invalid),
-        Phase::Placeholder => step::turned_down(Answer::BadDescriptor),
-        Phase::Waiting => step::turned_down(Answer::Invalid),
-        Phase::Responded => step::turned_down(Answer::Invalid),
+        Phase::Vacant => step::answered(Answer::Invalid),
+        Phase::Placeholder => step::answered(Answer::BadDescriptor),
+        Phase::Waiting => step::answered(Answer::Invalid),
+        Phase::Responded => step::answered(Answer::Invalid),
         Phase::Fmap => {
             words::vacate(s, n);
             let none = effect::none();

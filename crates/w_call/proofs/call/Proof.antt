@@ -12,7 +12,7 @@ use Rattle.w_call.proofs.call.Tie as tie
 use Rattle.ask.proofs.ask.Reads as ask-reads
 use Rattle.slot.proofs.waiting.Reads as waiting-reads
 use Rattle.step.proofs.begun.Reads as begun-reads
-use Rattle.step.proofs.turned_down.Reads as turned-down-reads
+use Rattle.step.proofs.answered.Reads as answered-reads
 use Rattle.user_args.proofs.uid_gid_hack_merge.Reads as uid-gid-hack-merge-reads
 use Rattle.words.proofs.head.Reads as head-reads
 use Rattle.words.proofs.is_full.Reads as is-full-reads
@@ -22,29 +22,29 @@ use Rattle.words.proofs.take.Reads as take-reads
 ask-requires : tie.Need-ask-requires
 ask-requires c κs = search needs
 
-turned-down-requires : tie.Need-turned-down-requires
-turned-down-requires c κs = search needs
+answered-requires : tie.Need-answered-requires
+answered-requires c κs = search needs
 
 returns : tie.Need-returns
-returns c = let a = c .before .before .before .before .before .before .args in refused (a .s .now) (a .caller) (a .opcode) (a .args) (a .uid) (a .gid) (a .pid) (a .fds .now) _ (c .before .before .before .ask .ensures) (not-true _ (c .before .if1 .taken)) _ _ (ap said (c .turned-down .ensures .0)) (c .turned-down .ensures .1)
+returns c = let a = c .before .before .before .before .before .before .args in refused (a .s .now) (a .caller) (a .opcode) (a .args) (a .uid) (a .gid) (a .pid) (a .fds .now) _ (c .before .before .before .ask .ensures) (not-true _ (c .before .if1 .taken)) _ _ (ap said (c .answered .ensures .0)) (c .answered .ensures .1)
 
 is-full-requires : tie.Need-is-full-requires
 is-full-requires c κs = search needs
 
-turned-down-requires-2 : tie.Need-turned-down-requires-2
-turned-down-requires-2 c κs = search needs
+answered-requires-2 : tie.Need-answered-requires-2
+answered-requires-2 c κs = search needs
 
 returns-2 : tie.Need-returns-2
-returns-2 c = let a = c .before .before .before .before .before .before .before .before .before .args in let g = asked-good (plainOf (a .s .now)) (a .opcode) (a .fds .now) _ (c .before .before .before .before .before .before .ask .ensures) (not-false _ (c .before .before .before .before .if1 .left)) in full (a .s .now) (a .caller) (a .opcode) (a .args) (a .uid) (a .gid) (a .pid) (a .fds .now) (g .0) (g .1) (is (c .before .before .is-full .ensures) (c .before .if2 .taken)) _ _ (ap said (c .turned-down2 .ensures .0)) (c .turned-down2 .ensures .1)
+returns-2 c = let a = c .before .before .before .before .before .before .before .before .before .args in let g = asked-good (plainOf (a .s .now)) (a .opcode) (a .fds .now) _ (c .before .before .before .before .before .before .ask .ensures) (not-false _ (c .before .before .before .before .if1 .left)) in full (a .s .now) (a .caller) (a .opcode) (a .args) (a .uid) (a .gid) (a .pid) (a .fds .now) (g .0) (g .1) (is (c .before .before .is-full .ensures) (c .before .if2 .taken)) _ _ (ap said (c .answered2 .ensures .0)) (c .answered2 .ensures .1)
 
 queue-full-requires : tie.Need-queue-full-requires
 queue-full-requires c κs = search needs
 
-turned-down-requires-3 : tie.Need-turned-down-requires-3
-turned-down-requires-3 c κs = search needs
+answered-requires-3 : tie.Need-answered-requires-3
+answered-requires-3 c κs = search needs
 
 returns-3 : tie.Need-returns-3
-returns-3 c = let a = c .before .before .before .before .before .before .before .before .before .before .before .before .args in let g = asked-good (plainOf (a .s .now)) (a .opcode) (a .fds .now) _ (c .before .before .before .before .before .before .before .before .before .ask .ensures) (not-false _ (c .before .before .before .before .before .before .before .if1 .left)) in no-room (a .s .now) (a .caller) (a .opcode) (a .args) (a .uid) (a .gid) (a .pid) (a .fds .now) (g .0) (g .1) (is (c .before .before .before .before .before .is-full .ensures) (c .before .before .before .before .if2 .left)) (is (c .before .before .queue-full .ensures) (c .before .if3 .taken)) _ _ (ap said (c .turned-down3 .ensures .0)) (c .turned-down3 .ensures .1)
+returns-3 c = let a = c .before .before .before .before .before .before .before .before .before .before .before .before .args in let g = asked-good (plainOf (a .s .now)) (a .opcode) (a .fds .now) _ (c .before .before .before .before .before .before .before .before .before .ask .ensures) (not-false _ (c .before .before .before .before .before .before .before .if1 .left)) in no-room (a .s .now) (a .caller) (a .opcode) (a .args) (a .uid) (a .gid) (a .pid) (a .fds .now) (g .0) (g .1) (is (c .before .before .before .before .before .is-full .ensures) (c .before .before .before .before .if2 .left)) (is (c .before .before .queue-full .ensures) (c .before .if3 .taken)) _ _ (ap said (c .answered3 .ensures .0)) (c .answered3 .ensures .1)
 
 head-requires : tie.Need-head-requires
 head-requires c κs = search needs
@@ -73,13 +73,13 @@ call-spec =
     tie.close
     (tie.spec
     ask-requires
-    turned-down-requires
+    answered-requires
     returns
     is-full-requires
-    turned-down-requires-2
+    answered-requires-2
     returns-2
     queue-full-requires
-    turned-down-requires-3
+    answered-requires-3
     returns-3
     head-requires
     waiting-requires

@@ -14,17 +14,17 @@ use Rattle.flag.proofs.event_hup.Reads as event-hup-reads
 use Rattle.flag.proofs.event_read.Reads as event-read-reads
 use Rattle.opcode.proofs.close_msg.Reads as close-msg-reads
 use Rattle.step.proofs.notified.Reads as notified-reads
-use Rattle.step.proofs.turned_down.Reads as turned-down-reads
+use Rattle.step.proofs.answered.Reads as answered-reads
 use Rattle.words.proofs.queue_full.Reads as queue-full-reads
 
 queue-full-requires : tie.Need-queue-full-requires
 queue-full-requires c κs = search needs
 
-turned-down-requires : tie.Need-turned-down-requires
-turned-down-requires c κs = search needs
+answered-requires : tie.Need-answered-requires
+answered-requires c κs = search needs
 
 returns : tie.Need-returns
-returns c = let a = c .before .before .before .before .args in full (a .s .now) (on (close (a .id))) (eventRead + eventHup) (closeEntry (a .id)) refl refl (is (c .before .before .queue-full .ensures) (c .before .if1 .taken)) _ _ (ap said (c .turned-down .ensures .0)) (c .turned-down .ensures .1)
+returns c = let a = c .before .before .before .before .args in full (a .s .now) (on (close (a .id))) (eventRead + eventHup) (closeEntry (a .id)) refl refl (is (c .before .before .queue-full .ensures) (c .before .if1 .taken)) _ _ (ap said (c .answered .ensures .0)) (c .answered .ensures .1)
 
 close-msg-requires : tie.Need-close-msg-requires
 close-msg-requires c κs = search needs
@@ -51,7 +51,7 @@ close-spec =
     tie.close
     (tie.spec
     queue-full-requires
-    turned-down-requires
+    answered-requires
     returns
     close-msg-requires
     event-read-requires

@@ -12,17 +12,17 @@ use Rattle.w_close.proofs.detach.Tie as tie
 use Rattle.flag.proofs.event_read.Reads as event-read-reads
 use Rattle.opcode.proofs.detach.Reads as detach-reads
 use Rattle.step.proofs.notified.Reads as notified-reads
-use Rattle.step.proofs.turned_down.Reads as turned-down-reads
+use Rattle.step.proofs.answered.Reads as answered-reads
 use Rattle.words.proofs.queue_full.Reads as queue-full-reads
 
 queue-full-requires : tie.Need-queue-full-requires
 queue-full-requires c κs = search needs
 
-turned-down-requires : tie.Need-turned-down-requires
-turned-down-requires c κs = search needs
+answered-requires : tie.Need-answered-requires
+answered-requires c κs = search needs
 
 returns : tie.Need-returns
-returns c = let a = c .before .before .before .before .args in full (a .s .now) (on (detach (a .id) (a .pid))) eventRead (detachEntry (a .id) (a .pid)) refl refl (is (c .before .before .queue-full .ensures) (c .before .if1 .taken)) _ _ (ap said (c .turned-down .ensures .0)) (c .turned-down .ensures .1)
+returns c = let a = c .before .before .before .before .args in full (a .s .now) (on (detach (a .id) (a .pid))) eventRead (detachEntry (a .id) (a .pid)) refl refl (is (c .before .before .queue-full .ensures) (c .before .if1 .taken)) _ _ (ap said (c .answered .ensures .0)) (c .answered .ensures .1)
 
 detach-requires : tie.Need-detach-requires
 detach-requires c κs = search needs
@@ -43,7 +43,7 @@ detach-spec =
     tie.close
     (tie.spec
     queue-full-requires
-    turned-down-requires
+    answered-requires
     returns
     detach-requires
     event-read-requires

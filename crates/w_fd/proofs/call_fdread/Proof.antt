@@ -10,7 +10,7 @@ use Rattle.fd_list.proofs.empty.Reads as empty-reads
 use Rattle.fd_list.proofs.size.Reads as size-reads
 use Rattle.slot.proofs.phase_of.Reads as phase-of-reads
 use Rattle.slot.proofs.with_fds.Reads as with-fds-reads
-use Rattle.step.proofs.turned_down.Reads as turned-down-reads
+use Rattle.step.proofs.answered.Reads as answered-reads
 use Rattle.w_fd.proofs.request_slot.Reads as request-slot-reads
 use Rattle.words.proofs.load.Reads as load-reads
 use Rattle.words.proofs.put.Reads as put-reads
@@ -28,26 +28,26 @@ phase-of-requires c κs = search needs
 enum-told : tie.Need-enum-told
 enum-told c = search needs
 
-turned-down-requires : tie.Need-turned-down-requires
-turned-down-requires c κs = search needs
+answered-requires : tie.Need-answered-requires
+answered-requires c κs = search needs
 
 enum-told-2 : tie.Need-enum-told-2
 enum-told-2 c = search needs
 
-turned-down-requires-2 : tie.Need-turned-down-requires-2
-turned-down-requires-2 c κs = search needs
+answered-requires-2 : tie.Need-answered-requires-2
+answered-requires-2 c κs = search needs
 
 enum-told-3 : tie.Need-enum-told-3
 enum-told-3 c = search needs
 
-turned-down-requires-3 : tie.Need-turned-down-requires-3
-turned-down-requires-3 c κs = search needs
+answered-requires-3 : tie.Need-answered-requires-3
+answered-requires-3 c κs = search needs
 
 enum-told-4 : tie.Need-enum-told-4
 enum-told-4 c = search needs
 
-turned-down-requires-4 : tie.Need-turned-down-requires-4
-turned-down-requires-4 c κs = search needs
+answered-requires-4 : tie.Need-answered-requires-4
+answered-requires-4 c κs = search needs
 
 enum-told-5 : tie.Need-enum-told-5
 enum-told-5 c = search needs
@@ -67,23 +67,23 @@ to-outside-requires c κs = search needs
 put-requires : tie.Need-put-requires
 put-requires c κs = search needs
 
-turned-down-requires-5 : tie.Need-turned-down-requires-5
-turned-down-requires-5 c κs = search needs
+answered-requires-5 : tie.Need-answered-requires-5
+answered-requires-5 c κs = search needs
 
 returns : tie.Need-returns
-returns c = let a = c .before .before .before .before .before .before .before .before .before .before .before .before .before .before .before .before .args in obtained (a .s .now) (a .metadata .now) _ _ (c .before .before .before .before .before .before .before .before .before .before .before .before .before .before .request-slot .ensures) (c .before .before .before .before .before .before .before .before .before .before .before .before .load .ensures) (sym (c .before .before .before .before .before .before .before .before .before .before .before .phase-of .ensures) ∙ c .before .before .before .before .before .before .before .before .before .enum-told5 .given .1) _ _ _ _ _ _ _ (c .before .before .before .before .before .before .before .size .ensures .0) (c .before .before .before .before .before .before .empty .ensures) (c .before .before .before .before .before .with-fds .ensures) (c .before .before .before .to-outside .ensures) (c .before .put .ensures) (ap said (c .turned-down5 .ensures .0)) (c .turned-down5 .ensures .1)
+returns c = let a = c .before .before .before .before .before .before .before .before .before .before .before .before .before .before .before .before .args in obtained (a .s .now) (a .metadata .now) _ _ (c .before .before .before .before .before .before .before .before .before .before .before .before .before .before .request-slot .ensures) (c .before .before .before .before .before .before .before .before .before .before .before .before .load .ensures) (sym (c .before .before .before .before .before .before .before .before .before .before .before .phase-of .ensures) ∙ c .before .before .before .before .before .before .before .before .before .enum-told5 .given .1) _ _ _ _ _ _ _ (c .before .before .before .before .before .before .before .size .ensures .0) (c .before .before .before .before .before .before .empty .ensures) (c .before .before .before .before .before .with-fds .ensures) (c .before .before .before .to-outside .ensures) (c .before .put .ensures) (ap said (c .answered5 .ensures .0)) (c .answered5 .ensures .1)
 
 returns-2 : tie.Need-returns-2
-returns-2 c = let a = c .before .before .before .before .before .before .before .before .args in obtain-vacant (a .s .now) (a .metadata .now) _ _ (c .before .before .before .before .before .before .request-slot .ensures) (c .before .before .before .before .load .ensures) (sym (c .before .before .before .phase-of .ensures) ∙ c .before .enum-told .given .1) _ _ (ap said (c .turned-down .ensures .0)) (c .turned-down .ensures .1)
+returns-2 c = let a = c .before .before .before .before .before .before .before .before .args in obtain-vacant (a .s .now) (a .metadata .now) _ _ (c .before .before .before .before .before .before .request-slot .ensures) (c .before .before .before .before .load .ensures) (sym (c .before .before .before .phase-of .ensures) ∙ c .before .enum-told .given .1) _ _ (ap said (c .answered .ensures .0)) (c .answered .ensures .1)
 
 returns-3 : tie.Need-returns-3
-returns-3 c = let a = c .before .before .before .before .before .before .before .before .args in obtain-other (a .s .now) (a .metadata .now) _ _ (c .before .before .before .before .before .before .request-slot .ensures) (c .before .before .before .before .load .ensures) (ap isVacant (sym (c .before .before .before .phase-of .ensures) ∙ c .before .enum-told2 .given .1)) (ap isWaiting (sym (c .before .before .before .phase-of .ensures) ∙ c .before .enum-told2 .given .1)) _ _ (ap said (c .turned-down2 .ensures .0)) (c .turned-down2 .ensures .1)
+returns-3 c = let a = c .before .before .before .before .before .before .before .before .args in obtain-other (a .s .now) (a .metadata .now) _ _ (c .before .before .before .before .before .before .request-slot .ensures) (c .before .before .before .before .load .ensures) (ap isVacant (sym (c .before .before .before .phase-of .ensures) ∙ c .before .enum-told2 .given .1)) (ap isWaiting (sym (c .before .before .before .phase-of .ensures) ∙ c .before .enum-told2 .given .1)) _ _ (ap said (c .answered2 .ensures .0)) (c .answered2 .ensures .1)
 
 returns-4 : tie.Need-returns-4
-returns-4 c = let a = c .before .before .before .before .before .before .before .before .args in obtain-other (a .s .now) (a .metadata .now) _ _ (c .before .before .before .before .before .before .request-slot .ensures) (c .before .before .before .before .load .ensures) (ap isVacant (sym (c .before .before .before .phase-of .ensures) ∙ c .before .enum-told3 .given .1)) (ap isWaiting (sym (c .before .before .before .phase-of .ensures) ∙ c .before .enum-told3 .given .1)) _ _ (ap said (c .turned-down3 .ensures .0)) (c .turned-down3 .ensures .1)
+returns-4 c = let a = c .before .before .before .before .before .before .before .before .args in obtain-other (a .s .now) (a .metadata .now) _ _ (c .before .before .before .before .before .before .request-slot .ensures) (c .before .before .before .before .load .ensures) (ap isVacant (sym (c .before .before .before .phase-of .ensures) ∙ c .before .enum-told3 .given .1)) (ap isWaiting (sym (c .before .before .before .phase-of .ensures) ∙ c .before .enum-told3 .given .1)) _ _ (ap said (c .answered3 .ensures .0)) (c .answered3 .ensures .1)
 
 returns-5 : tie.Need-returns-5
-returns-5 c = let a = c .before .before .before .before .before .before .before .before .args in obtain-other (a .s .now) (a .metadata .now) _ _ (c .before .before .before .before .before .before .request-slot .ensures) (c .before .before .before .before .load .ensures) (ap isVacant (sym (c .before .before .before .phase-of .ensures) ∙ c .before .enum-told4 .given .1)) (ap isWaiting (sym (c .before .before .before .phase-of .ensures) ∙ c .before .enum-told4 .given .1)) _ _ (ap said (c .turned-down4 .ensures .0)) (c .turned-down4 .ensures .1)
+returns-5 c = let a = c .before .before .before .before .before .before .before .before .args in obtain-other (a .s .now) (a .metadata .now) _ _ (c .before .before .before .before .before .before .request-slot .ensures) (c .before .before .before .before .load .ensures) (ap isVacant (sym (c .before .before .before .phase-of .ensures) ∙ c .before .enum-told4 .given .1)) (ap isWaiting (sym (c .before .before .before .phase-of .ensures) ∙ c .before .enum-told4 .given .1)) _ _ (ap said (c .answered4 .ensures .0)) (c .answered4 .ensures .1)
 
 pub call-fdread-spec : {M : Type 1} → statement M
 call-fdread-spec =
@@ -93,20 +93,20 @@ call-fdread-spec =
     load-requires
     phase-of-requires
     enum-told
-    turned-down-requires
+    answered-requires
     enum-told-2
-    turned-down-requires-2
+    answered-requires-2
     enum-told-3
-    turned-down-requires-3
+    answered-requires-3
     enum-told-4
-    turned-down-requires-4
+    answered-requires-4
     enum-told-5
     size-requires
     empty-requires
     with-fds-requires
     to-outside-requires
     put-requires
-    turned-down-requires-5
+    answered-requires-5
     returns
     returns-2
     returns-3

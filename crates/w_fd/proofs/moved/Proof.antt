@@ -8,7 +8,7 @@ use Rattle.w_fd.proofs.moved.Statement.{statement}
 use Rattle.w_fd.proofs.moved.Tie as tie
 use Rattle.slot.proofs.phase_of.Reads as phase-of-reads
 use Rattle.slot.proofs.with_fds.Reads as with-fds-reads
-use Rattle.step.proofs.turned_down.Reads as turned-down-reads
+use Rattle.step.proofs.answered.Reads as answered-reads
 use Rattle.w_fd.proofs.request_slot.Reads as request-slot-reads
 use Rattle.words.proofs.discard.Reads as discard-reads
 use Rattle.words.proofs.load.Reads as load-reads
@@ -33,11 +33,11 @@ enum-told c = search needs
 discard-requires : tie.Need-discard-requires
 discard-requires c κs = search needs
 
-turned-down-requires : tie.Need-turned-down-requires
-turned-down-requires c κs = search needs
+answered-requires : tie.Need-answered-requires
+answered-requires c κs = search needs
 
 returns : tie.Need-returns
-returns c = let a = c .before .before .before .before .before .before .before .before .before .before .before .before .args in λ ds g n. move-vacant (a .s .now) (a .metadata .now) ds (a .list) g _ _ (c .before .before .before .before .before .before .before .before .before .before .request-slot .ensures) (c .before .before .before .before .before .before .before .before .load .ensures) _ (c .before .before .before .before .before .before .take .ensures) (sym (c .before .before .before .before .before .phase-of .ensures) ∙ c .before .before .before .enum-told .given .1) _ _ _ (c .before .discard .ensures) (ap said (c .turned-down .ensures .0)) (c .turned-down .ensures .1)
+returns c = let a = c .before .before .before .before .before .before .before .before .before .before .before .before .args in λ ds g n. move-vacant (a .s .now) (a .metadata .now) ds (a .list) g _ _ (c .before .before .before .before .before .before .before .before .before .before .request-slot .ensures) (c .before .before .before .before .before .before .before .before .load .ensures) _ (c .before .before .before .before .before .before .take .ensures) (sym (c .before .before .before .before .before .phase-of .ensures) ∙ c .before .before .before .enum-told .given .1) _ _ _ (c .before .discard .ensures) (ap said (c .answered .ensures .0)) (c .answered .ensures .1)
 
 enum-told-2 : tie.Need-enum-told-2
 enum-told-2 c = search needs
@@ -45,11 +45,11 @@ enum-told-2 c = search needs
 discard-requires-2 : tie.Need-discard-requires-2
 discard-requires-2 c κs = search needs
 
-turned-down-requires-2 : tie.Need-turned-down-requires-2
-turned-down-requires-2 c κs = search needs
+answered-requires-2 : tie.Need-answered-requires-2
+answered-requires-2 c κs = search needs
 
 returns-2 : tie.Need-returns-2
-returns-2 c = let a = c .before .before .before .before .before .before .before .before .before .before .before .before .args in λ ds g n. move-other (a .s .now) (a .metadata .now) ds (a .list) g _ _ (c .before .before .before .before .before .before .before .before .before .before .request-slot .ensures) (c .before .before .before .before .before .before .before .before .load .ensures) _ (c .before .before .before .before .before .before .take .ensures) (ap isVacant (sym (c .before .before .before .before .before .phase-of .ensures) ∙ c .before .before .before .enum-told2 .given .1)) (ap isWaiting (sym (c .before .before .before .before .before .phase-of .ensures) ∙ c .before .before .before .enum-told2 .given .1)) _ _ _ (c .before .discard2 .ensures) (ap said (c .turned-down2 .ensures .0)) (c .turned-down2 .ensures .1)
+returns-2 c = let a = c .before .before .before .before .before .before .before .before .before .before .before .before .args in λ ds g n. move-other (a .s .now) (a .metadata .now) ds (a .list) g _ _ (c .before .before .before .before .before .before .before .before .before .before .request-slot .ensures) (c .before .before .before .before .before .before .before .before .load .ensures) _ (c .before .before .before .before .before .before .take .ensures) (ap isVacant (sym (c .before .before .before .before .before .phase-of .ensures) ∙ c .before .before .before .enum-told2 .given .1)) (ap isWaiting (sym (c .before .before .before .before .before .phase-of .ensures) ∙ c .before .before .before .enum-told2 .given .1)) _ _ _ (c .before .discard2 .ensures) (ap said (c .answered2 .ensures .0)) (c .answered2 .ensures .1)
 
 enum-told-3 : tie.Need-enum-told-3
 enum-told-3 c = search needs
@@ -57,11 +57,11 @@ enum-told-3 c = search needs
 discard-requires-3 : tie.Need-discard-requires-3
 discard-requires-3 c κs = search needs
 
-turned-down-requires-3 : tie.Need-turned-down-requires-3
-turned-down-requires-3 c κs = search needs
+answered-requires-3 : tie.Need-answered-requires-3
+answered-requires-3 c κs = search needs
 
 returns-3 : tie.Need-returns-3
-returns-3 c = let a = c .before .before .before .before .before .before .before .before .before .before .before .before .args in λ ds g n. move-other (a .s .now) (a .metadata .now) ds (a .list) g _ _ (c .before .before .before .before .before .before .before .before .before .before .request-slot .ensures) (c .before .before .before .before .before .before .before .before .load .ensures) _ (c .before .before .before .before .before .before .take .ensures) (ap isVacant (sym (c .before .before .before .before .before .phase-of .ensures) ∙ c .before .before .before .enum-told3 .given .1)) (ap isWaiting (sym (c .before .before .before .before .before .phase-of .ensures) ∙ c .before .before .before .enum-told3 .given .1)) _ _ _ (c .before .discard3 .ensures) (ap said (c .turned-down3 .ensures .0)) (c .turned-down3 .ensures .1)
+returns-3 c = let a = c .before .before .before .before .before .before .before .before .before .before .before .before .args in λ ds g n. move-other (a .s .now) (a .metadata .now) ds (a .list) g _ _ (c .before .before .before .before .before .before .before .before .before .before .request-slot .ensures) (c .before .before .before .before .before .before .before .before .load .ensures) _ (c .before .before .before .before .before .before .take .ensures) (ap isVacant (sym (c .before .before .before .before .before .phase-of .ensures) ∙ c .before .before .before .enum-told3 .given .1)) (ap isWaiting (sym (c .before .before .before .before .before .phase-of .ensures) ∙ c .before .before .before .enum-told3 .given .1)) _ _ _ (c .before .discard3 .ensures) (ap said (c .answered3 .ensures .0)) (c .answered3 .ensures .1)
 
 enum-told-4 : tie.Need-enum-told-4
 enum-told-4 c = search needs
@@ -69,11 +69,11 @@ enum-told-4 c = search needs
 discard-requires-4 : tie.Need-discard-requires-4
 discard-requires-4 c κs = search needs
 
-turned-down-requires-4 : tie.Need-turned-down-requires-4
-turned-down-requires-4 c κs = search needs
+answered-requires-4 : tie.Need-answered-requires-4
+answered-requires-4 c κs = search needs
 
 returns-4 : tie.Need-returns-4
-returns-4 c = let a = c .before .before .before .before .before .before .before .before .before .before .before .before .args in λ ds g n. move-other (a .s .now) (a .metadata .now) ds (a .list) g _ _ (c .before .before .before .before .before .before .before .before .before .before .request-slot .ensures) (c .before .before .before .before .before .before .before .before .load .ensures) _ (c .before .before .before .before .before .before .take .ensures) (ap isVacant (sym (c .before .before .before .before .before .phase-of .ensures) ∙ c .before .before .before .enum-told4 .given .1)) (ap isWaiting (sym (c .before .before .before .before .before .phase-of .ensures) ∙ c .before .before .before .enum-told4 .given .1)) _ _ _ (c .before .discard4 .ensures) (ap said (c .turned-down4 .ensures .0)) (c .turned-down4 .ensures .1)
+returns-4 c = let a = c .before .before .before .before .before .before .before .before .before .before .before .before .args in λ ds g n. move-other (a .s .now) (a .metadata .now) ds (a .list) g _ _ (c .before .before .before .before .before .before .before .before .before .before .request-slot .ensures) (c .before .before .before .before .before .before .before .before .load .ensures) _ (c .before .before .before .before .before .before .take .ensures) (ap isVacant (sym (c .before .before .before .before .before .phase-of .ensures) ∙ c .before .before .before .enum-told4 .given .1)) (ap isWaiting (sym (c .before .before .before .before .before .phase-of .ensures) ∙ c .before .before .before .enum-told4 .given .1)) _ _ _ (c .before .discard4 .ensures) (ap said (c .answered4 .ensures .0)) (c .answered4 .ensures .1)
 
 enum-told-5 : tie.Need-enum-told-5
 enum-told-5 c = search needs
@@ -87,11 +87,11 @@ discard-requires-5 c κs = search needs
 put-requires : tie.Need-put-requires
 put-requires c κs = search needs
 
-turned-down-requires-5 : tie.Need-turned-down-requires-5
-turned-down-requires-5 c κs = search needs
+answered-requires-5 : tie.Need-answered-requires-5
+answered-requires-5 c κs = search needs
 
 returns-5 : tie.Need-returns-5
-returns-5 c = let a = c .before .before .before .before .before .before .before .before .before .before .before .before .before .before .before .before .args in λ ds g n. moved-in (a .s .now) (a .metadata .now) ds (a .list) g _ _ (c .before .before .before .before .before .before .before .before .before .before .before .before .before .before .request-slot .ensures) (c .before .before .before .before .before .before .before .before .before .before .before .before .load .ensures) _ (c .before .before .before .before .before .before .before .before .before .before .take .ensures) (sym (c .before .before .before .before .before .before .before .before .before .phase-of .ensures) ∙ c .before .before .before .before .before .before .before .enum-told5 .given .1) _ _ _ _ _ _ n (c .before .before .before .before .before .with-fds .ensures) (c .before .before .before .discard5 .ensures) (c .before .put .ensures) (ap said (c .turned-down5 .ensures .0)) (c .turned-down5 .ensures .1)
+returns-5 c = let a = c .before .before .before .before .before .before .before .before .before .before .before .before .before .before .before .before .args in λ ds g n. moved-in (a .s .now) (a .metadata .now) ds (a .list) g _ _ (c .before .before .before .before .before .before .before .before .before .before .before .before .before .before .request-slot .ensures) (c .before .before .before .before .before .before .before .before .before .before .before .before .load .ensures) _ (c .before .before .before .before .before .before .before .before .before .before .take .ensures) (sym (c .before .before .before .before .before .before .before .before .before .phase-of .ensures) ∙ c .before .before .before .before .before .before .before .enum-told5 .given .1) _ _ _ _ _ _ n (c .before .before .before .before .before .with-fds .ensures) (c .before .before .before .discard5 .ensures) (c .before .put .ensures) (ap said (c .answered5 .ensures .0)) (c .answered5 .ensures .1)
 
 pub moved-spec : {M : Type 1} → statement M
 moved-spec =
@@ -103,23 +103,23 @@ moved-spec =
     phase-of-requires
     enum-told
     discard-requires
-    turned-down-requires
+    answered-requires
     returns
     enum-told-2
     discard-requires-2
-    turned-down-requires-2
+    answered-requires-2
     returns-2
     enum-told-3
     discard-requires-3
-    turned-down-requires-3
+    answered-requires-3
     returns-3
     enum-told-4
     discard-requires-4
-    turned-down-requires-4
+    answered-requires-4
     returns-4
     enum-told-5
     with-fds-requires
     discard-requires-5
     put-requires
-    turned-down-requires-5
+    answered-requires-5
     returns-5)

@@ -21,7 +21,7 @@ use Rattle.w_fmap.proofs.request_fmap.Tie as tie
 use Rattle.opcode.proofs.request_mmap.Reads as request-mmap-reads
 use Rattle.slot.proofs.map_request.Reads as map-request-reads
 use Rattle.step.proofs.begun.Reads as begun-reads
-use Rattle.step.proofs.turned_down.Reads as turned-down-reads
+use Rattle.step.proofs.answered.Reads as answered-reads
 use Rattle.user_args.proofs.uid_gid_hack_merge.Reads as uid-gid-hack-merge-reads
 use Rattle.words.proofs.head.Reads as head-reads
 use Rattle.words.proofs.is_full.Reads as is-full-reads
@@ -30,8 +30,8 @@ use Rattle.words.proofs.queue_full.Reads as queue-full-reads
 is-full-requires : tie.Need-is-full-requires
 is-full-requires c κs = search needs
 
-turned-down-requires : tie.Need-turned-down-requires
-turned-down-requires c κs = search needs
+answered-requires : tie.Need-answered-requires
+answered-requires c κs = search needs
 
 returns : tie.Need-returns
 returns c =
@@ -41,13 +41,13 @@ returns c =
     let e : Event = on (fmap (a .caller) (a .id) (a .pages) (a .flags) (a .uid) (a .gid) (a .pid)) in
     let v : Slot = mapRequestOf (a .caller) in
     let f : (ℕ → Sqe) = fmapEntry (a .id) (a .pages) (a .flags) (a .uid) (a .gid) (a .pid) in
-    let q = is (c .before .before .is-full .ensures) (c .before .if1 .taken) in turned ws e (fmapRows w) (begun w v (holdsOf w) f) (give v ∷ send (f (tableOf w .head)) ∷ []) refl refl 202 (rw q refl) _ _ (ap said (c .turned-down .ensures .0)) (c .turned-down .ensures .1)
+    let q = is (c .before .before .is-full .ensures) (c .before .if1 .taken) in turned ws e (fmapRows w) (begun w v (holdsOf w) f) (give v ∷ send (f (tableOf w .head)) ∷ []) refl refl 202 (rw q refl) _ _ (ap said (c .answered .ensures .0)) (c .answered .ensures .1)
 
 queue-full-requires : tie.Need-queue-full-requires
 queue-full-requires c κs = search needs
 
-turned-down-requires-2 : tie.Need-turned-down-requires-2
-turned-down-requires-2 c κs = search needs
+answered-requires-2 : tie.Need-answered-requires-2
+answered-requires-2 c κs = search needs
 
 returns-2 : tie.Need-returns-2
 returns-2 c =
@@ -57,7 +57,7 @@ returns-2 c =
     let e : Event = on (fmap (a .caller) (a .id) (a .pages) (a .flags) (a .uid) (a .gid) (a .pid)) in
     let v : Slot = mapRequestOf (a .caller) in
     let f : (ℕ → Sqe) = fmapEntry (a .id) (a .pages) (a .flags) (a .uid) (a .gid) (a .pid) in
-    let q = is (c .before .before .before .before .before .is-full .ensures) (c .before .before .before .before .if1 .left) in let r = is (c .before .before .queue-full .ensures) (c .before .if2 .taken) in turned ws e (fmapRows w) (begun w v (holdsOf w) f) (give v ∷ send (f (tableOf w .head)) ∷ []) refl refl 203 (rw (q, r) refl) _ _ (ap said (c .turned-down2 .ensures .0)) (c .turned-down2 .ensures .1)
+    let q = is (c .before .before .before .before .before .is-full .ensures) (c .before .before .before .before .if1 .left) in let r = is (c .before .before .queue-full .ensures) (c .before .if2 .taken) in turned ws e (fmapRows w) (begun w v (holdsOf w) f) (give v ∷ send (f (tableOf w .head)) ∷ []) refl refl 203 (rw (q, r) refl) _ _ (ap said (c .answered2 .ensures .0)) (c .answered2 .ensures .1)
 
 head-requires : tie.Need-head-requires
 head-requires c κs = search needs
@@ -92,10 +92,10 @@ request-fmap-spec =
     tie.close
     (tie.spec
     is-full-requires
-    turned-down-requires
+    answered-requires
     returns
     queue-full-requires
-    turned-down-requires-2
+    answered-requires-2
     returns-2
     head-requires
     map-request-requires

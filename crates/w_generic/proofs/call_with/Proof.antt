@@ -10,40 +10,40 @@ use Rattle.fd_list.proofs.empty.Reads as empty-reads
 use Rattle.generic_entry.proofs.entry.Reads as entry-reads
 use Rattle.slot.proofs.waiting.Reads as waiting-reads
 use Rattle.step.proofs.begun.Reads as begun-reads
-use Rattle.step.proofs.turned_down.Reads as turned-down-reads
+use Rattle.step.proofs.answered.Reads as answered-reads
 use Rattle.words.proofs.head.Reads as head-reads
 use Rattle.words.proofs.is_full.Reads as is-full-reads
 use Rattle.words.proofs.queue_full.Reads as queue-full-reads
 
-turned-down-requires : tie.Need-turned-down-requires
-turned-down-requires c κs = search needs
+answered-requires : tie.Need-answered-requires
+answered-requires c κs = search needs
 
 returns : tie.Need-returns
-returns c = let a = c .before .before .before .before .args in no-fds (a .op) (a .s .now) (a .caller) (a .pid) (a .fds .now) (a .base) (a .len) (a .metadata .now) _ _ (c .before .if1 .taken) (ap said (c .turned-down .ensures .0)) (c .turned-down .ensures .1)
+returns c = let a = c .before .before .before .before .args in no-fds (a .op) (a .s .now) (a .caller) (a .pid) (a .fds .now) (a .base) (a .len) (a .metadata .now) _ _ (c .before .if1 .taken) (ap said (c .answered .ensures .0)) (c .answered .ensures .1)
 
-turned-down-requires-2 : tie.Need-turned-down-requires-2
-turned-down-requires-2 c κs = search needs
+answered-requires-2 : tie.Need-answered-requires-2
+answered-requires-2 c κs = search needs
 
 returns-2 : tie.Need-returns-2
-returns-2 c = let a = c .before .before .before .before .before .args in many-fds (a .op) (a .s .now) (a .caller) (a .pid) (a .fds .now) (a .base) (a .len) (a .metadata .now) _ _ (c .before .before .if1 .left) (c .before .if2 .taken) (ap said (c .turned-down2 .ensures .0)) (c .turned-down2 .ensures .1)
+returns-2 c = let a = c .before .before .before .before .before .args in many-fds (a .op) (a .s .now) (a .caller) (a .pid) (a .fds .now) (a .base) (a .len) (a .metadata .now) _ _ (c .before .before .if1 .left) (c .before .if2 .taken) (ap said (c .answered2 .ensures .0)) (c .answered2 .ensures .1)
 
 is-full-requires : tie.Need-is-full-requires
 is-full-requires c κs = search needs
 
-turned-down-requires-3 : tie.Need-turned-down-requires-3
-turned-down-requires-3 c κs = search needs
+answered-requires-3 : tie.Need-answered-requires-3
+answered-requires-3 c κs = search needs
 
 returns-3 : tie.Need-returns-3
-returns-3 c = let a = c .before .before .before .before .before .before .before .before .args in full (a .op) (a .s .now) (a .caller) (a .pid) (a .fds .now) (a .base) (a .len) (a .metadata .now) _ _ (c .before .before .before .before .before .if1 .left) (c .before .before .before .before .if2 .left) (is (c .before .before .is-full .ensures) (c .before .if3 .taken)) (ap said (c .turned-down3 .ensures .0)) (c .turned-down3 .ensures .1)
+returns-3 c = let a = c .before .before .before .before .before .before .before .before .args in full (a .op) (a .s .now) (a .caller) (a .pid) (a .fds .now) (a .base) (a .len) (a .metadata .now) _ _ (c .before .before .before .before .before .if1 .left) (c .before .before .before .before .if2 .left) (is (c .before .before .is-full .ensures) (c .before .if3 .taken)) (ap said (c .answered3 .ensures .0)) (c .answered3 .ensures .1)
 
 queue-full-requires : tie.Need-queue-full-requires
 queue-full-requires c κs = search needs
 
-turned-down-requires-4 : tie.Need-turned-down-requires-4
-turned-down-requires-4 c κs = search needs
+answered-requires-4 : tie.Need-answered-requires-4
+answered-requires-4 c κs = search needs
 
 returns-4 : tie.Need-returns-4
-returns-4 c = let a = c .before .before .before .before .before .before .before .before .before .before .before .args in queue-full (a .op) (a .s .now) (a .caller) (a .pid) (a .fds .now) (a .base) (a .len) (a .metadata .now) _ _ (c .before .before .before .before .before .before .before .before .if1 .left) (c .before .before .before .before .before .before .before .if2 .left) (is (c .before .before .before .before .before .is-full .ensures) (c .before .before .before .before .if3 .left)) (is (c .before .before .queue-full .ensures) (c .before .if4 .taken)) (ap said (c .turned-down4 .ensures .0)) (c .turned-down4 .ensures .1)
+returns-4 c = let a = c .before .before .before .before .before .before .before .before .before .before .before .args in queue-full (a .op) (a .s .now) (a .caller) (a .pid) (a .fds .now) (a .base) (a .len) (a .metadata .now) _ _ (c .before .before .before .before .before .before .before .before .if1 .left) (c .before .before .before .before .before .before .before .if2 .left) (is (c .before .before .before .before .before .is-full .ensures) (c .before .before .before .before .if3 .left)) (is (c .before .before .queue-full .ensures) (c .before .if4 .taken)) (ap said (c .answered4 .ensures .0)) (c .answered4 .ensures .1)
 
 head-requires : tie.Need-head-requires
 head-requires c κs = search needs
@@ -72,15 +72,15 @@ pub call-with-spec : {M : Type 1} → statement M
 call-with-spec =
     tie.close
     (tie.spec
-    turned-down-requires
+    answered-requires
     returns
-    turned-down-requires-2
+    answered-requires-2
     returns-2
     is-full-requires
-    turned-down-requires-3
+    answered-requires-3
     returns-3
     queue-full-requires
-    turned-down-requires-4
+    answered-requires-4
     returns-4
     head-requires
     empty-requires

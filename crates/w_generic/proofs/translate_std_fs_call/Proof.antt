@@ -8,14 +8,14 @@ use Rattle.w_generic.proofs.translate_std_fs_call.Statement.{statement}
 use Rattle.w_generic.proofs.translate_std_fs_call.Tie as tie
 use Rattle.generic_entry.proofs.is_wrong_kind.Reads as is-wrong-kind-reads
 use Rattle.opcode.proofs.std_fs_call.Reads as std-fs-call-reads
-use Rattle.step.proofs.turned_down.Reads as turned-down-reads
+use Rattle.step.proofs.answered.Reads as answered-reads
 use Rattle.w_generic.proofs.call_with.Reads as call-with-reads
 
-turned-down-requires : tie.Need-turned-down-requires
-turned-down-requires c κs = search needs
+answered-requires : tie.Need-answered-requires
+answered-requires c κs = search needs
 
 returns : tie.Need-returns
-returns c = let a = c .before .before .before .before .args in few-words (a .s .now) (a .s .now) (a .caller) (a .pid) (a .fds .now) (a .base) (a .len) (a .metadata .now) _ _ (c .before .if1 .taken) (ap said (c .turned-down .ensures .0)) (c .turned-down .ensures .1)
+returns c = let a = c .before .before .before .before .args in few-words (a .s .now) (a .s .now) (a .caller) (a .pid) (a .fds .now) (a .base) (a .len) (a .metadata .now) _ _ (c .before .if1 .taken) (ap said (c .answered .ensures .0)) (c .answered .ensures .1)
 
 shared-slice-read-kind : tie.Need-shared-slice-read-kind
 shared-slice-read-kind c = search needs
@@ -23,11 +23,11 @@ shared-slice-read-kind c = search needs
 is-wrong-kind-requires : tie.Need-is-wrong-kind-requires
 is-wrong-kind-requires c κs = search needs
 
-turned-down-requires-2 : tie.Need-turned-down-requires-2
-turned-down-requires-2 c κs = search needs
+answered-requires-2 : tie.Need-answered-requires-2
+answered-requires-2 c κs = search needs
 
 returns-2 : tie.Need-returns-2
-returns-2 c = let a = c .before .before .before .before .before .before .before .args in no-kind (a .s .now) (a .s .now) (a .caller) (a .pid) (a .fds .now) (a .base) (a .len) (a .metadata .now) _ _ (c .before .before .before .before .if1 .left) (is (c .before .before .is-wrong-kind .ensures) (c .before .if2 .taken)) (ap said (c .turned-down2 .ensures .0)) (c .turned-down2 .ensures .1)
+returns-2 c = let a = c .before .before .before .before .before .before .before .args in no-kind (a .s .now) (a .s .now) (a .caller) (a .pid) (a .fds .now) (a .base) (a .len) (a .metadata .now) _ _ (c .before .before .before .before .if1 .left) (is (c .before .before .is-wrong-kind .ensures) (c .before .if2 .taken)) (ap said (c .answered2 .ensures .0)) (c .answered2 .ensures .1)
 
 shared-slice-read-t14 : tie.Need-shared-slice-read-t14
 shared-slice-read-t14 c = search needs
@@ -51,11 +51,11 @@ pub translate-std-fs-call-spec : {M : Type 1} → statement M
 translate-std-fs-call-spec =
     tie.close
     (tie.spec
-    turned-down-requires
+    answered-requires
     returns
     shared-slice-read-kind
     is-wrong-kind-requires
-    turned-down-requires-2
+    answered-requires-2
     returns-2
     shared-slice-read-t14
     shared-slice-read-t19

@@ -5,7 +5,7 @@ use mathlib.Core.Path.{ap}
 use Rattle.w_host.proofs.Cases.{copies-none, copies-full, copies}
 use Rattle.w_host.proofs.copy.Statement.{statement}
 use Rattle.w_host.proofs.copy.Tie as tie
-use Rattle.step.proofs.turned_down.Reads as turned-down-reads
+use Rattle.step.proofs.answered.Reads as answered-reads
 use Rattle.words.proofs.held.Reads as held-reads
 use Rattle.words.proofs.holds_of.Reads as holds-of-reads
 use Rattle.words.proofs.raise.Reads as raise-reads
@@ -21,8 +21,8 @@ held-requires c κs = search needs
 enum-told : tie.Need-enum-told
 enum-told c = search needs
 
-turned-down-requires : tie.Need-turned-down-requires
-turned-down-requires c κs = search needs
+answered-requires : tie.Need-answered-requires
+answered-requires c κs = search needs
 
 enum-known-found : tie.Need-enum-known-found
 enum-known-found c = search needs
@@ -30,11 +30,11 @@ enum-known-found c = search needs
 holds-of-requires : tie.Need-holds-of-requires
 holds-of-requires c κs = search needs
 
-turned-down-requires-2 : tie.Need-turned-down-requires-2
-turned-down-requires-2 c κs = search needs
+answered-requires-2 : tie.Need-answered-requires-2
+answered-requires-2 c κs = search needs
 
 returns : tie.Need-returns
-returns c = let a = c .before .before .before .before .before .before .before .before .before .before .before .args in copies-full (a .s .now) (c .before .before .before .before .before .before .before .before .before .sized .ensures) (a .description) _ (c .before .before .before .before .before .before .before .held .ensures) _ (c .before .before .before .before .before .found .given .1) _ (c .before .before .holds-of .ensures) (c .before .if1 .taken) _ _ (ap said (c .turned-down2 .ensures .0)) (c .turned-down2 .ensures .1)
+returns c = let a = c .before .before .before .before .before .before .before .before .before .before .before .args in copies-full (a .s .now) (c .before .before .before .before .before .before .before .before .before .sized .ensures) (a .description) _ (c .before .before .before .before .before .before .before .held .ensures) _ (c .before .before .before .before .before .found .given .1) _ (c .before .before .holds-of .ensures) (c .before .if1 .taken) _ _ (ap said (c .answered2 .ensures .0)) (c .answered2 .ensures .1)
 
 raise-outside-requires : tie.Need-raise-outside-requires
 raise-outside-requires c κs = search needs
@@ -42,14 +42,14 @@ raise-outside-requires c κs = search needs
 raise-requires : tie.Need-raise-requires
 raise-requires c κs = search needs
 
-turned-down-requires-3 : tie.Need-turned-down-requires-3
-turned-down-requires-3 c κs = search needs
+answered-requires-3 : tie.Need-answered-requires-3
+answered-requires-3 c κs = search needs
 
 returns-2 : tie.Need-returns-2
-returns-2 c = let a = c .before .before .before .before .before .before .before .before .before .before .before .before .before .before .before .args in copies (a .s .now) (c .before .before .before .before .before .before .before .before .before .before .before .before .before .sized .ensures) (a .description) _ (c .before .before .before .before .before .before .before .before .before .before .before .held .ensures) _ (c .before .before .before .before .before .before .before .before .before .found .given .1) _ (c .before .before .before .before .before .before .holds-of .ensures) (c .before .before .before .before .before .if1 .left) _ _ _ _ (c .before .before .before .raise-outside .ensures) (c .before .raise .ensures) (ap said (c .turned-down3 .ensures .0)) (c .turned-down3 .ensures .1)
+returns-2 c = let a = c .before .before .before .before .before .before .before .before .before .before .before .before .before .before .before .args in copies (a .s .now) (c .before .before .before .before .before .before .before .before .before .before .before .before .before .sized .ensures) (a .description) _ (c .before .before .before .before .before .before .before .before .before .before .before .held .ensures) _ (c .before .before .before .before .before .before .before .before .before .found .given .1) _ (c .before .before .before .before .before .before .holds-of .ensures) (c .before .before .before .before .before .if1 .left) _ _ _ _ (c .before .before .before .raise-outside .ensures) (c .before .raise .ensures) (ap said (c .answered3 .ensures .0)) (c .answered3 .ensures .1)
 
 returns-3 : tie.Need-returns-3
-returns-3 c = let a = c .before .before .before .before .before .before .before .args in copies-none (a .s .now) (c .before .before .before .before .before .sized .ensures) (a .description) _ (c .before .before .before .held .ensures) (c .before .enum-told .given .1) _ _ (ap said (c .turned-down .ensures .0)) (c .turned-down .ensures .1)
+returns-3 c = let a = c .before .before .before .before .before .before .before .args in copies-none (a .s .now) (c .before .before .before .before .before .sized .ensures) (a .description) _ (c .before .before .before .held .ensures) (c .before .enum-told .given .1) _ _ (ap said (c .answered .ensures .0)) (c .answered .ensures .1)
 
 pub copy-spec : {M : Type 1} → statement M
 copy-spec =
@@ -58,13 +58,13 @@ copy-spec =
     sized-requires
     held-requires
     enum-told
-    turned-down-requires
+    answered-requires
     enum-known-found
     holds-of-requires
-    turned-down-requires-2
+    answered-requires-2
     returns
     raise-outside-requires
     raise-requires
-    turned-down-requires-3
+    answered-requires-3
     returns-2
     returns-3)

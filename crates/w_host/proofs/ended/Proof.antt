@@ -11,7 +11,7 @@ use Rattle.packed.specs.Stores.{marks}
 use Rattle.w_host.proofs.Marking.{marked-more, same-behind, all-marked}
 use Rattle.w_host.proofs.ended.Statement.{statement}
 use Rattle.w_host.proofs.ended.Tie as tie
-use Rattle.step.proofs.turned_down.Reads as turned-down-reads
+use Rattle.step.proofs.answered.Reads as answered-reads
 use Rattle.w_host.proofs.mark.Reads as mark-reads
 
 abbrev Inv-loop : tie.InvT-loop
@@ -46,14 +46,14 @@ loop-again c =
       same-behind w (a .caller) (l .s) _ (l .i) h (l .inv .2) (c .mark .ensures),
     )
 
-turned-down-requires : tie.Need-turned-down-requires Inv-loop μ-loop
-turned-down-requires c κs = search needs
+answered-requires : tie.Need-answered-requires Inv-loop μ-loop
+answered-requires c κs = search needs
 
 returns : tie.Need-returns Inv-loop μ-loop
 returns c =
     let a = c .before .before .before .args in
     let l = c .before .before .loop in
-    all-marked (a .caller) (a .s .now) (l .s) (l .i) _ _ (omega (arith, l .inv .0, c .before .loop-test .left)) (l .inv .1) (ap said (c .turned-down .ensures .0)) (c .turned-down .ensures .1)
+    all-marked (a .caller) (a .s .now) (l .s) (l .i) _ _ (omega (arith, l .inv .0, c .before .loop-test .left)) (l .inv .1) (ap said (c .answered .ensures .0)) (c .answered .ensures .1)
 
 pub ended-spec : {M : Type 1} → statement M
 ended-spec =
@@ -66,5 +66,5 @@ ended-spec =
     add-i
     loop-less
     loop-again
-    turned-down-requires
+    answered-requires
     returns)

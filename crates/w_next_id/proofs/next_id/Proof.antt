@@ -8,7 +8,7 @@ use Rattle.w_next_id.proofs.next_id.Statement.{statement}
 use Rattle.w_next_id.proofs.next_id.Tie as tie
 use Rattle.effect.proofs.none.Reads as none-reads
 use Rattle.slot.proofs.placeholder.Reads as placeholder-reads
-use Rattle.step.proofs.turned_down.Reads as turned-down-reads
+use Rattle.step.proofs.answered.Reads as answered-reads
 use Rattle.words.proofs.give.Reads as give-reads
 use Rattle.words.proofs.head.Reads as head-reads
 use Rattle.words.proofs.is_full.Reads as is-full-reads
@@ -16,11 +16,11 @@ use Rattle.words.proofs.is_full.Reads as is-full-reads
 is-full-requires : tie.Need-is-full-requires
 is-full-requires c κs = search needs
 
-turned-down-requires : tie.Need-turned-down-requires
-turned-down-requires c κs = search needs
+answered-requires : tie.Need-answered-requires
+answered-requires c κs = search needs
 
 returns : tie.Need-returns
-returns c = let a = c .before .before .before .before .args in full (a .s .now) (a .caller) (is (c .before .before .is-full .ensures) (c .before .if1 .taken)) _ _ (ap said (c .turned-down .ensures .0)) (c .turned-down .ensures .1)
+returns c = let a = c .before .before .before .before .args in full (a .s .now) (a .caller) (is (c .before .before .is-full .ensures) (c .before .if1 .taken)) _ _ (ap said (c .answered .ensures .0)) (c .answered .ensures .1)
 
 head-requires : tie.Need-head-requires
 head-requires c κs = search needs
@@ -45,7 +45,7 @@ next-id-spec =
     tie.close
     (tie.spec
     is-full-requires
-    turned-down-requires
+    answered-requires
     returns
     head-requires
     placeholder-requires
