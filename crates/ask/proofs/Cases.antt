@@ -1,21 +1,19 @@
 -- What was asked, by its tests; and the events that ask. Assumes nothing.
-use Prim.Native.Nat.{ℕ, _≤_}
+use Prim.Native.Nat.{ℕ}
 use mathlib.Core.Path.{_≡_, refl, sym, ap, _∙_}
 use mathlib.Core.Bool.{Bool, true, false, cond, _||_, true≢false, false≢true}
-use mathlib.Core.List.{List, [], _∷_}
-use native.Mathlib.Omega.{arith}
-use lib.Dec.{ltb}
+use mathlib.Core.List.{List, []}
 use lib.ListN.{length}
 use borrow.Author.Tests.{ltb-false}
 use Rattle.answer.specs.declared.Answer.the-variants.{Done, BadArgument, TooManyFds}
-use Rattle.counts.specs.Counts.{any, lessAll}
+use Rattle.counts.specs.Counts.{lessAll}
 use Rattle.fd_list.specs.declared.List.{List as Fds}
 use Rattle.fd_list.specs.Lists.{numbers, listOf}
 use Rattle.fd_list.proofs.Laws.{numbers-listOf}
 use Rattle.holds.specs.Holds.{holdsWith}
 use Rattle.take_holds.specs.declared.Taken.{Taken}
 use Rattle.take_holds.specs.declared.TakeAnswer.the-variants as take
-use Rattle.take_holds.specs.Take.{takenAs, bad, takeOf}
+use Rattle.take_holds.specs.Take.{takenAs}
 use Rattle.events.specs.World.{World, holdsOf}
 use Rattle.events.specs.Outcome.{Answer, no, said, Outcome, Row, checked, refuse}
 use Rattle.events.specs.Submit.{badOpcode, badList, longList, takenHolds}

@@ -7,7 +7,7 @@ use native.Mathlib.Omega.{arith}
 use native.Mathlib.Nat.{not-suc-le-zero, le-of-suc-le-suc, suc-add}
 use lib.Dec.{ltb, leb}
 use lib.ListN.{getD, set, take, drop, length, length-set, length-append, replicate}
-use lib.Seq.{sets, length-sets, set-append-left, drop-append-seam, take-append-seam, drop-drop, getD-drop, getD-set-same}
+use lib.Seq.{sets, length-sets, set-append-left, drop-append-seam, take-append-seam, drop-drop, getD-drop}
 use borrow.Author.Tests.{ltb-true, leb-false}
 use Rattle.schemev2.specs.declared.Sqe.{Sqe}
 use Rattle.schemev2.specs.Entry.{sqeWords}
@@ -18,7 +18,7 @@ use Rattle.wait_queue.specs.Queue.{placeOf}
 use Rattle.events.specs.World.{World, tableOf, holdsOf, queueOf, handlesOf, schemeOf, withTable, withQueue, queued}
 use Rattle.layout.specs.Layout.{slotFrom, slotWords, slotsWords, slotOf, slotsFrom, part, built, plainOf, laid, packedOf}
 use Rattle.layout.specs.Fits.{SlotFits, SlotsFit, Fits}
-use Rattle.layout.specs.Store.{Store, put, give, vacate, send, queue, outside, all, handles, putWords, giveWords, vacateWords, sendPlace, sendWords, stored, changed, StoreFits}
+use Rattle.layout.specs.Store.{Store, put, give, vacate, send, queue, outside, all, handles, putWords, giveWords, vacateWords, sendWords, stored, changed, StoreFits}
 use Rattle.layout.proofs.Back.{slot-back}
 use Rattle.layout.proofs.Worlds.{headed, chained, lengthened, putIn, sets-all, head-is, next-is, unread-is, first-is}
 
@@ -101,7 +101,7 @@ find-sets (suc n) (l ∷ ls) i p vs b e h =
     ∙ ap (λ (m : List ℕ). l ++ m) (find-sets n ls i (before n ls + i) vs (le-of-suc-le-suc b) refl h)
 
 -- slots one after the other
-slots-long : (vs : List Slot) → length (slotsWords vs) ≡ 12 * length vs
+pub slots-long : (vs : List Slot) → length (slotsWords vs) ≡ 12 * length vs
 slots-long [] = refl
 slots-long (v ∷ vs) = length-append (slotWords v) (slotsWords vs) ∙ omega (arith, slots-long vs)
 

@@ -1,5 +1,5 @@
 -- A store on words is the store on the plain state that is read from them. Assumes nothing.
-use Prim.Native.Nat.{ℕ, zero, suc, _+_, _*_, _%_, _<_, _≤_}
+use Prim.Native.Nat.{ℕ, zero, suc, _+_, _*_, _<_, _≤_}
 use mathlib.Core.Path.{_≡_, refl, sym, ap, ap₂, _∙_}
 use mathlib.Core.Bool.{Bool, true, false, cond}
 use mathlib.Core.List.{List, [], _∷_, _++_, append-nil}
@@ -8,18 +8,14 @@ use lib.Dec.{ltb, leb}
 use lib.ListN.{getD, set, drop, length, drop-of-length-le}
 use lib.Seq.{sets, sets-eq, length-sets, getD-set-same}
 use borrow.Author.Tests.{ltb-true, leb-false}
-use Rattle.holds.specs.Holds.{holdsWith}
-use Rattle.handles.specs.Handles.{handlesWith}
 use Rattle.schemev2.specs.declared.Sqe.{Sqe}
 use Rattle.schemev2.specs.Entry.{sqeWords}
 use Rattle.slot.specs.declared.Slot.{Slot}
 use Rattle.slot.specs.Slots.{vacantSlot}
-use Rattle.table.specs.declared.Table.{Table}
 use Rattle.table.specs.Table.{noSlot, stored as storedIn, givenOut, vacated}
-use Rattle.wait_queue.specs.declared.WaitQueue.{WaitQueue}
 use Rattle.wait_queue.specs.Queue.{placeOf}
 use Rattle.wait_queue.proofs.Unread.{getD-sets-before, getD-sets-after}
-use Rattle.events.specs.World.{World, tableOf, holdsOf, queueOf, handlesOf, schemeOf, withTable, withQueue, withHolds, withHandles, queued}
+use Rattle.events.specs.World.{World, tableOf, holdsOf, queueOf, handlesOf, schemeOf, withTable, withQueue, queued}
 use Rattle.layout.specs.Layout.{slotPlace, chainPlace, headPlace, allPlace, outsidePlace, schemePlace, firstPlace, unreadPlace, handlePlace, queuePlace, slotOf, slotWords, slotsFrom, part, built, plainOf}
 use Rattle.layout.specs.Fits.{SlotFits, SlotsFit, Fits}
 use Rattle.layout.specs.Store.{Store, put, give, vacate, send, queue, outside, all, handles, putWords, giveWords, vacateWords, sendPlace, sendWords, stored, storedAll, changed, changedAll, StoreFits, StoresFit}

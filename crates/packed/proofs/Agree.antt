@@ -1,26 +1,25 @@
 -- Both layouts agree: each step on words is the plain step on the state that is read from them, and so is every run. Assumes nothing.
-use Prim.Native.Nat.{ℕ, zero, suc, _+_, _*_, _/_, _<_, _≤_}
+use Prim.Native.Nat.{ℕ, zero, suc, _+_, _/_, _<_}
 use mathlib.Core.Path.{_≡_, refl, sym, ap, ap₂, subst, _∙_}
-use mathlib.Core.Bool.{Bool, true, false, cond, _||_, true≢false}
+use mathlib.Core.Bool.{Bool, true, false, _||_, true≢false}
 use mathlib.Core.List.{List, [], _∷_, _++_}
 use native.Mathlib.Omega.{arith}
 use lib.Dec.{ltb, eqb}
-use lib.ListN.{getD, drop, length, replicate}
+use lib.ListN.{drop, length, replicate}
 use lib.Seq.{getD-drop}
 use Rattle.counts.proofs.Laws.{lessAll-length, moreAll-length}
 use Rattle.fd_list.specs.Lists.{numbers, listOf}
 use Rattle.schemev2.specs.declared.Cqe.{Cqe}
-use Rattle.schemev2.specs.Entry.{cqeOf}
-use Rattle.slot.specs.Slots.{noFds, vacantSlot, withFdsOf}
-use Rattle.events.specs.World.{World, freshWorld, tableOf, holdsOf, handlesOf, slotIn, phaseIn}
-use Rattle.events.specs.Submit.{takenHolds, badOpcode, badList, longList, reserveRows, submitRows, callRows, genericRows, stdfsRows, fmapRows, queueRows}
+use Rattle.slot.specs.Slots.{noFds, vacantSlot}
+use Rattle.events.specs.World.{World, freshWorld, holdsOf, slotIn, phaseIn}
+use Rattle.events.specs.Submit.{takenHolds, badOpcode, badList, reserveRows, submitRows, callRows, genericRows, stdfsRows, fmapRows, queueRows}
 use Rattle.events.specs.Wake.{wakeable, wakeRows}
 use Rattle.events.specs.Entry.{dropped}
-use Rattle.events.specs.Complete.{Entered, accepted, rejected, entryOf, cut, entriesOf, writeRows}
+use Rattle.events.specs.Complete.{cut, entriesOf, writeRows}
 use Rattle.events.specs.Descriptors.{requestOf, requestRows, listRows}
 use Rattle.events.specs.Supply.{pageRows}
 use Rattle.events.specs.Event.{DriverEvent, hostPut, reserve, submit, call, generic, stdfs, fmap, close, detach, wake, read, write, move, obtain, supply, Event, hostOpen, hostCopy, hostDrop, hostEnded, on, step}
-use Rattle.events.proofs.Checked.{Passed, checked-cases}
+use Rattle.events.proofs.Checked.{checked-cases}
 use Rattle.layout.specs.Layout.{plainOf, packedOf}
 use Rattle.layout.specs.Fits.{SlotsFit, Fits}
 use Rattle.layout.specs.Store.{Store, stored, storedAll, StoresFit}

@@ -1,11 +1,11 @@
 -- On the plain state, what an event stores is what it changes. Assumes nothing.
-use Prim.Native.Nat.{ℕ, zero, suc, _+_, _<_, _≤_}
-use mathlib.Core.Path.{_≡_, refl, sym, ap, ap₂, _∙_}
-use mathlib.Core.Bool.{Bool, true, false, not, cond, _||_, _&&_}
-use mathlib.Core.List.{List, [], _∷_, _++_, map, append-nil}
+use Prim.Native.Nat.{ℕ, zero, suc, _+_, _<_}
+use mathlib.Core.Path.{_≡_, refl, sym, ap, _∙_}
+use mathlib.Core.Bool.{Bool, true, false, not, cond, _&&_}
+use mathlib.Core.List.{List, [], _∷_, _++_}
 use native.Mathlib.Omega.{arith}
-use lib.Dec.{ltb, leb, eqb}
-use lib.ListN.{getD, set, length, length-set}
+use lib.Dec.{ltb, eqb}
+use lib.ListN.{getD, set, length}
 use native.Mathlib.Numerals.{add-one}
 use lib.Seq.{set-getD}
 use borrow.Author.Tests.{lt-ltb}
@@ -14,7 +14,7 @@ use Rattle.fd_list.specs.Lists.{numbers, listOf}
 use Rattle.flag.specs.Flags.{eventRead, eventHup}
 use Rattle.holds.specs.declared.Holds.{Holds}
 use Rattle.holds.specs.Holds.{holdsWith, outsideOf}
-use Rattle.host_ended.specs.Ended.{markedBy, markedOf, endedTable}
+use Rattle.host_ended.specs.Ended.{markedBy, markedOf}
 use Rattle.host_ended.proofs.Marks.{mapTo, more, all as all-mapped}
 use Rattle.opcode.specs.Opcodes as opcode
 use Rattle.parse_cqe.specs.Parsed.{parsedOf}
@@ -28,21 +28,21 @@ use Rattle.slot.specs.declared.Phase.the-variants.{Vacant, Placeholder, Waiting
 use Rattle.slot.specs.declared.Slot.{Slot}
 use Rattle.slot.specs.Slots.{phaseOf, noFds, vacantSlot, placeholderOf, waitingOf, mapRequestOf, endedOf, withFdsOf}
 use Rattle.table.specs.declared.Table.{Table}
-use Rattle.table.specs.Table.{noSlot, slotAt, putAt, givenOut, vacateAt, stored, vacated}
+use Rattle.table.specs.Table.{noSlot, putAt, givenOut, vacateAt, stored, vacated}
 use Rattle.take_holds.specs.declared.TakeAnswer.the-variants as take
-use Rattle.take_holds.specs.Take.{takenAs, takeOf, bad}
-use Rattle.events.specs.World.{World, tableOf, holdsOf, handlesOf, slotIn, phaseIn, withTable, withHolds, withHandles, tableWith, queueFull, queued}
+use Rattle.take_holds.specs.Take.{takenAs, bad}
+use Rattle.events.specs.World.{World, tableOf, holdsOf, handlesOf, slotIn, phaseIn, withTable, withHandles, tableWith, queueFull, queued}
 use Rattle.events.specs.Outcome.{Outcome, outcome, Row, checked, refuse}
 use Rattle.events.specs.Submit.{takenHolds, tableFull, reserveRows, submitRows, callRows, genericRows, stdfsRows, fmapRows, queueRows, reserved, submitEntry, submitted, callEntry, genericEntry, stdMeta, fmapEntry, closeEntry, detachEntry, notified, begun}
 use Rattle.events.specs.Wake.{responseOf, heldIn, wakeable, wakeRows, blockedBy, waitedBy, wokenBy}
 use Rattle.events.specs.Entry.{Decision, decisionOf, dropped, isVacant}
-use Rattle.events.specs.Complete.{Entered, accepted, rejected, after, carried, entryOf, entriesOf, stopped, onEntered, writeOn, writeRows}
+use Rattle.events.specs.Complete.{Entered, accepted, rejected, after, entriesOf, stopped, onEntered, writeOn, writeRows}
 use Rattle.events.specs.Descriptors.{requestOf, requestRows, listRows, broughtBack, moved, givenUp}
 use Rattle.events.specs.Supply.{pageRows, suppliedBy}
 use Rattle.events.specs.Event.{DriverEvent, hostPut, reserve, submit, call, generic, stdfs, fmap, close, detach, wake, read, write, move, obtain, supply, Event, hostOpen, hostCopy, hostDrop, hostEnded, on, driverStep, step}
 use Rattle.events.proofs.Checked.{Passed}
-use Rattle.layout.specs.Store.{Store, put, give, vacate, send, queue, outside, all, handles, changed, changedAll}
-use Rattle.packed.specs.Stores.{unless, counts, taken, has, marks, blockedStores, waitedStores, wokenStores, actStores, decidedStores, entryStores, goneOn, writeStores, suppliedStores, driverStores, storesOf}
+use Rattle.layout.specs.Store.{Store, put, give, send, outside, handles, changed, changedAll}
+use Rattle.packed.specs.Stores.{unless, counts, taken, has, marks, blockedStores, waitedStores, wokenStores, decidedStores, entryStores, goneOn, writeStores, suppliedStores, driverStores, storesOf}
 
 -- two refusal tables with the same rows
 pub both-checked :

@@ -1,28 +1,25 @@
 -- What an event stores fits its place, where the event's numbers fit their types. Assumes nothing.
 use Prim.Native.Nat.{ℕ, zero, suc, _+_, _<_, _≤_}
-use mathlib.Core.Path.{_≡_, refl, sym, ap, subst, _∙_}
-use mathlib.Core.Bool.{Bool, true, false, not, cond, _||_, _&&_, true≢false}
+use mathlib.Core.Path.{_≡_, refl, ap, _∙_}
+use mathlib.Core.Bool.{Bool, true, false, not, cond, _||_, true≢false}
 use mathlib.Core.List.{List, [], _∷_, _++_, map}
 use native.Mathlib.Omega.{arith}
-use native.Mathlib.Decide.{decLt}
 use native.Mathlib.Nat.{not-suc-le-zero, le-of-suc-le-suc}
-use lib.Dec.{ltb, leb, eqb}
+use lib.Dec.{ltb, eqb}
 use lib.ListN.{getD, set, take, drop, length, length-set, length-drop}
 use lib.Seq.{sets, getD-drop}
 use borrow.Author.Tests.{ltb-true, ltb-false}
 use Rattle.answer.specs.declared.Answer.the-variants.{Done, BadArgument, TooManyHolds}
-use Rattle.counts.specs.Counts.{any, less, more, lessAll, moreAll, times}
+use Rattle.counts.specs.Counts.{any, more, lessAll, times}
 use Rattle.counts.proofs.Laws.{less-length, lessAll-length, more-length, moreAll-length}
-use Rattle.error.specs.declared.Result.{Result}
 use Rattle.error.specs.declared.Result.the-variants.{Ok, Err}
-use Rattle.error.specs.Reference.{asUsize}
 use Rattle.fd_list.specs.declared.List.{List as Fds}
 use Rattle.fd_list.specs.Lists.{desc, num, numbers, blank, listOf, restOf}
 use Rattle.fd_list.proofs.Laws.{listOf-length, numbers-most}
 use Rattle.handles.specs.declared.Handles.{Handles}
-use Rattle.handles.specs.Handles.{Gained, into, emptied, isFree, obtainBy, obtainIn, obtainOf, obtainCloses}
+use Rattle.handles.specs.Handles.{Gained, into, emptied, isFree, obtainBy, obtainIn}
 use Rattle.holds.specs.declared.Holds.{Holds}
-use Rattle.holds.specs.Holds.{holdsWith, unheld, outsideOf}
+use Rattle.holds.specs.Holds.{holdsWith, unheld}
 use Rattle.flag.specs.Flags.{within, eventFlags, fobtainFdFlags}
 use Rattle.host_holds.specs.Host.{oneMore, oneFewer, openedAs, openOf, copiedAs, copyOf, droppedAs, dropOf}
 use Rattle.host_put.specs.declared.HoldPut.{HoldPut}
@@ -34,7 +31,7 @@ use Rattle.parse_cqe.specs.Parsed.{eventIf, obtainIf, parsedBy, parsedOf}
 use Rattle.schemev2.specs.declared.Cqe.{Cqe}
 use Rattle.schemev2.specs.declared.CqeOpcode.{CqeOpcode}
 use Rattle.schemev2.specs.declared.CqeOpcode.the-variants as kind
-use Rattle.schemev2.specs.Entry.{kindOf, extraOf, cqeOf, cqeOpcodeOf}
+use Rattle.schemev2.specs.Entry.{kindOf, extraOf, cqeOpcodeOf}
 use Rattle.slot.specs.declared.Act.{Act}
 use Rattle.slot.specs.declared.Act.the-variants as act
 use Rattle.slot.specs.declared.PageSpan.{PageSpan}
@@ -42,7 +39,7 @@ use Rattle.slot.specs.declared.Phase.{Phase}
 use Rattle.slot.specs.declared.Phase.the-variants.{Vacant, Placeholder, Waiting, Responded, Fmap}
 use Rattle.slot.specs.declared.Reply.{Reply}
 use Rattle.slot.specs.declared.Slot.{Slot}
-use Rattle.slot.specs.Slots.{phaseOf, noFds, vacantSlot, madeOf, placeholderOf, waitingOf, mapRequestOf, canceledOf, interruptedOf, respondedOf, endedOf, withFdsOf}
+use Rattle.slot.specs.Slots.{phaseOf, vacantSlot, madeOf, endedOf, withFdsOf}
 use Rattle.table.specs.Table.{noSlot}
 use Rattle.take_holds.specs.declared.TakeAnswer.the-variants as take
 use Rattle.take_holds.specs.Take.{takenAs, bad}
@@ -50,7 +47,7 @@ use Rattle.events.specs.World.{World, tableOf, holdsOf, handlesOf, slotIn, queu
 use Rattle.events.specs.Outcome.{Row}
 use Rattle.events.specs.Submit.{badList, longList, takenHolds}
 use Rattle.events.specs.Wake.{responseOf, heldIn}
-use Rattle.events.specs.Entry.{Decision, Offer, result, one, listed, responseTo, storedAs, keptFds, goneFds, namedOf, ownFds, dropped, refusedOf, servedBy, respondBy, respondOf, inHandle, handleRows, takenOut, byDescriptor, descriptorOf, obtainRows, obtained, obtainEntryOf, decisionOf}
+use Rattle.events.specs.Entry.{Decision, Offer, result, one, listed, responseTo, storedAs, keptFds, goneFds, namedOf, ownFds, refusedOf, servedBy, respondBy, inHandle, handleRows, takenOut, byDescriptor, descriptorOf, obtainRows, obtained, obtainEntryOf, decisionOf}
 use Rattle.events.specs.Event.{hostPut}
 use Rattle.events.proofs.Checked.{Passed, checked-cases}
 use Rattle.layout.specs.Fits.{ListFits, SlotFits, SlotsFit, Fits}

@@ -3,7 +3,7 @@ use Prim.Native.Nat.{ℕ, _<_}
 use mathlib.Core.Path.{_≡_}
 use mathlib.Core.List.{List, [], _∷_}
 use lib.ListN.{getD, length}
-use Rattle.events.specs.World.{World, freshWorld}
+use Rattle.events.specs.World.{freshWorld}
 use Rattle.events.specs.Event.{DriverEvent, hostPut, reserve, submit, call, generic, stdfs, fmap, close, detach, wake, read, write, move, obtain, supply, Event, hostOpen, hostCopy, hostDrop, hostEnded, on, step}
 use Rattle.layout.specs.Layout.{size, plainOf, packedOf}
 use Rattle.packed.specs.Step.{wordsAfter, packedRun, plainRun, freshWords, wordsRun}

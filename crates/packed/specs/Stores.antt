@@ -1,5 +1,5 @@
--- What each event stores: counts and handles first, then a slot, then an entry. A refusal stores nothing, but for the named cases: a descriptor response and a move that are
--- refused by the tag have dropped a hold.
+-- What each event stores: counts and handles first, then a slot, then an entry. A refusal stores nothing, but in four named cases: a descriptor response and a move that are
+-- refused by the tag have dropped a hold; EINTR of a killed wake stores its span and mark; ESRCH of a supply vacates its slot.
 use Prim.Native.Nat.{ℕ, zero, suc}
 use mathlib.Core.Bool.{Bool, true, false, not, cond, _&&_}
 use mathlib.Core.List.{List, [], _∷_, _++_}

@@ -4,7 +4,6 @@ use mathlib.Core.Path.{_≡_, refl, sym, ap, ap₂, _∙_}
 use mathlib.Core.Bool.{Bool, cond}
 use mathlib.Core.List.{List, [], _∷_, _++_, append-nil}
 use native.Mathlib.Omega.{arith}
-use native.Mathlib.Nat.{add-zero}
 use native.Mathlib.Numerals.{add-one}
 use lib.ListN.{getD, set, take, drop, length, replicate, drop-of-length-le}
 use lib.Seq.{sets, length-sets, drop-cons, take-suc, take-suc-set, take-all}
@@ -16,7 +15,8 @@ use Rattle.events.specs.World.{World, tableOf, holdsOf, handlesOf, queueOf, sch
 use Rattle.layout.specs.Layout.{slotsFrom, slotsWords, laid, built, plainOf, packedOf}
 use Rattle.layout.specs.Store.{putWords, stored, put}
 use Rattle.layout.proofs.Worlds.{sets-all}
-use Rattle.layout.proofs.Packs.{Long, packed-long}
+use Rattle.word_put.proofs.Stores.{two-runs}
+use Rattle.layout.proofs.Packs.{Long, slots-long, packed-long}
 
 module _ (ws : List ℕ) where
   abbrev all : List Slot
@@ -65,21 +65,6 @@ pub made :
 made w slots next head all outside scheme first len handles words a b c d e f g h j k =
     λ i. built (a i) (b i) (c i) (d i) (e i) (f i) (g i) (h i) (j i) (k i)
 
--- one list stored behind the other
-behind : (x ys l : List ℕ) (k : ℕ) → sets (sets l k x) (k + length x) ys ≡ sets l k (x ++ ys)
-behind [] ys l k = ap (λ (j : ℕ). sets l j ys) (add-zero k)
-behind (v ∷ x) ys l k = ap (λ (j : ℕ). sets (sets (set l k v) (suc k) x) j ys) next ∙ behind x ys (set l k v) (suc k)
-  where
-    next : k + suc (length x) ≡ suc k + length x
-    next = omega arith
-
-join : (x ys l m : List ℕ) (k n : ℕ) → m ≡ sets l k x → n ≡ k + length x → sets m n ys ≡ sets l k (x ++ ys)
-join x ys l m k n e p = ap₂ (λ (j : List ℕ) (i : ℕ). sets j i ys) e p ∙ behind x ys l k
-
-words-long : (vs : List Slot) → length (slotsWords vs) ≡ 12 * length vs
-words-long [] = refl
-words-long (v ∷ vs) = omega (arith, words-long vs)
-
 -- all parts stored, from the first word to the last
 module _ (w : World) where
   abbrev p8 : List (List ℕ)
@@ -118,10 +103,10 @@ module _ (w : World) where
       whole : xs ≡ sets ws 0 (laid p1)
       whole =
           ex ∙ ap (sets g 1036) (sym (append-nil (w .words)))
-          ∙ join (handlesOf w .at) (laid p8) f g 972 1036 eg (omega (arith, r .handles))
-          ∙ join (schemeOf w ∷ queueOf w .first ∷ queueOf w .len ∷ 0 ∷ []) (laid p7) e f 968 972 ef (omega arith)
-          ∙ join (holdsOf w .outside) (laid p6) d e 904 968 ee (omega (arith, r .outside))
-          ∙ join (holdsOf w .holds) (laid p5) c d 840 904 ed (omega (arith, r .all))
-          ∙ join (tableOf w .head ∷ replicate 7 0) (laid p4) b c 832 840 ec (omega arith)
-          ∙ join (tableOf w .next) (laid p3) a b 768 832 eb (omega (arith, r .next))
-          ∙ join (slotsWords (tableOf w .slots)) (laid p2) ws a 0 768 ea (omega (arith, r .slots, words-long (tableOf w .slots)))
+          ∙ two-runs f g _ (handlesOf w .at) (laid p8) 972 1036 eg (omega (arith, r .handles)) refl
+          ∙ two-runs e f _ (schemeOf w ∷ queueOf w .first ∷ queueOf w .len ∷ 0 ∷ []) (laid p7) 968 972 ef (omega arith) refl
+          ∙ two-runs d e _ (holdsOf w .outside) (laid p6) 904 968 ee (omega (arith, r .outside)) refl
+          ∙ two-runs c d _ (holdsOf w .holds) (laid p5) 840 904 ed (omega (arith, r .all)) refl
+          ∙ two-runs b c _ (tableOf w .head ∷ replicate 7 0) (laid p4) 832 840 ec (omega arith) refl
+          ∙ two-runs a b _ (tableOf w .next) (laid p3) 768 832 eb (omega (arith, r .next)) refl
+          ∙ two-runs ws a _ (slotsWords (tableOf w .slots)) (laid p2) 0 768 ea (omega (arith, r .slots, slots-long (tableOf w .slots))) refl

@@ -1,8 +1,8 @@
 -- A completion entry as a plan on one slot and numbers: the decision that it comes to, whatever the counts and the handles are.
 use Prim.Native.Nat.{ℕ}
 use mathlib.Core.Path.{_≡_}
-use mathlib.Core.Bool.{Bool, true, false, cond}
-use mathlib.Core.List.{List, [], _∷_, _++_}
+use mathlib.Core.Bool.{cond}
+use mathlib.Core.List.{List, _++_}
 use lib.Dec.{eqb}
 use lib.ListN.{set}
 use Rattle.closes.specs.declared.Reason.the-variants.{Replied}
@@ -15,7 +15,6 @@ use Rattle.handles.specs.Handles.{handlesWith, heldAt}
 use Rattle.holds.specs.declared.Holds.{Holds}
 use Rattle.parse_cqe.specs.declared.ParsedCqe.{ParsedCqe}
 use Rattle.parse_cqe.specs.declared.ParsedCqe.the-variants as parsed
-use Rattle.slot.specs.declared.Slot.{Slot}
 use Rattle.events.specs.Entry.{Decision, decided, dropped, closesOf, unmapOf}
 use Rattle.plan.specs.declared.Plan.{Plan}
 

@@ -1,12 +1,12 @@
 -- What a store of counts or handles leaves of the rest. Assumes nothing.
-use Prim.Native.Nat.{ℕ, min, _+_, _≤_}
+use Prim.Native.Nat.{ℕ, min, _≤_}
 use mathlib.Core.Path.{_≡_, sym, ap, _∙_}
 use mathlib.Core.List.{List}
 use native.Mathlib.Omega.{arith}
-use lib.ListN.{getD, take, drop, length, length-take}
+use lib.ListN.{take, drop, length, length-take}
 use lib.Seq.{sets}
 use Rattle.wait_queue.proofs.Unread.{getD-sets-before, getD-sets-after}
-use Rattle.events.specs.World.{World, tableOf, holdsOf, handlesOf, schemeOf}
+use Rattle.events.specs.World.{tableOf, holdsOf, handlesOf, schemeOf}
 use Rattle.events.specs.Outcome.{rootWords, readable}
 use Rattle.flag.specs.Flags.{eventRead}
 use Rattle.layout.specs.Layout.{part, plainOf}
@@ -24,9 +24,6 @@ part-short a n ws = least n (length (drop a ws)) (length (take n (drop a ws))) (
 module _ (ws : List ℕ) where
   pub outside-short : length (holdsOf (plainOf ws) .outside) ≤ 64
   outside-short = rw (← outside-is ws) (part-short 904 64 ws)
-
-  pub all-short : length (holdsOf (plainOf ws) .holds) ≤ 64
-  all-short = rw (← all-is ws) (part-short 840 64 ws)
 
   -- behind a store of the outside counts
   module _ (o : List ℕ) where
@@ -50,6 +47,3 @@ module _ (ws : List ℕ) where
   module _ (a : List ℕ) (h : length a ≤ 64) where
     pub handles-all : handlesOf (plainOf (stored ws (all a))) .at ≡ handlesOf (plainOf ws) .at
     handles-all = sym (handles-is (sets ws 840 a)) ∙ part-after 972 64 ws 840 a (omega (arith, h)) ∙ handles-is ws
-
-    pub outside-all : holdsOf (plainOf (stored ws (all a))) .outside ≡ holdsOf (plainOf ws) .outside
-    outside-all = sym (outside-is (sets ws 840 a)) ∙ part-after 904 64 ws 840 a (omega (arith, h)) ∙ outside-is ws

@@ -1,11 +1,11 @@
 -- Events that give a slot out and queue its entry, by their rows. Assumes nothing.
 use Prim.Native.Nat.{ℕ, min}
 use mathlib.Core.Path.{_≡_, sym, ap, ap₂, _∙_}
-use mathlib.Core.Bool.{true, false}
+use mathlib.Core.Bool.{false}
 use mathlib.Core.List.{List, [], _∷_}
 use Rattle.schemev2.specs.declared.Sqe.{Sqe}
 use Rattle.slot.specs.declared.Slot.{Slot}
-use Rattle.events.specs.World.{World, tableOf, holdsOf}
+use Rattle.events.specs.World.{tableOf, holdsOf}
 use Rattle.events.specs.Outcome.{Answer, ok, Row, readable, checked, refuse}
 use Rattle.events.specs.Submit.{tableFull, begun}
 use Rattle.events.specs.Event.{Event, step}

@@ -1,12 +1,10 @@
 -- An event by its refusal table: turned down by the first row that is due, or carried out. Assumes nothing.
-use Prim.Native.Nat.{ℕ, zero, suc}
+use Prim.Native.Nat.{ℕ}
 use mathlib.Core.Path.{_≡_, refl, sym, ap, _∙_}
 use mathlib.Core.Bool.{Bool, true, false, cond}
 use mathlib.Core.List.{List, [], _∷_}
 use native.Mathlib.Omega.{arith}
-use Rattle.answer.specs.declared.Answer.{Answer as Case}
-use Rattle.events.specs.World.{World}
-use Rattle.events.specs.Outcome.{Answer, no, said, Outcome, Row, checked, refuse}
+use Rattle.events.specs.Outcome.{Answer, no, Outcome, Row, checked, refuse}
 use Rattle.events.specs.Event.{Event, step}
 use Rattle.events.proofs.Checked.{Passed}
 use Rattle.layout.specs.Layout.{plainOf}

@@ -1,9 +1,8 @@
 -- A call by its tests. Assumes nothing.
 use Prim.Native.Nat.{ℕ, min, _≤_}
-use mathlib.Core.Path.{_≡_, refl, sym, ap, ap₂, _∙_}
+use mathlib.Core.Path.{_≡_, refl, sym, ap, _∙_}
 use mathlib.Core.Bool.{true, false, _||_}
 use mathlib.Core.List.{List, [], _∷_}
-use native.Mathlib.Omega.{arith}
 use lib.ListN.{length}
 use Rattle.ask.specs.declared.Asked.{Asked}
 use Rattle.ask.specs.Asked.{askedOf}
@@ -18,7 +17,7 @@ use Rattle.slot.specs.declared.Slot.{Slot}
 use Rattle.slot.specs.Slots.{waitingOf}
 use Rattle.user_args.specs.Args.{mergeOf}
 use Rattle.events.specs.World.{World, tableOf, holdsOf, queueFull}
-use Rattle.events.specs.Outcome.{Answer, ok, no, said, Row, row, readable}
+use Rattle.events.specs.Outcome.{Answer, ok, no, said, row, readable}
 use Rattle.events.specs.Submit.{args6, sqe, badOpcode, badList, longList, tableFull, takenHolds, begun, callEntry, callRows}
 use Rattle.events.specs.Event.{Event, on, call}
 use Rattle.layout.specs.Layout.{plainOf}

@@ -1,9 +1,8 @@
 -- `close` and `detach` by their test. Assumes nothing.
-use Prim.Native.Nat.{ℕ, _+_}
+use Prim.Native.Nat.{ℕ}
 use mathlib.Core.Path.{_≡_, refl, ap, _∙_}
 use mathlib.Core.Bool.{true, false}
 use mathlib.Core.List.{List, [], _∷_}
-use Rattle.flag.specs.Flags.{eventRead, eventHup}
 use Rattle.schemev2.specs.declared.Sqe.{Sqe}
 use Rattle.events.specs.World.{World, queueFull}
 use Rattle.events.specs.Outcome.{Answer, ok, no, rootEffect, checked, refuse}

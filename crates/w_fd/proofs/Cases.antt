@@ -1,5 +1,5 @@
 -- The descriptor calls by their request and, for a move, by its list. Assumes nothing.
-use Prim.Native.Nat.{ℕ, min, _≤_}
+use Prim.Native.Nat.{ℕ, min}
 use mathlib.Core.Path.{_≡_, refl, sym, ap, ap₂, _∙_}
 use mathlib.Core.Bool.{Bool, true, false, not, cond, _||_}
 use mathlib.Core.List.{List, [], _∷_, _++_}
@@ -7,8 +7,7 @@ use native.Mathlib.Omega.{arith}
 use lib.Dec.{ltb, eqb}
 use lib.ListN.{getD, length}
 use borrow.Author.Tests.{ltb-true, ltb-false}
-use Rattle.counts.specs.Counts.{any, lessAll, moreAll}
-use Rattle.counts.proofs.Laws.{lessAll-length}
+use Rattle.counts.specs.Counts.{lessAll, moreAll}
 use Rattle.fd_list.specs.declared.List.{List as Fds}
 use Rattle.fd_list.specs.Lists.{numbers, listOf}
 use Rattle.fd_list.proofs.Laws.{numbers-listOf}
@@ -22,7 +21,7 @@ use Rattle.table.specs.Table.{noSlot}
 use Rattle.take_holds.specs.declared.TakeAnswer.the-variants as take
 use Rattle.take_holds.specs.Take.{takenAs}
 use Rattle.events.specs.World.{World, tableOf, holdsOf, slotIn, phaseIn}
-use Rattle.events.specs.Outcome.{Answer, ok, no, Outcome, Row, row, checked, refuse}
+use Rattle.events.specs.Outcome.{Answer, ok, no, Outcome, refuse}
 use Rattle.events.specs.Submit.{badList, longList, takenHolds}
 use Rattle.events.specs.Entry.{dropped, isVacant, isWaiting}
 use Rattle.events.specs.Descriptors.{verbOf, requestOf, wrongWords, requestRows, listRows, broughtBack, moved, givenUp}

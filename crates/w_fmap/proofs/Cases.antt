@@ -1,6 +1,6 @@
 -- A map request by its tests. Assumes nothing.
 use Prim.Native.Nat.{ℕ}
-use mathlib.Core.Path.{_≡_, ap₂}
+use mathlib.Core.Path.{_≡_}
 use Rattle.opcode.specs.Opcodes as opcode
 use Rattle.user_args.specs.Args.{mergeOf}
 use Rattle.events.specs.Submit.{args6, sqe, fmapEntry}

@@ -1,11 +1,11 @@
 -- A wake by its tests; k is the slot number of the tag n. Assumes nothing.
 use Prim.Native.Nat.{ℕ, min, _<_, _≤_}
 use mathlib.Core.Path.{_≡_, refl, sym, ap, ap₂, _∙_}
-use mathlib.Core.Bool.{Bool, true, false, cond, true≢false}
+use mathlib.Core.Bool.{Bool, true, false, cond}
 use mathlib.Core.List.{List, [], _∷_}
 use native.Mathlib.Omega.{arith}
 use lib.Dec.{eqb, leb, ltb}
-use lib.ListN.{length, getD}
+use lib.ListN.{getD}
 use borrow.Author.Tests.{lt-ltb, le-ltb, ltb-true}
 use Rattle.answer.specs.declared.Answer.{Answer as Case}
 use Rattle.counts.specs.Counts.{moreAll}
@@ -25,14 +25,14 @@ use Rattle.slot.specs.Slots.{phaseOf, vacantSlot, canceledOf, interruptedOf}
 use Rattle.table.specs.Table.{noSlot}
 use Rattle.events.specs.World.{World, tableOf, holdsOf, queueOf, slotIn, phaseIn, queueFull}
 use Rattle.events.specs.Outcome.{Answer, Response, Outcome, outcome, saidWith, no, blocked, reply, refuse, checked, readable}
-use Rattle.events.specs.Wake.{responseFrom, responseOf, heldIn, cancelEntry, handedOver, interrupted, blockedBy, waitedBy, wokenBy, wakeable, wakeRows, wakeOf}
+use Rattle.events.specs.Wake.{responseOf, heldIn, cancelEntry, handedOver, interrupted, blockedBy, waitedBy, wokenBy, wakeable, wakeRows}
 use Rattle.events.specs.Event.{Event, on, wake, step}
 use Rattle.layout.specs.Layout.{plainOf}
 use Rattle.layout.specs.Store.{Store, put, vacate, send, outside, stored, storedAll}
 use Rattle.packed.specs.Stores.{unless, blockedStores, waitedStores, wokenStores, storesOf}
 use Rattle.step.specs.Does.{Does}
 use Rattle.step.proofs.Rows.{turned}
-use Rattle.step.proofs.Tests.{slot-of-in, put-of, vacate-of}
+use Rattle.step.proofs.Tests.{slot-of-in}
 use Rattle.wake_decision.specs.declared.Decided.{Decided}
 use Rattle.wake_decision.specs.declared.Turn.{Turn}
 use Rattle.wake_decision.specs.declared.Turn.the-variants.{Stay, Interrupt, Cancel, HandOver}

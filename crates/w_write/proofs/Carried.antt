@@ -1,11 +1,11 @@
 -- A plan carried out: its effects one run after the other, and its stores. Assumes nothing.
-use Prim.Native.Nat.{ℕ, _+_, _*_, _<_, _≤_}
+use Prim.Native.Nat.{ℕ, _+_, _*_, _≤_}
 use mathlib.Core.Path.{_≡_, refl, sym, ap, ap₂, _∙_}
 use mathlib.Core.Bool.{Bool, true, false, cond}
 use mathlib.Core.List.{List, [], _∷_, _++_, append-assoc}
 use native.Mathlib.Omega.{arith}
 use lib.Dec.{eqb}
-use lib.ListN.{getD, set, take, drop, length, length-append, length-take}
+use lib.ListN.{set, take, drop, length, length-append, length-take}
 use lib.Seq.{sets, length-sets, sets-eq, take-append-seam, drop-append-seam}
 use borrow.Author.Tests.{eq-eqb, ne-eqb}
 use Rattle.closes.specs.declared.Reason.the-variants.{Replied}
@@ -16,22 +16,21 @@ use Rattle.counts.proofs.Laws.{lessAll-length}
 use Rattle.effect.specs.declared.Effect.{Effect}
 use Rattle.effect.specs.Effect.{effectWords}
 use Rattle.fd_list.specs.Lists.{numbers}
-use Rattle.holds.specs.declared.Holds.{Holds}
 use Rattle.slot.specs.declared.Act.{Act}
 use Rattle.slot.specs.declared.Act.the-variants as act
 use Rattle.slot.specs.declared.PageSpan.{PageSpan}
 use Rattle.slot.specs.declared.Slot.{Slot}
 use Rattle.word_put.proofs.Stores.{sets-then}
 use Rattle.events.specs.World.{World, holdsOf, handlesOf}
-use Rattle.events.specs.Entry.{dropped, closesOf, unmapOf}
+use Rattle.events.specs.Entry.{closesOf, unmapOf}
 use Rattle.layout.specs.Layout.{plainOf}
-use Rattle.layout.specs.Store.{put, vacate, outside, all, handles, stored, storedAll}
+use Rattle.layout.specs.Store.{outside, all, handles, stored, storedAll}
 use Rattle.layout.proofs.Regions.{same-part}
-use Rattle.layout.proofs.Worlds.{all-is, outside-is, handles-is, plain-fits, stored-plain, stored-length}
+use Rattle.layout.proofs.Worlds.{outside-is, handles-is, plain-fits, stored-plain, stored-length}
 use Rattle.packed.specs.Stores.{actStores, decidedStores}
 use Rattle.plan.specs.declared.Plan.{Plan}
 use Rattle.plan.specs.Plans.{effectsBy, handlesBy, decisionBy}
-use Rattle.step.proofs.Frames.{all-short, handles-all}
+use Rattle.step.proofs.Frames.{handles-all}
 
 pub effect-none : (e : Effect) (fx : List ℕ) (at : ℕ) → e .kind ≡ 0 → (0 ≡ length (effectWords e)) × ((0 ≤ 3) × (fx ≡ sets fx at (effectWords e)))
 effect-none e fx at q = rw (eq-eqb (e .kind) 0 q) (refl, (omega arith, refl))

@@ -7,7 +7,6 @@ use lib.Seq.{sets}
 use Rattle.handles.specs.Handles.{heldAt}
 use Rattle.ids.specs.declared.Handle.{Handle}
 use Rattle.ids.specs.declared.SlotNo.{SlotNo}
-use Rattle.ids.specs.declared.Tag.{Tag}
 use Rattle.ids.specs.Ids.{slotOf}
 use Rattle.parse_cqe.specs.declared.ParsedCqe.{ParsedCqe}
 use Rattle.parse_cqe.specs.Parsed.{parsedOf}

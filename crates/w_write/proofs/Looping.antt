@@ -3,10 +3,10 @@ use Prim.Native.Nat.{ℕ, suc, _+_, _-_, _*_, _/_, _<_, _≤_}
 use mathlib.Core.Path.{_≡_, refl, sym, ap, ap₂, _∙_, subst}
 use mathlib.Core.Logic.{_⊎_, inl, inr}
 use mathlib.Core.Bool.{Bool, true, false, not, cond, _||_}
-use mathlib.Core.List.{List, [], _∷_, _++_, append-nil}
+use mathlib.Core.List.{List, [], _∷_, _++_}
 use native.Mathlib.Omega.{arith}
 use native.Mathlib.Numerals.{add-one}
-use lib.Dec.{eqb, ltb}
+use lib.Dec.{eqb}
 use lib.ListN.{length, drop, length-append}
 use lib.Seq.{sets, length-sets, drop-drop}
 use borrow.Author.Tests.{eq-eqb, ne-eqb, lt-ltb, le-ltb}
@@ -27,12 +27,11 @@ use Rattle.slot.specs.Slots.{phaseOf}
 use Rattle.events.specs.World.{World, holdsOf, handlesOf, slotIn}
 use Rattle.events.specs.Outcome.{Answer, Outcome, outcome, ok, no, refuse}
 use Rattle.events.specs.Entry.{Decision, refusedOf, Offer, one, servedBy, respondBy, inHandle, byDescriptor, isVacant, isWaiting, obtained, decisionOf}
-use Rattle.events.specs.Complete.{Entered, accepted, rejected, after, carried, entryOf, cut, entriesOf, stopped, onEntered, writeOn, writeRows}
+use Rattle.events.specs.Complete.{Entered, accepted, rejected, after, cut, entriesOf, stopped, onEntered, writeOn}
 use Rattle.events.specs.Event.{on, write, step}
 use Rattle.layout.specs.Layout.{plainOf}
 use Rattle.layout.specs.Store.{Store, stored, storedAll}
 use Rattle.packed.specs.Stores.{entryStores, goneOn, writeStores}
-use Rattle.packed.specs.Step.{wordsAfter}
 use Rattle.w_write.specs.Writing.{isRefusal, decisionAt, Enters, Writes}
 
 -- a decision's number is 0 or a refusal's

@@ -1,24 +1,21 @@
 -- What the code's single words come to: a slot's twelve, an entry's eight, and each store by its test. Assumes nothing.
 use Prim.Native.Nat.{ℕ, zero, suc, _+_, _*_, _%_, _<_, _≤_}
-use mathlib.Core.Path.{_≡_, refl, sym, ap, ap₂, _∙_}
-use mathlib.Core.Bool.{Bool, true, false, cond}
+use mathlib.Core.Path.{_≡_, sym, ap, ap₂, _∙_}
+use mathlib.Core.Bool.{Bool, cond}
 use mathlib.Core.List.{List, [], _∷_, map}
 use native.Mathlib.Omega.{arith}
-use lib.Dec.{ltb, leb}
-use lib.ListN.{getD, set, length, List·getD-map}
+use lib.ListN.{getD, set, List·getD-map}
 use lib.Seq.{sets}
 use borrow.Author.Tests.{lt-ltb, le-ltb, lt-leb, le-leb}
-use Rattle.ids.specs.declared.Description.{Description}
 use Rattle.fd_list.specs.declared.List.{List as Fds}
 use Rattle.fd_list.specs.Lists.{desc, num}
-use Rattle.le.specs.Le.{word}
 use Rattle.schemev2.specs.declared.Sqe.{Sqe}
 use Rattle.schemev2.specs.Entry.{sqeWords}
 use Rattle.slot.specs.declared.Slot.{Slot}
 use Rattle.slot.specs.Slots.{vacantSlot}
 use Rattle.table.specs.Table.{noSlot}
-use Rattle.events.specs.World.{World, tableOf, slotIn}
-use Rattle.layout.specs.Layout.{slotOf, lowWord, highWord, plainOf, slotWords}
+use Rattle.events.specs.World.{tableOf, slotIn}
+use Rattle.layout.specs.Layout.{slotOf, lowWord, highWord, plainOf}
 use Rattle.layout.specs.Store.{putWords, giveWords, vacateWords, sendWords, stored, put, give, vacate, send}
 use Rattle.layout.proofs.Worlds.{load-is}
 

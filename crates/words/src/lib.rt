@@ -22,7 +22,7 @@ ghost use lib.Seq.{sets};
 ghost use Rattle.closes.specs.Closes.{only, closes};
 ghost use Rattle.counts.specs.Counts.{less, more, lessAll, moreAll, lasts};
 ghost use Rattle.fd_list.specs.Lists.{numbers};
-ghost use Rattle.handles.specs.Handles.{heldAt, into, emptied};
+ghost use Rattle.handles.specs.Handles.{heldAt, into};
 ghost use Rattle.holds.specs.Holds.{heldOf};
 ghost use Rattle.schemev2.specs.Entry.{sqeWords};
 ghost use Rattle.take_holds.specs.Take.{takeOf};
@@ -633,6 +633,7 @@ pub fn held_at(s: &[u64; 2060], k: Handle) -> u64
     0
 }
 
+// Handle k holds v from now on: 0, or the description and 1; a store to one over 63 is nothing.
 pub fn set_handle(s: &mut [u64; 2060], k: Handle, v: u64)
     ensures { λ r. ⌜ now (s .exit) ≡ stored (now (s .entry)) (handlesStore (set (handlesOf (plainOf (now (s .entry))) .at) (k .0) v)) ⌝ }
 {
@@ -649,11 +650,4 @@ pub fn put_into(s: &mut [u64; 2060], k: Handle, d: Description)
     ensures { λ r. ⌜ now (s .exit) ≡ stored (now (s .entry)) (handlesStore (into (handlesOf (plainOf (now (s .entry)))) (k .0) (d .0) .at)) ⌝ }
 {
     set_handle(s, k, d.0 as u64 + 1);
-}
-
-// Handle k is empty from now on.
-pub fn empty_handle(s: &mut [u64; 2060], k: Handle)
-    ensures { λ r. ⌜ now (s .exit) ≡ stored (now (s .entry)) (handlesStore (emptied (handlesOf (plainOf (now (s .entry)))) (k .0) .at)) ⌝ }
-{
-    set_handle(s, k, 0);
 }

@@ -1,8 +1,7 @@
 -- `plan::obtain` meets its contract. Assumes nothing.
 use borrow.Author.Needs.{needs}
 use Rattle.events.specs.Entry.{isVacant, isWaiting}
-use mathlib.Core.Path.{_≡_, sym, ap, _∙_}
-use mathlib.Core.Bool.{Bool}
+use mathlib.Core.Path.{sym, ap, _∙_}
 use Rattle.plan.proofs.Laws.{obtain-vacant, obtain-other, obtain-none, obtain-free, obtain-dropped}
 use Rattle.plan.proofs.obtain.Statement.{statement}
 use Rattle.plan.proofs.obtain.Tie as tie

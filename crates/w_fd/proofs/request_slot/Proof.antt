@@ -3,7 +3,6 @@ use borrow.Author.Needs.{needs}
 use borrow.Author.Tests.{eq-eqb, ne-eqb}
 use Rattle.ids.specs.declared.SlotNo.{SlotNo}
 use mathlib.Core.Path.{ap, _∙_}
-use Prim.Native.Nat.{ℕ}
 use Rattle.w_fd.proofs.Cases.{wrong-length, wrong-verb, named}
 use Rattle.w_fd.proofs.request_slot.Statement.{statement}
 use Rattle.w_fd.proofs.request_slot.Tie as tie
