@@ -23,7 +23,7 @@ fn wide(x: u8) -> usize
 pub fn empty() -> List
     ensures { λ r. ⌜ r ≡ listOf [] ⌝ }
 {
-    let zero = Description(0);
+    let zero = ids::BLANK;
     List {
         at: [zero; 16],
         len: 0,
@@ -34,7 +34,7 @@ pub fn empty() -> List
 pub fn single(d: Description) -> List
     ensures { λ r. ⌜ r ≡ listOf (d .0 ∷ []) ⌝ }
 {
-    let zero = Description(0);
+    let zero = ids::BLANK;
     let mut list = List {
         at: [zero; 16],
         len: 1,
@@ -60,10 +60,10 @@ pub fn pick(l: List, i: usize) -> Description
     ensures { λ r. ⌜ r ≡ getD (named l) i (desc 0) ⌝ }
 {
     if 16 <= i {
-        return Description(0);
+        return ids::BLANK;
     }
     if wide(l.len) <= i {
-        return Description(0);
+        return ids::BLANK;
     }
     l.at[i]
 }
@@ -86,7 +86,7 @@ pub fn without(l: List, k: u8) -> List
 {
     let n = size(l);
     let first = wide(k);
-    let zero = Description(0);
+    let zero = ids::BLANK;
     let mut list = List {
         at: [zero; 16],
         len: 0,

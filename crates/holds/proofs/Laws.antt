@@ -4,13 +4,13 @@ use mathlib.Core.Path.{_≡_, refl, sym, ap, _∙_}
 use mathlib.Core.Bool.{Bool, true, false}
 use mathlib.Core.List.{List}
 use native.Mathlib.Omega.{arith}
-use native.Mathlib.Decide.{decLt}
 use lib.ListN.{getD}
 use borrow.Author.Tests.{lt-ltb, le-ltb, eq-eqb, ne-eqb}
 use Rattle.ids.specs.declared.Description.{Description}
 use Rattle.ids.specs.declared.DescriptionFound.{DescriptionFound}
 use Rattle.ids.specs.declared.DescriptionFound.the-variants as found
-use Rattle.ids.specs.Ids.{descriptionIf, descriptionOf}
+use Rattle.ids.specs.Ids.{descriptionOf}
+use Rattle.ids.proofs.Laws.{over-named, named}
 use Rattle.fd_list.specs.Lists.{desc}
 use Rattle.counts.specs.Counts.{lessAll, moreAll}
 use Rattle.holds.specs.declared.Holds.{Holds}
@@ -26,23 +26,12 @@ module _ (h : Holds) where
 -- the description that a word names, if it has an outside hold
 module _ (all left : List ℕ) (w : ℕ) where
   module _ (f : DescriptionFound) (q : f ≡ descriptionOf w) where
-    pub over-named : f ≡ found.Outside → 63 < w
-    over-named e = go (decLt w 64)
-      where
-        go : Dec (w < 64) → 63 < w
-        go (yes b) = absurd (let z : descriptionIf true w ≡ found.Outside = ap (λ (x : Bool). descriptionIf x w) (sym (lt-ltb w 64 b)) ∙ (sym q ∙ e) in let y : _≡_ {A = ℕ} 0 1 = cc in omega arith)
-        go (no b) = omega arith
-
     pub held-over : f ≡ found.Outside → found.Outside ≡ heldOf all left w
-    held-over e = rw (lt-ltb 63 w (over-named e)) refl
+    held-over e = rw (lt-ltb 63 w (over-named w f q e)) refl
 
     module _ (d : Description) (e : f ≡ found.At d) where
-      pub held-named : (w < 64) × (d ≡ desc w)
-      held-named = go (decLt w 64)
-        where
-          go : Dec (w < 64) → (w < 64) × (d ≡ desc w)
-          go (yes b) = (b, let z : descriptionIf true w ≡ found.At d = ap (λ (x : Bool). descriptionIf x w) (sym (lt-ltb w 64 b)) ∙ (sym q ∙ e) in cc)
-          go (no b) = absurd (let z : descriptionIf false w ≡ found.At d = ap (λ (x : Bool). descriptionIf x w) (sym (le-ltb w 64 (omega arith))) ∙ (sym q ∙ e) in let y : _≡_ {A = ℕ} 0 1 = cc in omega arith)
+      held-named : (w < 64) × (d ≡ desc w)
+      held-named = named w f q d e
 
       at-word : (a : List ℕ) (n : ℕ) → n ≡ getD a (d .0) 0 → n ≡ getD a w 0
       at-word a n p = p ∙ ap (λ (x : Description). getD a (x .0) 0) (held-named .1)

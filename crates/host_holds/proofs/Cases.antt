@@ -14,7 +14,8 @@ use Rattle.fd_list.specs.Lists.{desc}
 use Rattle.counts.specs.Counts.{less, more}
 use Rattle.holds.specs.declared.Holds.{Holds}
 use Rattle.holds.specs.Holds.{holdsWith, unheld, heldOf}
-use Rattle.holds.proofs.Laws.{held-not, held-is, held-named, over-named}
+use Rattle.ids.proofs.Laws.{over-named, named as named-by}
+use Rattle.holds.proofs.Laws.{held-not, held-is}
 use Rattle.answer.specs.declared.Answer.the-variants.{Done, BadArgument, TooManyHolds}
 use Rattle.host_holds.specs.Host.{oneMore, oneFewer, openedAs, openOf, copiedAs, copyOf, droppedAs, dropOf}
 
@@ -32,11 +33,11 @@ at-word a d w r e q = q ∙ ap (λ (x : Description). getD a (x .0) 0) e
 module _ (h : Holds) (w : ℕ) (f : DescriptionFound) where
   module _ (q : f ≡ descriptionOf w) where
     pub open-over : f ≡ found.Outside → openedAs BadArgument h ≡ openOf h w
-    open-over e = rw (lt-ltb 63 w (over-named (h .holds) (h .outside) w f q e)) refl
+    open-over e = rw (lt-ltb 63 w (over-named w f q e)) refl
 
     module _ (d : Description) (e : f ≡ found.At d) (r : ℕ) (c : r ≡ getD (h .holds) (d .0) 0) where
       named : (w < 64) × (d ≡ desc w)
-      named = held-named (h .holds) (h .outside) w f q d e
+      named = named-by w f q d e
 
       pub open-shut : (r ≡ 0 → ⊥) → openedAs BadArgument h ≡ openOf h w
       open-shut z = rw (le-ltb 63 w (omega (arith, named .0)), ne-eqb (getD (h .holds) w 0) 0 (λ y. z (at-word (h .holds) d w r (named .1) c ∙ y))) refl

@@ -67,7 +67,7 @@ fn obtain(cqe: Cqe) -> ParsedCqe
         return ParsedCqe::ObtainFd {
             tag: Tag(cqe.tag as u64),
             flags: flags,
-            dst_fd_or_ptr: Handle(cqe.result),
+            dst_fd_or_ptr: ids::handle_of(cqe.result),
         };
     }
     ParsedCqe::UnknownObtainFlags
@@ -87,7 +87,7 @@ pub fn parse_cqe(cqe: Cqe) -> ParsedCqe
         },
         CqeOpcode::RespondWithFd => ParsedCqe::ResponseWithFd {
             tag: tag,
-            fd: Handle(cqe.result),
+            fd: ids::handle_of(cqe.result),
         },
         CqeOpcode::SendFevent => event(cqe),
         CqeOpcode::ObtainFd => obtain(cqe),

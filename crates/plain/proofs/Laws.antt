@@ -1,5 +1,5 @@
 -- Slots read from the words one after the other, and stored so; a state made of its parts, and all of them stored. Assumes nothing.
-use Prim.Native.Nat.{ℕ, suc, _+_, _*_, _<_, _≤_}
+use Prim.Native.Nat.{ℕ, suc, min, _+_, _*_, _<_, _≤_}
 use mathlib.Core.Path.{_≡_, refl, sym, ap, ap₂, _∙_}
 use mathlib.Core.Bool.{Bool, cond}
 use mathlib.Core.List.{List, [], _∷_, _++_, append-nil}
@@ -8,6 +8,8 @@ use native.Mathlib.Numerals.{add-one}
 use lib.ListN.{getD, set, take, drop, length, replicate, drop-of-length-le}
 use lib.Seq.{sets, length-sets, drop-cons, take-suc, take-suc-set, take-all}
 use borrow.Author.Tests.{lt-ltb}
+use Rattle.ids.specs.declared.SlotNo.{SlotNo}
+use Rattle.ids.specs.Ids.{slotOf}
 use Rattle.slot.specs.declared.Slot.{Slot}
 use Rattle.slot.specs.Slots.{vacantSlot}
 use Rattle.table.specs.Table.{noSlot}
@@ -17,6 +19,13 @@ use Rattle.layout.specs.Store.{putWords, stored, put}
 use Rattle.layout.proofs.Worlds.{sets-all}
 use Rattle.word_put.proofs.Stores.{two-runs}
 use Rattle.layout.proofs.Packs.{Long, slots-long, packed-long}
+
+-- the slot with a number below 64
+pub slot-no : (i : ℕ) (n : SlotNo) → i < 64 → n ≡ slotOf (record { 0 = i }) → n .0 ≡ i
+slot-no i n b e = ap (λ (x : SlotNo). x .0) e ∙ least
+  where
+    least : min i 64 ≡ i
+    least = omega (arith, b)
 
 module _ (ws : List ℕ) where
   abbrev all : List Slot

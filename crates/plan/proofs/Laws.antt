@@ -40,7 +40,7 @@ use Rattle.plan.specs.Plans.{handleIn, effectsBy, decisionBy, Plans}
 -- one that moves no handle
 abbrev pub quiet : ℕ → Act → Slot → Effect → PageSpan → Fds → Fds → Bool → Plan
 quiet k a v e s gone own f =
-    record { number = k; act = a; slot = v; first = e; span = s; gone = gone; own = own; closing = f; moves = false; handle = record { 0 = 0 }; held = 0 }
+    record { number = k; act = a; slot = v; first = e; span = s; gone = gone; own = own; closing = f; moves = false; handle = record { 0 = 64 }; held = 0 }
 
 pub refused-is : (v : Slot) (k : ℕ) (e : Effect) (l : Fds) → effectWords e ≡ [] → l ≡ listOf [] → (j x : ℕ) → Plans (quiet k Leave v e noSpan l l false) j x (λ h n. refusedOf v h n k)
 refused-is v k e l q r j x h n z = rw (q, r) refl

@@ -51,7 +51,7 @@ fn refused(v: Slot, number: u64) -> Plan
         own: none,
         closing: false,
         moves: false,
-        handle: Handle(0),
+        handle: ids::NO_HANDLE,
         held: 0,
     }
 }
@@ -87,7 +87,7 @@ fn respond(v: Slot, tag: u64, offer: Offer) -> Plan
                     own: own,
                     closing: follows,
                     moves: false,
-                    handle: Handle(0),
+                    handle: ids::NO_HANDLE,
                     held: 0,
                 };
             }
@@ -107,7 +107,7 @@ fn respond(v: Slot, tag: u64, offer: Offer) -> Plan
                 own: none,
                 closing: false,
                 moves: false,
-                handle: Handle(0),
+                handle: ids::NO_HANDLE,
                 held: 0,
             };
         }
@@ -207,7 +207,7 @@ fn obtain(v: Slot, fd: Handle, held: u64) -> Plan
                 own: one,
                 closing: follows,
                 moves: false,
-                handle: Handle(0),
+                handle: ids::NO_HANDLE,
                 held: 0,
             };
         }
@@ -225,13 +225,13 @@ pub fn handle_in(p: ParsedCqe) -> Handle
             flags,
             dst_fd_or_ptr,
         } => dst_fd_or_ptr,
-        ParsedCqe::TriggerFevent { number, flags } => Handle(64),
-        ParsedCqe::RegularResponse { tag, res, extra0 } => Handle(64),
-        ParsedCqe::ResponseWithMultipleFds { tag, num_fds } => Handle(64),
-        ParsedCqe::RespondAndNotifyOnDetach { tag, res, extra0 } => Handle(64),
-        ParsedCqe::UnknownKind => Handle(64),
-        ParsedCqe::UnknownEventFlags => Handle(64),
-        ParsedCqe::UnknownObtainFlags => Handle(64),
+        ParsedCqe::TriggerFevent { number, flags } => ids::NO_HANDLE,
+        ParsedCqe::RegularResponse { tag, res, extra0 } => ids::NO_HANDLE,
+        ParsedCqe::ResponseWithMultipleFds { tag, num_fds } => ids::NO_HANDLE,
+        ParsedCqe::RespondAndNotifyOnDetach { tag, res, extra0 } => ids::NO_HANDLE,
+        ParsedCqe::UnknownKind => ids::NO_HANDLE,
+        ParsedCqe::UnknownEventFlags => ids::NO_HANDLE,
+        ParsedCqe::UnknownObtainFlags => ids::NO_HANDLE,
     }
 }
 
@@ -256,7 +256,7 @@ pub fn handle_parsed(p: ParsedCqe, v: Slot, held: u64) -> Plan
                 own: none,
                 closing: false,
                 moves: false,
-                handle: Handle(0),
+                handle: ids::NO_HANDLE,
                 held: 0,
             };
         }

@@ -1,10 +1,13 @@
 -- The parts by the tests that the code makes. Assumes nothing.
-use Prim.Native.Nat.{ℕ, _<_, _≤_}
+use Prim.Native.Nat.{ℕ, _<_}
 use mathlib.Core.Path.{_≡_, refl, sym, ap, _∙_}
 use mathlib.Core.Bool.{Bool, true, false, cond}
 use mathlib.Core.List.{[], _∷_}
+use native.Mathlib.Omega.{arith}
 use lib.Dec.{eqb}
 use borrow.Author.Tests.{lt-ltb, le-ltb}
+use Rattle.ids.specs.declared.Description.{Description}
+use Rattle.ids.specs.Ids.{descriptionIn}
 use Rattle.answer.specs.Numbered.{numberOf}
 use Rattle.error.specs.declared.Error.{Error}
 use Rattle.error.specs.declared.Result.{Result}
@@ -36,8 +39,9 @@ stored-err c r f k n x b e ek en = rw (en, ek, e) refl
 pub named-none : (d : ℕ) (l : Fds) → 63 < d → l ≡ listOf [] → l ≡ namedOf d
 named-none d l q e = e ∙ sym (ap (λ (b : Bool). cond b (listOf []) (listOf (d ∷ []))) (lt-ltb 63 d q))
 
-pub named-one : (d : ℕ) (l : Fds) → d ≤ 63 → l ≡ listOf (d ∷ []) → l ≡ namedOf d
-named-one d l q e = e ∙ sym (ap (λ (b : Bool). cond b (listOf []) (listOf (d ∷ []))) (le-ltb 63 d q))
+pub named-one : (w : ℕ) (d : Description) (l : Fds) → (w < 64) × (d ≡ descriptionIn w) → l ≡ listOf (d .0 ∷ []) → l ≡ namedOf w
+named-one w d l q e =
+    e ∙ ap (λ (x : Description). listOf (x .0 ∷ [])) (q .1) ∙ sym (ap (λ (b : Bool). cond b (listOf []) (listOf (w ∷ []))) (le-ltb 63 w (omega (arith, q .0))))
 
 -- the parts by the offer
 pub parts-regular :

@@ -2,7 +2,7 @@
 // 1008), the list that is kept and the one that goes.
 use error::Result;
 use fd_list::List;
-use ids::Description;
+use ids::DescriptionFound;
 use slot::Reply;
 use slot::Slot;
 ghost use mathlib.Core.Path.{_≡_};
@@ -67,11 +67,11 @@ fn stored(canceling: bool, res: Result, extra0: u8, notice: bool) -> Reply
 pub fn one_or_none(word: u64) -> List
     ensures { λ r. ⌜ r ≡ namedOf word ⌝ }
 {
-    if 63 < word {
-        return fd_list::empty();
+    let found = ids::description_of(word);
+    match found {
+        DescriptionFound::At(d) => fd_list::single(d),
+        DescriptionFound::Outside => fd_list::empty(),
     }
-    let d = Description(word as u8);
-    fd_list::single(d)
 }
 
 pub fn taken_apart(v: Slot, offer: Offer) -> Parts

@@ -1,7 +1,6 @@
 // A list of holds taken from the host's: one for each entry, all or nothing.
 use fd_list::List;
 use holds::Holds;
-use ids::Description;
 use ids::DescriptionFound;
 ghost use mathlib.Core.Path.{_≡_};
 ghost use mathlib.Core.List.{[]};
@@ -38,7 +37,7 @@ pub fn take_list(h: Holds, words: &[u64]) -> Taken
 {
     let all = h.holds;
     let mut left = h.outside;
-    let zero = Description(0);
+    let zero = ids::BLANK;
     let mut list = List {
         at: [zero; 16],
         len: 0,
@@ -83,7 +82,7 @@ pub fn look(all: &[u64], outside: [u64; 64], words: &[u64]) -> Looked
     ensures { λ r. ⌜ (r .answer ≡ takeOf (holdsWith (now (all .entry)) outside) (now (words .entry)) .answer) × (r .list ≡ takeOf (holdsWith (now (all .entry)) outside) (now (words .entry)) .list) ⌝ }
 {
     let mut left = outside;
-    let zero = Description(0);
+    let zero = ids::BLANK;
     let mut list = List {
         at: [zero; 16],
         len: 0,

@@ -26,7 +26,8 @@ use Rattle.host_put.proofs.Cases.{put-bad, put-full, put-in}
 use Rattle.ids.specs.declared.Description.{Description}
 use Rattle.ids.specs.declared.DescriptionFound.{DescriptionFound}
 use Rattle.ids.specs.declared.DescriptionFound.the-variants as found
-use Rattle.ids.specs.Ids.{descriptionOf}
+use Rattle.ids.specs.declared.Handle.{Handle}
+use Rattle.ids.specs.Ids.{descriptionOf, handleOf}
 use Rattle.events.specs.World.{holdsOf, handlesOf}
 use Rattle.events.specs.Outcome.{Answer, ok, no, said}
 use Rattle.events.specs.Event.{hostOpen, hostCopy, hostDrop, on, hostPut}
@@ -152,13 +153,16 @@ module _ (ws : List ℕ) (size : length ws ≡ 2060) (t : ℕ) (f : DescriptionF
         pub puts-over : 63 < k → (a : Answer) (fx : List ℕ) → a ≡ no 205 → fx ≡ [] → Does ws ws (on (hostPut t k)) a fx
         puts-over b = unfree (free-over ks k b)
 
-        module _ (b : k ≤ 63) (r : ℕ) (c : r ≡ heldAt ks k) where
+        module _ (b : k ≤ 63) (h : Handle) (eh : h ≡ handleOf k) (r : ℕ) (c : r ≡ heldAt ks (h .0)) where
+          found-there : r ≡ heldAt ks k
+          found-there = c ∙ ap (λ (x : Handle). heldAt ks (x .0)) eh
+
           pub puts-full : (r ≡ 0 → ⊥) → (a : Answer) (fx : List ℕ) → a ≡ no 205 → fx ≡ [] → Does ws ws (on (hostPut t k)) a fx
-          puts-full z = unfree (sym (ne-eqb r 0 z) ∙ free-in ks k r b c)
+          puts-full z = unfree (sym (ne-eqb r 0 z) ∙ free-in ks k r b found-there)
 
           pub puts :
               r ≡ 0 → (xs ys : List ℕ) (a : Answer) (fx : List ℕ) → xs ≡ stored ws (outside (less (hs .outside) (d .0)))
-              → ys ≡ stored xs (handles (into (handlesOf (plainOf xs)) k (d .0) .at)) → a ≡ ok 0 → fx ≡ [] → Does ws ys (on (hostPut t k)) a fx
+              → ys ≡ stored xs (handles (into (handlesOf (plainOf xs)) (h .0) (d .0) .at)) → a ≡ ok 0 → fx ≡ [] → Does ws ys (on (hostPut t k)) a fx
           puts z xs ys a fx ex ey ea ef =
-              placed k (putAs Done (into ks k (d .0)) (inside hs (d .0))) (put-in hs t f q d e ks k true (sym (eq-eqb r 0 z) ∙ free-in ks k r b c) refl (into ks k (d .0)) (inside hs (d .0)) refl refl) a fx ys ea ef
-              (moved-in ws (d .0) size k xs ys ex ey)
+              placed k (putAs Done (into ks k (d .0)) (inside hs (d .0))) (put-in hs t f q d e ks k true (sym (eq-eqb r 0 z) ∙ free-in ks k r b found-there) refl (into ks k (d .0)) (inside hs (d .0)) refl refl) a fx ys ea ef
+              (moved-in ws (d .0) size k xs ys ex (ey ∙ ap (λ (x : Handle). stored xs (handles (into (handlesOf (plainOf xs)) (x .0) (d .0) .at))) eh))

@@ -1,7 +1,6 @@
 // The host's five events (01, "Slots and holds"): open, copy, drop, put, ended. A refusal stores nothing.
 use answer::Answer;
 use ids::DescriptionFound;
-use ids::Handle;
 use ids::Tag;
 use slot::Phase;
 use slot::Slot;
@@ -81,11 +80,12 @@ pub fn put(s: &mut [u64; 2060], description: u64, handle: u64) -> Step
             if 63 < handle {
                 return step::answered(Answer::BadArgument);
             }
-            if words::held_at(s, Handle(handle)) != 0 {
+            let k = ids::handle_of(handle);
+            if words::held_at(s, k) != 0 {
                 return step::answered(Answer::BadArgument);
             }
             words::lower_outside(s, d);
-            words::put_into(s, Handle(handle), d);
+            words::put_into(s, k, d);
             return step::answered(Answer::Done);
         }
     }

@@ -6,6 +6,8 @@ use mathlib.Core.List.{[], _∷_}
 use native.Mathlib.Omega.{arith}
 use lib.Dec.{eqb}
 use lib.ListN.{length}
+use Rattle.ids.specs.declared.Description.{Description}
+use Rattle.ids.specs.Ids.{descriptionIn}
 use Rattle.counts.proofs.Steps.{more-out}
 use Rattle.fd_list.specs.declared.List.{List as Fds}
 use Rattle.fd_list.specs.Lists.{numbers, listOf}
@@ -55,9 +57,9 @@ module _ (h : Holds) (r : Reply) (l : Fds) where
   holds-nothing p q b = one-held (r .kind) h p q (ap (holdsWith (h .holds)) (more-out (h .outside) (r .word) (r .word) refl b))
 
   pub holds-one :
-      (o : Holds) (m : Fds) → 2 ≤ r .kind → r .kind ≤ 2 → m ≡ listOf (r .word ∷ []) → o ≡ outsideOf h (numbers m)
+      (o : Holds) (m : Fds) → 2 ≤ r .kind → r .kind ≤ 2 → (d : Description) → d ≡ descriptionIn (r .word) → m ≡ listOf (d .0 ∷ []) → o ≡ outsideOf h (numbers m)
       → o ≡ outsideOf h (heldIn (responseFrom r l))
-  holds-one o m p q e f = one-held (r .kind) o p q (f ∙ ap (λ (x : Fds). outsideOf h (numbers x)) e)
+  holds-one o m p q d n e f = one-held (r .kind) o p q (f ∙ ap (λ (x : Fds). outsideOf h (numbers x)) (e ∙ ap (λ (x : Description). listOf (x .0 ∷ [])) n))
 
 -- the decision by its tests
 pub decided-as :

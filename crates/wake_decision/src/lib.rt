@@ -1,7 +1,7 @@
 // What a wake answers and does, decided on the tag's slot (`call_inner`, src/scheme/user.rs, lines 256 to 392).
 use answer::Answer;
 use fd_list::List;
-use ids::Description;
+use ids::DescriptionFound;
 use ids::SlotNo;
 use schemev2::Args;
 use schemev2::Sqe;
@@ -55,12 +55,11 @@ pub fn holds_in(r: Reply, fds: List) -> List
     if 2 < kind {
         return fds;
     }
-    let word = r.word;
-    if 63 < word {
-        return fd_list::empty();
+    let found = ids::description_of(r.word);
+    match found {
+        DescriptionFound::At(d) => fd_list::single(d),
+        DescriptionFound::Outside => fd_list::empty(),
     }
-    let d = Description(word as u8);
-    fd_list::single(d)
 }
 
 // The decision on the tag's slot, with so many entries unread.

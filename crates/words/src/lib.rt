@@ -102,27 +102,9 @@ pub fn queue_full(s: &[u64; 2060]) -> bool
 fn list_of(low: u64, high: u64, n: u64) -> List
     ensures { λ r. ⌜ r ≡ fdsFrom low high n ⌝ }
 {
-    let b = low / 0x1_0000_0000;
-    let d = high / 0x1_0000_0000;
+    let at = ids::descriptions_in(low, high);
     List {
-        at: [
-            Description((low % 256) as u8),
-            Description((low / 0x100 % 256) as u8),
-            Description((low / 0x1_0000 % 256) as u8),
-            Description((low / 0x100_0000 % 256) as u8),
-            Description((b % 256) as u8),
-            Description((b / 0x100 % 256) as u8),
-            Description((b / 0x1_0000 % 256) as u8),
-            Description((b / 0x100_0000 % 256) as u8),
-            Description((high % 256) as u8),
-            Description((high / 0x100 % 256) as u8),
-            Description((high / 0x1_0000 % 256) as u8),
-            Description((high / 0x100_0000 % 256) as u8),
-            Description((d % 256) as u8),
-            Description((d / 0x100 % 256) as u8),
-            Description((d / 0x1_0000 % 256) as u8),
-            Description((d / 0x100_0000 % 256) as u8),
-        ],
+        at: at,
         len: (n % 256) as u8,
     }
 }

@@ -1,4 +1,7 @@
 -- `parse_cqe::obtain` meets its contract. Assumes nothing.
+use mathlib.Core.Path.{ap, _∙_}
+use Rattle.parse_cqe.specs.Parsed.{tagOf}
+use Rattle.parse_cqe.specs.declared.ParsedCqe.the-variants as parsed
 use Rattle.parse_cqe.proofs.Cases.{obtained, outside}
 use borrow.Author.Needs.{needs}
 use Rattle.parse_cqe.proofs.obtain.Statement.{statement}
@@ -16,9 +19,14 @@ fobtain-fd-flags-known-requires c κs = search needs
 cast-t5 : tie.Need-cast-t5
 cast-t5 c = search needs
 
+handle-of-requires : tie.Need-handle-of-requires
+handle-of-requires c κs = search needs
+
 returns : tie.Need-returns
 returns c =
-    obtained (c .before .before .before .before .args .cqe) _ _ (c .before .before .before .extra .ensures) (c .before .before .fobtain-fd-flags-known .ensures) (c .before .if1 .taken)
+    let e = c .before .before .before .before .before .args .cqe in
+    ap (parsed.ObtainFd (tagOf e) (c .before .before .before .before .extra .result)) (c .handle-of .ensures)
+    ∙ obtained e _ _ (c .before .before .before .before .extra .ensures) (c .before .before .before .fobtain-fd-flags-known .ensures) (c .before .before .if1 .taken)
 
 returns-2 : tie.Need-returns-2
 returns-2 c =
@@ -32,5 +40,6 @@ obtain-spec =
     cast-fobtain-fd-flags-known
     fobtain-fd-flags-known-requires
     cast-t5
+    handle-of-requires
     returns
     returns-2)

@@ -26,6 +26,9 @@ demux-requires c κs = search needs
 enum-told-2 : tie.Need-enum-told-2
 enum-told-2 c = search needs
 
+handle-of-requires : tie.Need-handle-of-requires
+handle-of-requires c κs = search needs
+
 enum-told-3 : tie.Need-enum-told-3
 enum-told-3 c = search needs
 
@@ -57,7 +60,8 @@ returns c =
 
 returns-2 : tie.Need-returns-2
 returns-2 c =
-    parsed-is (c .before .before .before .before .before .before .args .cqe) _ _ _ (c .before .before .before .before .before .kind .ensures) (c .before .before .before .before .try-from-raw .ensures) (c .enum-told2 .given .1)
+    ap (parsed.ResponseWithFd (tagOf (c .before .before .before .before .before .before .before .args .cqe))) (c .handle-of .ensures)
+    ∙ parsed-is (c .before .before .before .before .before .before .before .args .cqe) _ _ _ (c .before .before .before .before .before .before .kind .ensures) (c .before .before .before .before .before .try-from-raw .ensures) (c .before .enum-told2 .given .1)
 
 returns-3 : tie.Need-returns-3
 returns-3 c =
@@ -90,6 +94,7 @@ parse-cqe-spec =
     enum-told
     demux-requires
     enum-told-2
+    handle-of-requires
     enum-told-3
     event-requires
     enum-told-4

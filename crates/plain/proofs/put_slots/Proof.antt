@@ -1,13 +1,15 @@
 -- `plain::put_slots` meets its contract. What is left to store from here gives the whole. Assumes nothing.
 use borrow.Author.Needs.{needs}
 use Rattle.fd_list.proofs.Laws.{length-mapped}
-use Prim.Native.Nat.{_*_, _-_, _≤_}
-use mathlib.Core.Path.{_≡_, refl, sym, _∙_}
+use Prim.Native.Nat.{ℕ, _*_, _-_, _≤_}
+use mathlib.Core.Path.{_≡_, refl, sym, ap, _∙_}
 use native.Mathlib.Omega.{arith}
-use lib.ListN.{length, drop}
+use lib.ListN.{length, drop, getD}
 use lib.Seq.{sets}
+use Rattle.table.specs.Table.{noSlot}
 use Rattle.layout.specs.Layout.{slotsWords}
-use Rattle.plain.proofs.Laws.{put-more, put-end}
+use Rattle.layout.specs.Store.{stored, put}
+use Rattle.plain.proofs.Laws.{slot-no, put-more, put-end}
 use Rattle.plain.proofs.put_slots.Statement.{statement}
 use Rattle.plain.proofs.put_slots.Tie as tie
 use Rattle.words.proofs.put.Reads as put-reads
@@ -27,8 +29,8 @@ mul-v c = search needs
 array-copy-out-v : tie.Need-array-copy-out-v Inv-loop μ-loop
 array-copy-out-v c = search needs
 
-cast-t13 : tie.Need-cast-t13 Inv-loop μ-loop
-cast-t13 c = search needs
+slot-of-requires : tie.Need-slot-of-requires Inv-loop μ-loop
+slot-of-requires c κs = search needs
 
 put-requires : tie.Need-put-requires Inv-loop μ-loop
 put-requires c κs = search needs
@@ -41,10 +43,11 @@ loop-less c = search needs
 
 loop-again : tie.Need-loop-again Inv-loop μ-loop
 loop-again c =
-    let a = c .before .before .before .before .before .args in
-    let l = c .before .before .before .before .loop in
+    let a = c .before .before .before .before .before .before .args in
+    let l = c .before .before .before .before .before .loop in
+    let b = c .before .before .before .before .loop-test .taken in
     let long : length (a .t2) ≡ 64 = search (needs, length-mapped) in
-    (omega (arith, c .before .before .before .loop-test .taken), put-more (a .t2) long (l .s) _ (l .i) (c .before .before .before .loop-test .taken) (c .put .ensures) ∙ l .inv .1)
+    (omega (arith, b), put-more (a .t2) long (l .s) _ (l .i) b (c .put .ensures ∙ ap (λ (n : ℕ). stored (l .s) (put n (getD (a .t2) (l .i) noSlot))) (slot-no (l .i) _ b (c .before .slot-of .ensures))) ∙ l .inv .1)
 
 returns : tie.Need-returns Inv-loop μ-loop
 returns c =
@@ -61,7 +64,7 @@ put-slots-spec =
     loop-holds
     mul-v
     array-copy-out-v
-    cast-t13
+    slot-of-requires
     put-requires
     add-i
     loop-less

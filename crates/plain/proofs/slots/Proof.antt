@@ -1,12 +1,12 @@
 -- `plain::slots` meets its contract. Assumes nothing.
 use borrow.Author.Needs.{needs}
 use Prim.Native.Nat.{_-_, _≤_}
-use mathlib.Core.Path.{_≡_, refl}
+use mathlib.Core.Path.{_≡_, refl, ap, _∙_}
 use native.Mathlib.Omega.{arith}
 use lib.ListN.{length, take, length-set}
-use Rattle.events.specs.World.{tableOf}
+use Rattle.events.specs.World.{tableOf, slotIn}
 use Rattle.layout.specs.Layout.{plainOf}
-use Rattle.plain.proofs.Laws.{read-more, read-end}
+use Rattle.plain.proofs.Laws.{slot-no, read-more, read-end}
 use Rattle.plain.proofs.slots.Statement.{statement}
 use Rattle.plain.proofs.slots.Tie as tie
 use Rattle.slot.proofs.vacant.Reads as vacant-reads
@@ -24,8 +24,8 @@ vacant-requires c κs = search needs
 loop-holds : tie.Need-loop-holds Inv-loop μ-loop
 loop-holds c = (omega arith, search needs, refl)
 
-cast-t7 : tie.Need-cast-t7 Inv-loop μ-loop
-cast-t7 c = search needs
+slot-of-requires : tie.Need-slot-of-requires Inv-loop μ-loop
+slot-of-requires c κs = search needs
 
 load-requires : tie.Need-load-requires Inv-loop μ-loop
 load-requires c κs = search needs
@@ -44,8 +44,10 @@ loop-less c = search needs
 
 loop-again : tie.Need-loop-again Inv-loop μ-loop
 loop-again c =
-    let l = c .before .before .loop in
-    (omega (arith, c .before .loop-test .taken), simp length-set (l .inv .1), read-more (c .before .before .before .before .args .s .now) (l .a) (l .i) _ (c .before .loop-test .taken) (l .inv .1) (l .inv .2) (c .load .ensures))
+    let l = c .before .before .before .loop in
+    let b = c .before .before .loop-test .taken in
+    let w = c .before .before .before .before .before .args .s .now in
+    (omega (arith, b), simp length-set (l .inv .1), read-more w (l .a) (l .i) _ b (l .inv .1) (l .inv .2) (c .load .ensures ∙ ap (slotIn (plainOf w)) (slot-no (l .i) _ b (c .before .slot-of .ensures))))
 
 returns : tie.Need-returns Inv-loop μ-loop
 returns c = let l = c .before .loop in read-end (c .before .before .before .args .s .now) (l .a) (l .i) (c .loop-test .left) (l .inv .1) (l .inv .2)
@@ -58,7 +60,7 @@ slots-spec =
     μ-loop
     vacant-requires
     loop-holds
-    cast-t7
+    slot-of-requires
     load-requires
     mul-a
     array-set-from-a

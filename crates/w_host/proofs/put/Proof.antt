@@ -5,6 +5,7 @@ use mathlib.Core.Path.{ap}
 use Rattle.w_host.proofs.Cases.{puts-none, puts-over, puts-full, puts}
 use Rattle.w_host.proofs.put.Statement.{statement}
 use Rattle.w_host.proofs.put.Tie as tie
+use Rattle.ids.proofs.handle_of.Reads as handle-of-reads
 use Rattle.step.proofs.answered.Reads as answered-reads
 use Rattle.words.proofs.held.Reads as held-reads
 use Rattle.words.proofs.held_at.Reads as held-at-reads
@@ -33,6 +34,9 @@ answered-requires-2 c κs = search needs
 returns : tie.Need-returns
 returns c = let a = c .before .before .before .before .before .before .before .before .before .args in puts-over (a .s .now) (c .before .before .before .before .before .before .before .sized .ensures) (a .description) _ (c .before .before .before .before .before .held .ensures) _ (c .before .before .before .found .given .1) (a .handle) (c .before .if1 .taken) _ _ (ap said (c .answered2 .ensures .0)) (c .answered2 .ensures .1)
 
+handle-of-requires : tie.Need-handle-of-requires
+handle-of-requires c κs = search needs
+
 held-at-requires : tie.Need-held-at-requires
 held-at-requires c κs = search needs
 
@@ -40,7 +44,7 @@ answered-requires-3 : tie.Need-answered-requires-3
 answered-requires-3 c κs = search needs
 
 returns-2 : tie.Need-returns-2
-returns-2 c = let a = c .before .before .before .before .before .before .before .before .before .before .before .before .args in puts-full (a .s .now) (c .before .before .before .before .before .before .before .before .before .before .sized .ensures) (a .description) _ (c .before .before .before .before .before .before .before .before .held .ensures) _ (c .before .before .before .before .before .before .found .given .1) (a .handle) (c .before .before .before .before .if1 .left) _ (c .before .before .held-at .ensures) (c .before .if2 .taken) _ _ (ap said (c .answered3 .ensures .0)) (c .answered3 .ensures .1)
+returns-2 c = let a = c .before .before .before .before .before .before .before .before .before .before .before .before .before .args in puts-full (a .s .now) (c .before .before .before .before .before .before .before .before .before .before .before .sized .ensures) (a .description) _ (c .before .before .before .before .before .before .before .before .before .held .ensures) _ (c .before .before .before .before .before .before .before .found .given .1) (a .handle) (c .before .before .before .before .before .if1 .left) _ (c .before .before .before .before .handle-of .ensures) _ (c .before .before .held-at .ensures) (c .before .if2 .taken) _ _ (ap said (c .answered3 .ensures .0)) (c .answered3 .ensures .1)
 
 lower-outside-requires : tie.Need-lower-outside-requires
 lower-outside-requires c κs = search needs
@@ -52,7 +56,7 @@ answered-requires-4 : tie.Need-answered-requires-4
 answered-requires-4 c κs = search needs
 
 returns-3 : tie.Need-returns-3
-returns-3 c = let a = c .before .before .before .before .before .before .before .before .before .before .before .before .before .before .before .before .args in puts (a .s .now) (c .before .before .before .before .before .before .before .before .before .before .before .before .before .before .sized .ensures) (a .description) _ (c .before .before .before .before .before .before .before .before .before .before .before .before .held .ensures) _ (c .before .before .before .before .before .before .before .before .before .before .found .given .1) (a .handle) (c .before .before .before .before .before .before .before .before .if1 .left) _ (c .before .before .before .before .before .before .held-at .ensures) (c .before .before .before .before .before .if2 .left) _ _ _ _ (c .before .before .before .lower-outside .ensures) (c .before .put-into .ensures) (ap said (c .answered4 .ensures .0)) (c .answered4 .ensures .1)
+returns-3 c = let a = c .before .before .before .before .before .before .before .before .before .before .before .before .before .before .before .before .before .args in puts (a .s .now) (c .before .before .before .before .before .before .before .before .before .before .before .before .before .before .before .sized .ensures) (a .description) _ (c .before .before .before .before .before .before .before .before .before .before .before .before .before .held .ensures) _ (c .before .before .before .before .before .before .before .before .before .before .before .found .given .1) (a .handle) (c .before .before .before .before .before .before .before .before .before .if1 .left) _ (c .before .before .before .before .before .before .before .before .handle-of .ensures) _ (c .before .before .before .before .before .before .held-at .ensures) (c .before .before .before .before .before .if2 .left) _ _ _ _ (c .before .before .before .lower-outside .ensures) (c .before .put-into .ensures) (ap said (c .answered4 .ensures .0)) (c .answered4 .ensures .1)
 
 returns-4 : tie.Need-returns-4
 returns-4 c = let a = c .before .before .before .before .before .before .before .args in puts-none (a .s .now) (c .before .before .before .before .before .sized .ensures) (a .description) _ (c .before .before .before .held .ensures) (c .before .enum-told .given .1) _ _ (ap said (c .answered .ensures .0)) (c .answered .ensures .1) (a .handle)
@@ -68,6 +72,7 @@ put-spec =
     enum-known-found
     answered-requires-2
     returns
+    handle-of-requires
     held-at-requires
     answered-requires-3
     returns-2
