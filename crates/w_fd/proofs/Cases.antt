@@ -3,7 +3,10 @@ use Prim.Native.Nat.{ℕ, min}
 use mathlib.Core.Path.{_≡_, refl, sym, ap, ap₂, _∙_}
 use mathlib.Core.Bool.{Bool, true, false, not, cond, _||_}
 use mathlib.Core.List.{List, [], _∷_, _++_}
+use mathlib.Core.Logic.{inl, inr}
 use native.Mathlib.Omega.{arith}
+use types.Run.{OneOf}
+use denote.Enum.Declared.{tagOf}
 use lib.Dec.{ltb, eqb}
 use lib.ListN.{getD, length}
 use borrow.Author.Tests.{ltb-true, ltb-false}
@@ -17,6 +20,7 @@ use Rattle.slot.specs.declared.Phase.{Phase}
 use Rattle.slot.specs.declared.Phase.the-variants.{Vacant, Placeholder, Waiting, Responded, Fmap}
 use Rattle.slot.specs.declared.Slot.{Slot}
 use Rattle.slot.specs.Slots.{phaseOf, noFds, vacantSlot, withFdsOf}
+use Rattle.slot.proofs.Phase.{the-type}
 use Rattle.table.specs.Table.{noSlot}
 use Rattle.take_holds.specs.declared.TakeAnswer.the-variants as take
 use Rattle.take_holds.specs.Take.{takenAs}
@@ -47,6 +51,18 @@ module _ (verb : ℕ) (ms : List ℕ) where
 
   pub named : eqb (length ms) 2 ≡ true → eqb (verbOf ms) verb ≡ true → min (requestOf ms) 64 ≡ requestSlot verb ms
   named q r = rw (q, r) refl
+
+-- the arm of neither a vacant nor a waiting slot
+pub other-phase : (p : Phase) → OneOf (1 ∷ 3 ∷ 4 ∷ []) (tagOf the-type p) → (isVacant p ≡ false) × (isWaiting p ≡ false)
+other-phase Vacant (inl e) = absurd (omega arith)
+other-phase Vacant (inr (inl e)) = absurd (omega arith)
+other-phase Vacant (inr (inr e)) = absurd (omega arith)
+other-phase Waiting (inl e) = absurd (omega arith)
+other-phase Waiting (inr (inl e)) = absurd (omega arith)
+other-phase Waiting (inr (inr e)) = absurd (omega arith)
+other-phase Placeholder h = (refl, refl)
+other-phase Responded h = (refl, refl)
+other-phase Fmap h = (refl, refl)
 
 -- only a waiting slot passes
 record Found (w : World) (verb : ℕ) (ms : List ℕ) (k : ℕ) (v : Slot) : Type 0 where

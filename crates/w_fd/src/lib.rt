@@ -44,24 +44,16 @@ fn moved(s: &mut [u64; 2060], metadata: &[u64], list: List, count: usize) -> Ste
             words::discard(s, list);
             return step::answered(Answer::Invalid);
         }
-        Phase::Placeholder => {
-            words::discard(s, list);
-            return step::answered(Answer::NotFound);
-        }
-        Phase::Responded => {
-            words::discard(s, list);
-            return step::answered(Answer::NotFound);
-        }
-        Phase::Fmap => {
-            words::discard(s, list);
-            return step::answered(Answer::NotFound);
-        }
         Phase::Waiting => {
             let old = v.fds;
             let w = slot::with_fds(v, list);
             words::discard(s, old);
             words::put(s, n, w);
             return step::answered(Answer::Descriptions(count as u64));
+        }
+        _ => {
+            words::discard(s, list);
+            return step::answered(Answer::NotFound);
         }
     }
 }
@@ -92,9 +84,6 @@ pub fn call_fdread(s: &mut [u64; 2060], metadata: &[u64]) -> Step
     let p = slot::phase_of(v);
     match p {
         Phase::Vacant => step::answered(Answer::Invalid),
-        Phase::Placeholder => step::answered(Answer::NotFound),
-        Phase::Responded => step::answered(Answer::NotFound),
-        Phase::Fmap => step::answered(Answer::NotFound),
         Phase::Waiting => {
             let old = v.fds;
             let count = fd_list::size(old);
@@ -104,5 +93,6 @@ pub fn call_fdread(s: &mut [u64; 2060], metadata: &[u64]) -> Step
             words::put(s, n, w);
             return step::answered(Answer::Descriptions(count as u64));
         }
+        _ => step::answered(Answer::NotFound),
     }
 }

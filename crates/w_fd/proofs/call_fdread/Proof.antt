@@ -3,7 +3,7 @@ use borrow.Author.Needs.{needs}
 use Rattle.events.specs.Outcome.{said}
 use Rattle.events.specs.Entry.{isVacant, isWaiting}
 use mathlib.Core.Path.{sym, ap, _∙_}
-use Rattle.w_fd.proofs.Cases.{obtain-vacant, obtain-other, obtained}
+use Rattle.w_fd.proofs.Cases.{other-phase, obtain-vacant, obtain-other, obtained}
 use Rattle.w_fd.proofs.call_fdread.Statement.{statement}
 use Rattle.w_fd.proofs.call_fdread.Tie as tie
 use Rattle.fd_list.proofs.empty.Reads as empty-reads
@@ -34,24 +34,6 @@ answered-requires c κs = search needs
 enum-told-2 : tie.Need-enum-told-2
 enum-told-2 c = search needs
 
-answered-requires-2 : tie.Need-answered-requires-2
-answered-requires-2 c κs = search needs
-
-enum-told-3 : tie.Need-enum-told-3
-enum-told-3 c = search needs
-
-answered-requires-3 : tie.Need-answered-requires-3
-answered-requires-3 c κs = search needs
-
-enum-told-4 : tie.Need-enum-told-4
-enum-told-4 c = search needs
-
-answered-requires-4 : tie.Need-answered-requires-4
-answered-requires-4 c κs = search needs
-
-enum-told-5 : tie.Need-enum-told-5
-enum-told-5 c = search needs
-
 size-requires : tie.Need-size-requires
 size-requires c κs = search needs
 
@@ -67,23 +49,20 @@ to-outside-requires c κs = search needs
 put-requires : tie.Need-put-requires
 put-requires c κs = search needs
 
-answered-requires-5 : tie.Need-answered-requires-5
-answered-requires-5 c κs = search needs
+answered-requires-2 : tie.Need-answered-requires-2
+answered-requires-2 c κs = search needs
 
 returns : tie.Need-returns
-returns c = let a = c .before .before .before .before .before .before .before .before .before .before .before .before .before .before .before .before .args in obtained (a .s .now) (a .metadata .now) _ _ (c .before .before .before .before .before .before .before .before .before .before .before .before .before .before .request-slot .ensures) (c .before .before .before .before .before .before .before .before .before .before .before .before .load .ensures) (sym (c .before .before .before .before .before .before .before .before .before .before .before .phase-of .ensures) ∙ c .before .before .before .before .before .before .before .before .before .enum-told5 .given .1) _ _ _ _ _ _ _ (c .before .before .before .before .before .before .before .size .ensures .0) (c .before .before .before .before .before .before .empty .ensures) (c .before .before .before .before .before .with-fds .ensures) (c .before .before .before .to-outside .ensures) (c .before .put .ensures) (ap said (c .answered5 .ensures .0)) (c .answered5 .ensures .1)
+returns c = let a = c .before .before .before .before .before .before .before .before .before .before .before .before .before .before .before .before .args in obtained (a .s .now) (a .metadata .now) _ _ (c .before .before .before .before .before .before .before .before .before .before .before .before .before .before .request-slot .ensures) (c .before .before .before .before .before .before .before .before .before .before .before .before .load .ensures) (sym (c .before .before .before .before .before .before .before .before .before .before .before .phase-of .ensures) ∙ c .before .before .before .before .before .before .before .before .before .enum-told2 .given .1) _ _ _ _ _ _ _ (c .before .before .before .before .before .before .before .size .ensures .0) (c .before .before .before .before .before .before .empty .ensures) (c .before .before .before .before .before .with-fds .ensures) (c .before .before .before .to-outside .ensures) (c .before .put .ensures) (ap said (c .answered2 .ensures .0)) (c .answered2 .ensures .1)
+
+answered-requires-3 : tie.Need-answered-requires-3
+answered-requires-3 c κs = search needs
 
 returns-2 : tie.Need-returns-2
 returns-2 c = let a = c .before .before .before .before .before .before .before .before .args in obtain-vacant (a .s .now) (a .metadata .now) _ _ (c .before .before .before .before .before .before .request-slot .ensures) (c .before .before .before .before .load .ensures) (sym (c .before .before .before .phase-of .ensures) ∙ c .before .enum-told .given .1) _ _ (ap said (c .answered .ensures .0)) (c .answered .ensures .1)
 
 returns-3 : tie.Need-returns-3
-returns-3 c = let a = c .before .before .before .before .before .before .before .before .args in obtain-other (a .s .now) (a .metadata .now) _ _ (c .before .before .before .before .before .before .request-slot .ensures) (c .before .before .before .before .load .ensures) (ap isVacant (sym (c .before .before .before .phase-of .ensures) ∙ c .before .enum-told2 .given .1)) (ap isWaiting (sym (c .before .before .before .phase-of .ensures) ∙ c .before .enum-told2 .given .1)) _ _ (ap said (c .answered2 .ensures .0)) (c .answered2 .ensures .1)
-
-returns-4 : tie.Need-returns-4
-returns-4 c = let a = c .before .before .before .before .before .before .before .before .args in obtain-other (a .s .now) (a .metadata .now) _ _ (c .before .before .before .before .before .before .request-slot .ensures) (c .before .before .before .before .load .ensures) (ap isVacant (sym (c .before .before .before .phase-of .ensures) ∙ c .before .enum-told3 .given .1)) (ap isWaiting (sym (c .before .before .before .phase-of .ensures) ∙ c .before .enum-told3 .given .1)) _ _ (ap said (c .answered3 .ensures .0)) (c .answered3 .ensures .1)
-
-returns-5 : tie.Need-returns-5
-returns-5 c = let a = c .before .before .before .before .before .before .before .before .args in obtain-other (a .s .now) (a .metadata .now) _ _ (c .before .before .before .before .before .before .request-slot .ensures) (c .before .before .before .before .load .ensures) (ap isVacant (sym (c .before .before .before .phase-of .ensures) ∙ c .before .enum-told4 .given .1)) (ap isWaiting (sym (c .before .before .before .phase-of .ensures) ∙ c .before .enum-told4 .given .1)) _ _ (ap said (c .answered4 .ensures .0)) (c .answered4 .ensures .1)
+returns-3 c = let a = c .before .before .before .before .before .before .before .args in let o = other-phase (c .before .before .phase-of .result) (c .before .match .keys3) in obtain-other (a .s .now) (a .metadata .now) _ _ (c .before .before .before .before .before .request-slot .ensures) (c .before .before .before .load .ensures) (ap isVacant (sym (c .before .before .phase-of .ensures)) ∙ o .0) (ap isWaiting (sym (c .before .before .phase-of .ensures)) ∙ o .1) _ _ (ap said (c .answered3 .ensures .0)) (c .answered3 .ensures .1)
 
 pub call-fdread-spec : {M : Type 1} → statement M
 call-fdread-spec =
@@ -95,20 +74,13 @@ call-fdread-spec =
     enum-told
     answered-requires
     enum-told-2
-    answered-requires-2
-    enum-told-3
-    answered-requires-3
-    enum-told-4
-    answered-requires-4
-    enum-told-5
     size-requires
     empty-requires
     with-fds-requires
     to-outside-requires
     put-requires
-    answered-requires-5
+    answered-requires-2
     returns
+    answered-requires-3
     returns-2
-    returns-3
-    returns-4
-    returns-5)
+    returns-3)

@@ -3,7 +3,7 @@ use borrow.Author.Needs.{needs}
 use Rattle.events.specs.Outcome.{said}
 use Rattle.events.specs.Entry.{isVacant, isWaiting}
 use mathlib.Core.Path.{sym, ap, _∙_}
-use Rattle.w_fd.proofs.Cases.{move-vacant, move-other, moved-in}
+use Rattle.w_fd.proofs.Cases.{other-phase, move-vacant, move-other, moved-in}
 use Rattle.w_fd.proofs.moved.Statement.{statement}
 use Rattle.w_fd.proofs.moved.Tie as tie
 use Rattle.slot.proofs.phase_of.Reads as phase-of-reads
@@ -42,17 +42,20 @@ returns c = let a = c .before .before .before .before .before .before .before .b
 enum-told-2 : tie.Need-enum-told-2
 enum-told-2 c = search needs
 
+with-fds-requires : tie.Need-with-fds-requires
+with-fds-requires c κs = search needs
+
 discard-requires-2 : tie.Need-discard-requires-2
 discard-requires-2 c κs = search needs
+
+put-requires : tie.Need-put-requires
+put-requires c κs = search needs
 
 answered-requires-2 : tie.Need-answered-requires-2
 answered-requires-2 c κs = search needs
 
 returns-2 : tie.Need-returns-2
-returns-2 c = let a = c .before .before .before .before .before .before .before .before .before .before .before .before .args in λ ds g n. move-other (a .s .now) (a .metadata .now) ds (a .list) g _ _ (c .before .before .before .before .before .before .before .before .before .before .request-slot .ensures) (c .before .before .before .before .before .before .before .before .load .ensures) _ (c .before .before .before .before .before .before .take .ensures) (ap isVacant (sym (c .before .before .before .before .before .phase-of .ensures) ∙ c .before .before .before .enum-told2 .given .1)) (ap isWaiting (sym (c .before .before .before .before .before .phase-of .ensures) ∙ c .before .before .before .enum-told2 .given .1)) _ _ _ (c .before .discard2 .ensures) (ap said (c .answered2 .ensures .0)) (c .answered2 .ensures .1)
-
-enum-told-3 : tie.Need-enum-told-3
-enum-told-3 c = search needs
+returns-2 c = let a = c .before .before .before .before .before .before .before .before .before .before .before .before .before .before .before .before .args in λ ds g n. moved-in (a .s .now) (a .metadata .now) ds (a .list) g _ _ (c .before .before .before .before .before .before .before .before .before .before .before .before .before .before .request-slot .ensures) (c .before .before .before .before .before .before .before .before .before .before .before .before .load .ensures) _ (c .before .before .before .before .before .before .before .before .before .before .take .ensures) (sym (c .before .before .before .before .before .before .before .before .before .phase-of .ensures) ∙ c .before .before .before .before .before .before .before .enum-told2 .given .1) _ _ _ _ _ _ n (c .before .before .before .before .before .with-fds .ensures) (c .before .before .before .discard2 .ensures) (c .before .put .ensures) (ap said (c .answered2 .ensures .0)) (c .answered2 .ensures .1)
 
 discard-requires-3 : tie.Need-discard-requires-3
 discard-requires-3 c κs = search needs
@@ -61,37 +64,7 @@ answered-requires-3 : tie.Need-answered-requires-3
 answered-requires-3 c κs = search needs
 
 returns-3 : tie.Need-returns-3
-returns-3 c = let a = c .before .before .before .before .before .before .before .before .before .before .before .before .args in λ ds g n. move-other (a .s .now) (a .metadata .now) ds (a .list) g _ _ (c .before .before .before .before .before .before .before .before .before .before .request-slot .ensures) (c .before .before .before .before .before .before .before .before .load .ensures) _ (c .before .before .before .before .before .before .take .ensures) (ap isVacant (sym (c .before .before .before .before .before .phase-of .ensures) ∙ c .before .before .before .enum-told3 .given .1)) (ap isWaiting (sym (c .before .before .before .before .before .phase-of .ensures) ∙ c .before .before .before .enum-told3 .given .1)) _ _ _ (c .before .discard3 .ensures) (ap said (c .answered3 .ensures .0)) (c .answered3 .ensures .1)
-
-enum-told-4 : tie.Need-enum-told-4
-enum-told-4 c = search needs
-
-discard-requires-4 : tie.Need-discard-requires-4
-discard-requires-4 c κs = search needs
-
-answered-requires-4 : tie.Need-answered-requires-4
-answered-requires-4 c κs = search needs
-
-returns-4 : tie.Need-returns-4
-returns-4 c = let a = c .before .before .before .before .before .before .before .before .before .before .before .before .args in λ ds g n. move-other (a .s .now) (a .metadata .now) ds (a .list) g _ _ (c .before .before .before .before .before .before .before .before .before .before .request-slot .ensures) (c .before .before .before .before .before .before .before .before .load .ensures) _ (c .before .before .before .before .before .before .take .ensures) (ap isVacant (sym (c .before .before .before .before .before .phase-of .ensures) ∙ c .before .before .before .enum-told4 .given .1)) (ap isWaiting (sym (c .before .before .before .before .before .phase-of .ensures) ∙ c .before .before .before .enum-told4 .given .1)) _ _ _ (c .before .discard4 .ensures) (ap said (c .answered4 .ensures .0)) (c .answered4 .ensures .1)
-
-enum-told-5 : tie.Need-enum-told-5
-enum-told-5 c = search needs
-
-with-fds-requires : tie.Need-with-fds-requires
-with-fds-requires c κs = search needs
-
-discard-requires-5 : tie.Need-discard-requires-5
-discard-requires-5 c κs = search needs
-
-put-requires : tie.Need-put-requires
-put-requires c κs = search needs
-
-answered-requires-5 : tie.Need-answered-requires-5
-answered-requires-5 c κs = search needs
-
-returns-5 : tie.Need-returns-5
-returns-5 c = let a = c .before .before .before .before .before .before .before .before .before .before .before .before .before .before .before .before .args in λ ds g n. moved-in (a .s .now) (a .metadata .now) ds (a .list) g _ _ (c .before .before .before .before .before .before .before .before .before .before .before .before .before .before .request-slot .ensures) (c .before .before .before .before .before .before .before .before .before .before .before .before .load .ensures) _ (c .before .before .before .before .before .before .before .before .before .before .take .ensures) (sym (c .before .before .before .before .before .before .before .before .before .phase-of .ensures) ∙ c .before .before .before .before .before .before .before .enum-told5 .given .1) _ _ _ _ _ _ n (c .before .before .before .before .before .with-fds .ensures) (c .before .before .before .discard5 .ensures) (c .before .put .ensures) (ap said (c .answered5 .ensures .0)) (c .answered5 .ensures .1)
+returns-3 c = let a = c .before .before .before .before .before .before .before .before .before .before .before .args in let o = other-phase (c .before .before .before .before .phase-of .result) (c .before .before .before .match .keys3) in λ ds g n. move-other (a .s .now) (a .metadata .now) ds (a .list) g _ _ (c .before .before .before .before .before .before .before .before .before .request-slot .ensures) (c .before .before .before .before .before .before .before .load .ensures) _ (c .before .before .before .before .before .take .ensures) (ap isVacant (sym (c .before .before .before .before .phase-of .ensures)) ∙ o .0) (ap isWaiting (sym (c .before .before .before .before .phase-of .ensures)) ∙ o .1) _ _ _ (c .before .discard3 .ensures) (ap said (c .answered3 .ensures .0)) (c .answered3 .ensures .1)
 
 pub moved-spec : {M : Type 1} → statement M
 moved-spec =
@@ -106,20 +79,11 @@ moved-spec =
     answered-requires
     returns
     enum-told-2
+    with-fds-requires
     discard-requires-2
+    put-requires
     answered-requires-2
     returns-2
-    enum-told-3
     discard-requires-3
     answered-requires-3
-    returns-3
-    enum-told-4
-    discard-requires-4
-    answered-requires-4
-    returns-4
-    enum-told-5
-    with-fds-requires
-    discard-requires-5
-    put-requires
-    answered-requires-5
-    returns-5)
+    returns-3)
