@@ -1,6 +1,7 @@
 -- Counts and handles among the words: a part that was lent and came back, and one of its words. Assumes nothing.
-use Prim.Native.Nat.{ℕ, _+_, _<_, _≤_}
+use Prim.Native.Nat.{ℕ, _+_, _-_, _<_, _≤_}
 use mathlib.Core.Path.{_≡_, refl, sym, ap, _∙_}
+use mathlib.Core.Bool.{Bool, true, false, cond}
 use mathlib.Core.List.{List, [], _∷_, _++_}
 use native.Mathlib.Omega.{arith}
 use lib.ListN.{getD, set, take, drop, length, List·getD-eq-default}
@@ -19,6 +20,7 @@ use Rattle.wait_queue_receive.specs.Receive.{receivedOf, copiedOf}
 use Rattle.events.specs.World.{holdsOf, handlesOf, queueOf}
 use Rattle.layout.specs.Layout.{part, plainOf}
 use Rattle.layout.specs.Store.{stored, outside, all, handles}
+use Rattle.words.specs.Counts.{countsOf, countsStore}
 use Rattle.layout.proofs.Regions.{part-at, part-length, same-part, one-part, relent}
 use Rattle.layout.proofs.Worlds.{handles-is}
 
@@ -69,6 +71,18 @@ module _ (ws : List ℕ) where
         → take 840 ws ++ (ys ++ drop 64 (drop 840 ws)) ≡ stored ws (all (f (holdsOf (plainOf ws) .holds)))
     all-back f k ys e =
         relent ws 840 64 ys (omega (arith, size)) (ap length e ∙ k (take 64 (drop 840 ws)) ∙ part-long 840 (omega arith)) ∙ ap (sets ws 840) (e ∙ ap f all-lent)
+
+    pub counts-back :
+        (outer : Bool) (a : ℕ) → a ≡ cond outer 904 840 → (f : List ℕ → List ℕ) → ((l : List ℕ) → length (f l) ≡ length l) → (ys : List ℕ) → ys ≡ f (take (a + 64 - a) (drop a ws))
+        → take a ws ++ (ys ++ drop (a + 64 - a) (drop a ws)) ≡ stored ws (countsStore outer (f (countsOf outer (plainOf ws))))
+    counts-back outer a q f k ys e = (λ i. take (q i) ws ++ (ys ++ drop (z i) (drop (q i) ws))) ∙ back outer (e ∙ λ i. f (take (z i) (drop (q i) ws)))
+      where
+        z : a + 64 - a ≡ 64
+        z = omega arith
+
+        back : (o : Bool) → let b : ℕ = cond o 904 840 in ys ≡ f (take 64 (drop b ws)) → take b ws ++ (ys ++ drop 64 (drop b ws)) ≡ stored ws (countsStore o (f (countsOf o (plainOf ws))))
+        back true d = outside-back f k ys d
+        back false d = all-back f k ys d
 
     -- one handle
     handles-long : length (handlesOf (plainOf ws) .at) ≡ 64

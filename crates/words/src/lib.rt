@@ -15,6 +15,7 @@ use take_holds::TakeAnswer;
 use wait_queue::WaitQueue;
 use wait_queue_receive::Received;
 ghost use mathlib.Core.Path.{_≡_};
+ghost use mathlib.Core.Bool.{cond};
 ghost use mathlib.Core.List.{[], _∷_};
 ghost use Prim.Native.Nat.{min, _<_, _≤_, _+_, _*_};
 ghost use lib.ListN.{length, getD, set, replicate};
@@ -30,8 +31,9 @@ ghost use Rattle.wait_queue.specs.Queue.{headOf};
 ghost use Rattle.wait_queue_receive.specs.Receive.{receivedOf, copiedOf};
 ghost use Rattle.events.specs.World.{tableOf, holdsOf, handlesOf, queueOf, schemeOf, slotIn, queueFull};
 ghost use Rattle.events.specs.Submit.{tableFull};
-ghost use Rattle.layout.specs.Layout.{chainPlace, headPlace, schemePlace, queuePlace, one as oneOf, slotOf, fdsFrom, marksWord, replyWord, lowWord, highWord, part as partOf, plainOf, slotWords};
+ghost use Rattle.layout.specs.Layout.{chainPlace, headPlace, allPlace, outsidePlace, schemePlace, queuePlace, one as oneOf, slotOf, fdsFrom, marksWord, replyWord, lowWord, highWord, part as partOf, plainOf, slotWords};
 ghost use Rattle.layout.specs.Store.{stored, put as putStore, give as giveStore, vacate as vacateStore, send as sendStore, queue as queueStore, outside as outsideStore, all as allStore, handles as handlesStore};
+ghost use Rattle.words.specs.Counts.{countsOf, countsStore};
 
 // A slot has twelve words, from 0 on; the chain of vacated slots has one for each.
 const CHAIN: usize = 768;
@@ -476,11 +478,48 @@ pub fn holds_of(s: &[u64; 2060], d: Description) -> u64
     counts::count_at(all, d)
 }
 
-fn take_in(s: &mut [u64], l: List)
-    requires { ⌜ length (now s) ≡ 2060 ⌝ }
-    ensures { λ r. ⌜ now (s .exit) ≡ stored (now (s .entry)) (outsideStore (lessAll (holdsOf (plainOf (now (s .entry))) .outside) (numbers l))) ⌝ }
+// Where the counts of outside holds begin, or those of all.
+fn counts_at(outer: bool) -> usize
+    ensures { λ r. ⌜ r ≡ cond outer (outsidePlace 0) (allPlace 0) ⌝ }
+    ensures { λ r. ⌜ r ≤ 904 ⌝ }
 {
-    counts::lower_all(&mut s[OUTSIDE..SCHEME], l);
+    if outer {
+        return OUTSIDE;
+    }
+    ALL
+}
+
+// Each of these changes the counts of outside holds, or those of all.
+fn lower_in(s: &mut [u64], outer: bool, d: Description)
+    requires { ⌜ length (now s) ≡ 2060 ⌝ }
+    ensures { λ r. ⌜ now (s .exit) ≡ stored (now (s .entry)) (countsStore outer (less (countsOf outer (plainOf (now (s .entry)))) (d .0))) ⌝ }
+{
+    let at = counts_at(outer);
+    counts::lower(&mut s[at..at + 64], d);
+}
+
+fn raise_in(s: &mut [u64], outer: bool, d: Description)
+    requires { ⌜ length (now s) ≡ 2060 ⌝ }
+    ensures { λ r. ⌜ now (s .exit) ≡ stored (now (s .entry)) (countsStore outer (more (countsOf outer (plainOf (now (s .entry)))) (d .0))) ⌝ }
+{
+    let at = counts_at(outer);
+    counts::higher(&mut s[at..at + 64], d);
+}
+
+fn lower_all_in(s: &mut [u64], outer: bool, l: List)
+    requires { ⌜ length (now s) ≡ 2060 ⌝ }
+    ensures { λ r. ⌜ now (s .exit) ≡ stored (now (s .entry)) (countsStore outer (lessAll (countsOf outer (plainOf (now (s .entry)))) (numbers l))) ⌝ }
+{
+    let at = counts_at(outer);
+    counts::lower_all(&mut s[at..at + 64], l);
+}
+
+fn raise_all_in(s: &mut [u64], outer: bool, l: List)
+    requires { ⌜ length (now s) ≡ 2060 ⌝ }
+    ensures { λ r. ⌜ now (s .exit) ≡ stored (now (s .entry)) (countsStore outer (moreAll (countsOf outer (plainOf (now (s .entry)))) (numbers l))) ⌝ }
+{
+    let at = counts_at(outer);
+    counts::raise_all(&mut s[at..at + 64], l);
 }
 
 // A list's holds leave the outside ones.
@@ -488,14 +527,7 @@ pub fn take(s: &mut [u64; 2060], l: List)
     ensures { λ r. ⌜ now (s .exit) ≡ stored (now (s .entry)) (outsideStore (lessAll (holdsOf (plainOf (now (s .entry))) .outside) (numbers l))) ⌝ }
 {
     sized(s);
-    take_in(s, l);
-}
-
-fn give_back_in(s: &mut [u64], l: List)
-    requires { ⌜ length (now s) ≡ 2060 ⌝ }
-    ensures { λ r. ⌜ now (s .exit) ≡ stored (now (s .entry)) (outsideStore (moreAll (holdsOf (plainOf (now (s .entry))) .outside) (numbers l))) ⌝ }
-{
-    counts::raise_all(&mut s[OUTSIDE..SCHEME], l);
+    lower_all_in(s, true, l);
 }
 
 // A list's holds become outside holds.
@@ -503,14 +535,7 @@ pub fn to_outside(s: &mut [u64; 2060], l: List)
     ensures { λ r. ⌜ now (s .exit) ≡ stored (now (s .entry)) (outsideStore (moreAll (holdsOf (plainOf (now (s .entry))) .outside) (numbers l))) ⌝ }
 {
     sized(s);
-    give_back_in(s, l);
-}
-
-fn discard_in(s: &mut [u64], l: List)
-    requires { ⌜ length (now s) ≡ 2060 ⌝ }
-    ensures { λ r. ⌜ now (s .exit) ≡ stored (now (s .entry)) (allStore (lessAll (holdsOf (plainOf (now (s .entry))) .holds) (numbers l))) ⌝ }
-{
-    counts::lower_all(&mut s[ALL..OUTSIDE], l);
+    raise_all_in(s, true, l);
 }
 
 // A list's holds dropped, with no close.
@@ -518,7 +543,7 @@ pub fn discard(s: &mut [u64; 2060], l: List)
     ensures { λ r. ⌜ now (s .exit) ≡ stored (now (s .entry)) (allStore (lessAll (holdsOf (plainOf (now (s .entry))) .holds) (numbers l))) ⌝ }
 {
     sized(s);
-    discard_in(s, l);
+    lower_all_in(s, false, l);
 }
 
 fn drop_in(s: &mut [u64], l: List, follows: bool, fx: &mut [u64], at: usize) -> usize
@@ -542,26 +567,12 @@ pub fn drop_all(s: &mut [u64; 2060], l: List, follows: bool, fx: &mut [u64], at:
     drop_in(s, l, follows, fx, at)
 }
 
-fn lower_in(s: &mut [u64], d: Description)
-    requires { ⌜ length (now s) ≡ 2060 ⌝ }
-    ensures { λ r. ⌜ now (s .exit) ≡ stored (now (s .entry)) (outsideStore (less (holdsOf (plainOf (now (s .entry))) .outside) (d .0))) ⌝ }
-{
-    counts::lower(&mut s[OUTSIDE..SCHEME], d);
-}
-
 // One outside hold less.
 pub fn lower_outside(s: &mut [u64; 2060], d: Description)
     ensures { λ r. ⌜ now (s .exit) ≡ stored (now (s .entry)) (outsideStore (less (holdsOf (plainOf (now (s .entry))) .outside) (d .0))) ⌝ }
 {
     sized(s);
-    lower_in(s, d);
-}
-
-fn lower_all_in(s: &mut [u64], d: Description)
-    requires { ⌜ length (now s) ≡ 2060 ⌝ }
-    ensures { λ r. ⌜ now (s .exit) ≡ stored (now (s .entry)) (allStore (less (holdsOf (plainOf (now (s .entry))) .holds) (d .0))) ⌝ }
-{
-    counts::lower(&mut s[ALL..OUTSIDE], d);
+    lower_in(s, true, d);
 }
 
 // One hold less of all.
@@ -569,14 +580,7 @@ pub fn lower(s: &mut [u64; 2060], d: Description)
     ensures { λ r. ⌜ now (s .exit) ≡ stored (now (s .entry)) (allStore (less (holdsOf (plainOf (now (s .entry))) .holds) (d .0))) ⌝ }
 {
     sized(s);
-    lower_all_in(s, d);
-}
-
-fn raise_in(s: &mut [u64], d: Description)
-    requires { ⌜ length (now s) ≡ 2060 ⌝ }
-    ensures { λ r. ⌜ now (s .exit) ≡ stored (now (s .entry)) (outsideStore (more (holdsOf (plainOf (now (s .entry))) .outside) (d .0))) ⌝ }
-{
-    counts::higher(&mut s[OUTSIDE..SCHEME], d);
+    lower_in(s, false, d);
 }
 
 // One outside hold more.
@@ -584,14 +588,7 @@ pub fn raise_outside(s: &mut [u64; 2060], d: Description)
     ensures { λ r. ⌜ now (s .exit) ≡ stored (now (s .entry)) (outsideStore (more (holdsOf (plainOf (now (s .entry))) .outside) (d .0))) ⌝ }
 {
     sized(s);
-    raise_in(s, d);
-}
-
-fn raise_all_in(s: &mut [u64], d: Description)
-    requires { ⌜ length (now s) ≡ 2060 ⌝ }
-    ensures { λ r. ⌜ now (s .exit) ≡ stored (now (s .entry)) (allStore (more (holdsOf (plainOf (now (s .entry))) .holds) (d .0))) ⌝ }
-{
-    counts::higher(&mut s[ALL..OUTSIDE], d);
+    raise_in(s, true, d);
 }
 
 // One hold more of all.
@@ -599,7 +596,7 @@ pub fn raise(s: &mut [u64; 2060], d: Description)
     ensures { λ r. ⌜ now (s .exit) ≡ stored (now (s .entry)) (allStore (more (holdsOf (plainOf (now (s .entry))) .holds) (d .0))) ⌝ }
 {
     sized(s);
-    raise_all_in(s, d);
+    raise_in(s, false, d);
 }
 
 // What handle k holds: 0, or the description and 1; one over 63 is empty.

@@ -2,32 +2,55 @@
 use borrow.Author.Needs.{needs}
 use Prim.Native.Nat.{ℕ}
 use mathlib.Core.List.{List}
-use Rattle.counts.proofs.Laws.{less-length}
-use Rattle.counts.specs.Counts.{less}
-use Rattle.words.proofs.Parts.{all-back}
+use Rattle.counts.specs.Counts.{lessAll}
+use Rattle.counts.proofs.Laws.{lessAll-length}
+use Rattle.fd_list.specs.Lists.{numbers}
+use Rattle.words.proofs.Parts.{counts-back}
 use Rattle.words.proofs.lower_all_in.Statement.{statement}
 use Rattle.words.proofs.lower_all_in.Tie as tie
-use Rattle.counts.proofs.lower.Reads as lower-reads
+use Rattle.counts.proofs.lower_all.Reads as lower-all-reads
+use Rattle.words.proofs.counts_at.Reads as counts-at-reads
 
-sub-lower : tie.Need-sub-lower
-sub-lower c = search needs
+counts-at-requires : tie.Need-counts-at-requires
+counts-at-requires c κs = search needs
 
-part-lower-start : tie.Need-part-lower-start
-part-lower-start c = search needs
+add-lower-all : tie.Need-add-lower-all
+add-lower-all c = search needs
 
-part-lower-end : tie.Need-part-lower-end
-part-lower-end c = search needs
+mul-lower-all : tie.Need-mul-lower-all
+mul-lower-all c = search needs
 
-lower-requires : tie.Need-lower-requires
-lower-requires c κs = search needs
+sub-lower-all : tie.Need-sub-lower-all
+sub-lower-all c = search needs
+
+part-lower-all-start : tie.Need-part-lower-all-start
+part-lower-all-start c = search needs
+
+part-lower-all-end : tie.Need-part-lower-all-end
+part-lower-all-end c = search needs
+
+lower-all-requires : tie.Need-lower-all-requires
+lower-all-requires c κs = search needs
 
 same-length : tie.Need-same-length
 same-length c = search needs
 
 returns : tie.Need-returns
-returns c = let a = c .before .before .before .before .before .args in all-back (a .s .now) (c .before .before .before .before .before .pre) (λ (l : List ℕ). less l (a .d .0)) (λ (l : List ℕ). less-length l (a .d .0)) _ (c .before .before .lower .ensures .1)
+returns c =
+    let a = c .before .before .before .before .before .before .args in
+    let p = c .before .before .before .before .counts-at in
+    counts-back (a .s .now) (c .before .before .before .before .before .before .pre) (a .outer) (p .result) (p .ensures .0) (λ (l : List ℕ). lessAll l (numbers (a .l))) (lessAll-length (numbers (a .l))) _ (c .before .before .lower-all .ensures)
 
 pub lower-all-in-spec : {M : Type 1} → statement M
 lower-all-in-spec =
     tie.close
-    (tie.spec sub-lower part-lower-start part-lower-end lower-requires same-length returns)
+    (tie.spec
+    counts-at-requires
+    add-lower-all
+    mul-lower-all
+    sub-lower-all
+    part-lower-all-start
+    part-lower-all-end
+    lower-all-requires
+    same-length
+    returns)

@@ -2,12 +2,22 @@
 use borrow.Author.Needs.{needs}
 use Prim.Native.Nat.{ℕ}
 use mathlib.Core.List.{List}
-use Rattle.counts.proofs.Laws.{less-length}
 use Rattle.counts.specs.Counts.{less}
-use Rattle.words.proofs.Parts.{outside-back}
+use Rattle.counts.proofs.Laws.{less-length}
+use Rattle.words.proofs.Parts.{counts-back}
 use Rattle.words.proofs.lower_in.Statement.{statement}
 use Rattle.words.proofs.lower_in.Tie as tie
 use Rattle.counts.proofs.lower.Reads as lower-reads
+use Rattle.words.proofs.counts_at.Reads as counts-at-reads
+
+counts-at-requires : tie.Need-counts-at-requires
+counts-at-requires c κs = search needs
+
+add-lower : tie.Need-add-lower
+add-lower c = search needs
+
+mul-lower : tie.Need-mul-lower
+mul-lower c = search needs
 
 sub-lower : tie.Need-sub-lower
 sub-lower c = search needs
@@ -25,9 +35,21 @@ same-length : tie.Need-same-length
 same-length c = search needs
 
 returns : tie.Need-returns
-returns c = let a = c .before .before .before .before .before .args in outside-back (a .s .now) (c .before .before .before .before .before .pre) (λ (l : List ℕ). less l (a .d .0)) (λ (l : List ℕ). less-length l (a .d .0)) _ (c .before .before .lower .ensures .1)
+returns c =
+    let a = c .before .before .before .before .before .before .args in
+    let p = c .before .before .before .before .counts-at in
+    counts-back (a .s .now) (c .before .before .before .before .before .before .pre) (a .outer) (p .result) (p .ensures .0) (λ (l : List ℕ). less l (a .d .0)) (λ (l : List ℕ). less-length l (a .d .0)) _ (c .before .before .lower .ensures .1)
 
 pub lower-in-spec : {M : Type 1} → statement M
 lower-in-spec =
     tie.close
-    (tie.spec sub-lower part-lower-start part-lower-end lower-requires same-length returns)
+    (tie.spec
+    counts-at-requires
+    add-lower
+    mul-lower
+    sub-lower
+    part-lower-start
+    part-lower-end
+    lower-requires
+    same-length
+    returns)

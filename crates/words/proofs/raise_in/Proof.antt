@@ -2,12 +2,22 @@
 use borrow.Author.Needs.{needs}
 use Prim.Native.Nat.{ℕ}
 use mathlib.Core.List.{List}
-use Rattle.counts.proofs.Laws.{more-length}
 use Rattle.counts.specs.Counts.{more}
-use Rattle.words.proofs.Parts.{outside-back}
+use Rattle.counts.proofs.Laws.{more-length}
+use Rattle.words.proofs.Parts.{counts-back}
 use Rattle.words.proofs.raise_in.Statement.{statement}
 use Rattle.words.proofs.raise_in.Tie as tie
 use Rattle.counts.proofs.higher.Reads as higher-reads
+use Rattle.words.proofs.counts_at.Reads as counts-at-reads
+
+counts-at-requires : tie.Need-counts-at-requires
+counts-at-requires c κs = search needs
+
+add-higher : tie.Need-add-higher
+add-higher c = search needs
+
+mul-higher : tie.Need-mul-higher
+mul-higher c = search needs
 
 sub-higher : tie.Need-sub-higher
 sub-higher c = search needs
@@ -25,9 +35,21 @@ same-length : tie.Need-same-length
 same-length c = search needs
 
 returns : tie.Need-returns
-returns c = let a = c .before .before .before .before .before .args in outside-back (a .s .now) (c .before .before .before .before .before .pre) (λ (l : List ℕ). more l (a .d .0)) (λ (l : List ℕ). more-length l (a .d .0)) _ (c .before .before .higher .ensures)
+returns c =
+    let a = c .before .before .before .before .before .before .args in
+    let p = c .before .before .before .before .counts-at in
+    counts-back (a .s .now) (c .before .before .before .before .before .before .pre) (a .outer) (p .result) (p .ensures .0) (λ (l : List ℕ). more l (a .d .0)) (λ (l : List ℕ). more-length l (a .d .0)) _ (c .before .before .higher .ensures)
 
 pub raise-in-spec : {M : Type 1} → statement M
 raise-in-spec =
     tie.close
-    (tie.spec sub-higher part-higher-start part-higher-end higher-requires same-length returns)
+    (tie.spec
+    counts-at-requires
+    add-higher
+    mul-higher
+    sub-higher
+    part-higher-start
+    part-higher-end
+    higher-requires
+    same-length
+    returns)
