@@ -8,7 +8,7 @@ use lib.Dec.{eqb}
 use lib.ListN.{getD, set, length, drop, drop-of-length-le, List·getD-eq-default}
 use lib.Seq.{set-out, set-getD, drop-cons}
 use borrow.Author.Tests.{lt-ltb, le-ltb}
-use Rattle.counts.specs.Counts.{less, more, lessAll, moreAll, last}
+use Rattle.counts.specs.Counts.{less, more, last}
 
 -- the count of description d, read and stored at place i
 module _ (a : List ℕ) (i d : ℕ) (e : i ≡ d) where
@@ -50,16 +50,12 @@ module _ (ds : List ℕ) (i : ℕ) where
     pub first : drop i ds ≡ d ∷ drop (i + 1) ds
     first = next-is b ∙ ap (λ (x : ℕ). x ∷ drop (i + 1) ds) (sym q)
 
-    pub less-more : (a u W : List ℕ) → u ≡ less a d → lessAll a (drop i ds) ≡ W → lessAll u (drop (i + 1) ds) ≡ W
-    less-more a u W e w = rw e (ap (λ (x : List ℕ). lessAll a x) (sym first) ∙ w)
+-- counts that change by `one` for each entry of ds: a turn at place i, and nothing left
+module _ (one : List ℕ → ℕ → List ℕ) (each : List ℕ → List ℕ → List ℕ) (ds : List ℕ) (i : ℕ) (a : List ℕ) where
+  pub each-more :
+      ((es : List ℕ) (d : ℕ) → each (one a d) es ≡ each a (d ∷ es)) → (d : ℕ) → i < length ds → d ≡ getD ds i 0 → (u W : List ℕ) → u ≡ one a d → each a (drop i ds) ≡ W
+      → each u (drop (i + 1) ds) ≡ W
+  each-more s d b q u W e w = ap (λ (x : List ℕ). each x (drop (i + 1) ds)) e ∙ s (drop (i + 1) ds) d ∙ ap (each a) (sym (first ds i d b q)) ∙ w
 
-    pub more-more : (a u W : List ℕ) → u ≡ more a d → moreAll a (drop i ds) ≡ W → moreAll u (drop (i + 1) ds) ≡ W
-    more-more a u W e w = rw e (ap (λ (x : List ℕ). moreAll a x) (sym first) ∙ w)
-
--- nothing left
-module _ (ds : List ℕ) (i : ℕ) (b : length ds ≤ i) where
-  pub less-end : (a W : List ℕ) → lessAll a (drop i ds) ≡ W → a ≡ W
-  less-end a W w = ap (λ (x : List ℕ). lessAll a x) (sym (none-left ds i b)) ∙ w
-
-  pub more-end : (a W : List ℕ) → moreAll a (drop i ds) ≡ W → a ≡ W
-  more-end a W w = ap (λ (x : List ℕ). moreAll a x) (sym (none-left ds i b)) ∙ w
+  pub each-end : each a [] ≡ a → length ds ≤ i → (W : List ℕ) → each a (drop i ds) ≡ W → a ≡ W
+  each-end s b W w = sym s ∙ ap (each a) (sym (none-left ds i b)) ∙ w

@@ -3,12 +3,12 @@ use native.Mathlib.Omega.{arith}
 use Rattle.fd_list.proofs.Laws.{picked}
 use borrow.Author.Needs.{needs}
 use Rattle.closes.proofs.Steps.{count-more, words-more, one-close, start-words, words-length, count-end, words-end}
-use Rattle.counts.proofs.Steps.{less-more, less-end}
+use Rattle.counts.proofs.Steps.{each-more, each-end}
 use mathlib.Core.Path.{_≡_, refl, ap, _∙_}
 use Prim.Native.Nat.{_+_, _*_, _-_, _≤_, _<_}
 use lib.ListN.{length, drop, length-set}
 use lib.Seq.{sets}
-use Rattle.counts.specs.Counts.{lessAll, lasts}
+use Rattle.counts.specs.Counts.{less, lessAll, lasts}
 use Rattle.closes.specs.Closes.{only, closes}
 use Rattle.fd_list.specs.Lists.{numbers}
 use Rattle.closes.proofs.drop_all.Statement.{statement}
@@ -48,7 +48,7 @@ loop-again c =
     let d = c .before .before .before .before .before .before .before .pick .result .0 in
     let q = picked (a .l) (l .i) (c .before .before .before .before .before .before .before .pick .result) (c .before .before .before .before .before .before .before .pick .ensures) in
     let b : l .i < length (numbers (a .l)) = omega (arith, c .before .before .before .before .before .before .before .before .loop-test .taken, c .before .before .before .before .before .before .before .before .before .before .size .ensures .0) in
-    (omega (arith, c .before .before .before .before .before .before .before .before .loop-test .taken), omega (arith, l .inv .1, s .ensures .0, one-close (a .follows) (l .a) d), ap length (s .ensures .1 .0) ∙ (simp length-set (l .inv .2)), words-length (a .follows) (l .a) d (l .fx) _ (a .at) (l .k) _ (s .ensures .1 .1) (l .inv .3), less-more (numbers (a .l)) (l .i) d b q (l .a) _ _ (s .ensures .1 .0) (l .inv .4), count-more (numbers (a .l)) (l .i) d b q (a .follows) (l .a) _ (l .k) _ _ (s .ensures .1 .0) (s .ensures .0) (l .inv .5), words-more (numbers (a .l)) (l .i) d b q (a .follows) (l .a) _ (l .fx) _ (a .at) (l .k) _ _ (s .ensures .1 .0) (s .ensures .0) (s .ensures .1 .1) (l .inv .6))
+    (omega (arith, c .before .before .before .before .before .before .before .before .loop-test .taken), omega (arith, l .inv .1, s .ensures .0, one-close (a .follows) (l .a) d), ap length (s .ensures .1 .0) ∙ (simp length-set (l .inv .2)), words-length (a .follows) (l .a) d (l .fx) _ (a .at) (l .k) _ (s .ensures .1 .1) (l .inv .3), each-more less lessAll (numbers (a .l)) (l .i) (l .a) (λ es d. refl) d b q _ _ (s .ensures .1 .0) (l .inv .4), count-more (numbers (a .l)) (l .i) d b q (a .follows) (l .a) _ (l .k) _ _ (s .ensures .1 .0) (s .ensures .0) (l .inv .5), words-more (numbers (a .l)) (l .i) d b q (a .follows) (l .a) _ (l .fx) _ (a .at) (l .k) _ _ (s .ensures .1 .0) (s .ensures .0) (s .ensures .1 .1) (l .inv .6))
 
 same-length : tie.Need-same-length Inv-loop μ-loop
 same-length c = c .before .loop .inv .2
@@ -61,7 +61,7 @@ returns c =
     let l = c .before .loop in
     let a = c .before .before .before .before .before .args in
     let b : length (numbers (a .l)) ≤ l .i = omega (arith, c .loop-test .left, c .before .before .size .ensures .0) in
-    (count-end (numbers (a .l)) (l .i) b (a .follows) (l .a) (l .k) _ (l .inv .5), (less-end (numbers (a .l)) (l .i) b (l .a) _ (l .inv .4), (words-end (numbers (a .l)) (l .i) b (a .follows) (l .a) (l .fx) _ _ (l .inv .6), omega (arith, l .inv .0, l .inv .1, c .before .before .size .ensures .1))))
+    (count-end (numbers (a .l)) (l .i) b (a .follows) (l .a) (l .k) _ (l .inv .5), (each-end less lessAll (numbers (a .l)) (l .i) (l .a) refl b _ (l .inv .4), (words-end (numbers (a .l)) (l .i) b (a .follows) (l .a) (l .fx) _ _ (l .inv .6), omega (arith, l .inv .0, l .inv .1, c .before .before .size .ensures .1))))
 
 pub drop-all-spec : {M : Type 1} → statement M
 drop-all-spec =
