@@ -1,150 +1,98 @@
 // The driver's descriptor calls (01, "Descriptor calls"; src/scheme/user.rs, lines 1153 to 1265): a list moved into a
 // waiting call, and its list obtained.
 use answer::Answer;
-use holds::Holds;
+use fd_list::List;
+use ids::SlotNo;
 use ids::Tag;
-use part::Part;
 use slot::Phase;
-use slot::Slot;
+use step::Step;
 use take_holds::TakeAnswer;
 ghost use mathlib.Core.Path.{_≡_};
-ghost use mathlib.Core.List.{List as Words, []};
-ghost use Prim.Native.Nat.{ℕ, _%_};
-ghost use lib.ListN.{getD};
-ghost use Rattle.state.specs.declared.State.{State};
-ghost use Rattle.table.specs.declared.Table.{Table};
-ghost use Rattle.table.specs.Table.{noSlot};
-ghost use Rattle.part.specs.Part.{Stands, found, leaves};
-ghost use Rattle.events.specs.World.{world};
-ghost use Rattle.events.specs.Outcome.{outcome, said};
-ghost use Rattle.events.specs.Descriptors.{requestOf, moveOf, obtainCallOf};
-ghost use Rattle.call_fd.specs.CallFd.{findOf};
+ghost use mathlib.Core.List.{List as Words};
+ghost use Prim.Native.Nat.{ℕ};
+ghost use lib.ListN.{length};
+ghost use Rattle.effect.specs.Effect.{effectWords};
+ghost use Rattle.events.specs.Outcome.{said};
+ghost use Rattle.events.specs.Event.{on, move, obtain};
+ghost use Rattle.layout.specs.Layout.{plainOf};
+ghost use Rattle.step.specs.Does.{Does};
+ghost use Rattle.call_fd.specs.Moves.{requestSlot, Good, Moves};
 
-// The request that the metadata names, where it waits.
-enum Request {
-    Waits,
-    Invalid,
-    NotWaiting,
-}
-
-pub struct CallFdwrite {
-    pub answer: Answer,
-    pub part: Part,
-    pub holds: Holds,
-}
-
-pub struct CallFdread {
-    pub answer: Answer,
-    pub part: Part,
-    pub holds: Holds,
-}
-
-// Two words, the verb and the request id, all 64 bits of it; v stands at its slot.
-fn find_request(v: Slot, metadata: &[u64], verb: u64) -> Request
-    ensures { λ r. ⌜ ((t : Table) → getD (t .slots) (requestOf (now (metadata .entry)) % 64) noSlot ≡ v → r ≡ findOf t verb (now (metadata .entry))) ⌝ }
+// The slot that metadata name, two words: the verb and the request id, all 64 bits of it. Wrong ones name none.
+fn request_slot(metadata: &[u64], verb: u64) -> SlotNo
+    ensures { λ r. ⌜ r .0 ≡ requestSlot verb (now (metadata .entry)) ⌝ }
 {
     if metadata.len() != 2 {
-        return Request::Invalid;
+        return ids::slot_of(Tag(64));
     }
     if metadata[0] != verb {
-        return Request::Invalid;
+        return ids::slot_of(Tag(64));
     }
-    let tag = Tag(metadata[1]);
-    let n = ids::slot_of(tag);
-    if 64 <= n.0 {
-        return Request::Invalid;
-    }
+    ids::slot_of(Tag(metadata[1]))
+}
+
+// A good list, by its request: it replaces the call's, whose holds are dropped, or is itself dropped.
+fn moved(s: &mut [u64; 2060], metadata: &[u64], list: List, count: usize) -> Step
+    ensures { λ r. ⌜ ((ds : Words ℕ) → Good (plainOf (now (s .entry))) ds list → count ≡ length ds → Moves (now (s .entry)) (now (s .exit)) (now (metadata .entry)) ds (said (r .answer)) (effectWords (r .effect))) ⌝ }
+{
+    let n = request_slot(metadata, 1);
+    let v = words::load(s, n);
+    words::take(s, list);
     let p = slot::phase_of(v);
     match p {
-        Phase::Vacant => Request::Invalid,
-        Phase::Placeholder => Request::NotWaiting,
-        Phase::Waiting => Request::Waits,
-        Phase::Responded => Request::NotWaiting,
-        Phase::Fmap => Request::NotWaiting,
+        Phase::Vacant => {
+            words::discard(s, list);
+            return step::answered(Answer::Invalid);
+        }
+        Phase::Waiting => {
+            let old = v.fds;
+            let w = slot::with_fds(v, list);
+            words::discard(s, old);
+            words::put(s, n, w);
+            return step::answered(Answer::Descriptions(count as u64));
+        }
+        _ => {
+            words::discard(s, list);
+            return step::answered(Answer::NotFound);
+        }
     }
 }
 
 // `MoveFd`, verb 1: the list replaces the call's, whose holds are dropped with no close. Refused by the request it drops
 // what it brought.
-pub fn call_fdwrite(p: Part, h: Holds, metadata: &[u64], fds: &[u64]) -> CallFdwrite
-    ensures { λ r. ⌜ ((s : State) (ws : Words ℕ) → Stands s (requestOf (now (metadata .entry)) % 64) p → outcome (said (r .answer)) [] (world (leaves s (requestOf (now (metadata .entry)) % 64) (r .part) (r .holds)) ws) ≡ moveOf (world (found s p h) ws) (now (metadata .entry)) (now (fds .entry))) ⌝ }
+pub fn call_fdwrite(s: &mut [u64; 2060], metadata: &[u64], fds: &[u64]) -> Step
+    ensures { λ r. ⌜ Does (now (s .entry)) (now (s .exit)) (on (move (now (metadata .entry)) (now (fds .entry)))) (said (r .answer)) (effectWords (r .effect)) ⌝ }
 {
-    let taken = take_holds::take_list(h, fds);
-    let answer = taken.answer;
-    match answer {
-        TakeAnswer::BadArgument => CallFdwrite {
-            answer: Answer::BadArgument,
-            part: p,
-            holds: h,
-        },
-        TakeAnswer::TooMany => CallFdwrite {
-            answer: Answer::TooManyFds,
-            part: p,
-            holds: h,
-        },
+    let looked = words::look(s, fds);
+    let took = looked.answer;
+    match took {
+        TakeAnswer::BadArgument => step::answered(Answer::BadArgument),
+        TakeAnswer::TooMany => step::answered(Answer::TooManyFds),
         TakeAnswer::Taken => {
-            let list = taken.list;
-            let inside = taken.holds;
-            let v = p.slot;
-            let found = find_request(v, metadata, 1);
-            match found {
-                Request::Invalid => CallFdwrite {
-                    answer: Answer::Invalid,
-                    part: p,
-                    holds: holds::discard_list(inside, list),
-                },
-                Request::NotWaiting => CallFdwrite {
-                    answer: Answer::NotFound,
-                    part: p,
-                    holds: holds::discard_list(inside, list),
-                },
-                Request::Waits => {
-                    let old = v.fds;
-                    let left = holds::discard_list(inside, old);
-                    let w = slot::with_fds(v, list);
-                    let q = p.queue;
-                    let after = part::stored(p, w, q);
-                    CallFdwrite {
-                        answer: Answer::Descriptions(fds.len() as u64),
-                        part: after,
-                        holds: left,
-                    }
-                }
-            }
+            let list = looked.list;
+            return moved(s, metadata, list, fds.len());
         }
     }
 }
 
 // `ObtainFd`, verb 0: the call's list becomes outside holds.
-pub fn call_fdread(p: Part, h: Holds, metadata: &[u64]) -> CallFdread
-    ensures { λ r. ⌜ ((s : State) (ws : Words ℕ) → Stands s (requestOf (now (metadata .entry)) % 64) p → outcome (said (r .answer)) [] (world (leaves s (requestOf (now (metadata .entry)) % 64) (r .part) (r .holds)) ws) ≡ obtainCallOf (world (found s p h) ws) (now (metadata .entry))) ⌝ }
+pub fn call_fdread(s: &mut [u64; 2060], metadata: &[u64]) -> Step
+    ensures { λ r. ⌜ Does (now (s .entry)) (now (s .exit)) (on (obtain (now (metadata .entry)))) (said (r .answer)) (effectWords (r .effect)) ⌝ }
 {
-    let v = p.slot;
-    let found = find_request(v, metadata, 0);
-    match found {
-        Request::Invalid => CallFdread {
-            answer: Answer::Invalid,
-            part: p,
-            holds: h,
-        },
-        Request::NotWaiting => CallFdread {
-            answer: Answer::NotFound,
-            part: p,
-            holds: h,
-        },
-        Request::Waits => {
+    let n = request_slot(metadata, 0);
+    let v = words::load(s, n);
+    let p = slot::phase_of(v);
+    match p {
+        Phase::Vacant => step::answered(Answer::Invalid),
+        Phase::Waiting => {
             let old = v.fds;
-            let outside = holds::to_outside(h, old);
-            let n = fd_list::size(old);
+            let count = fd_list::size(old);
             let none = fd_list::empty();
             let w = slot::with_fds(v, none);
-            let q = p.queue;
-            let after = part::stored(p, w, q);
-            CallFdread {
-                answer: Answer::Descriptions(n as u64),
-                part: after,
-                holds: outside,
-            }
+            words::to_outside(s, old);
+            words::put(s, n, w);
+            return step::answered(Answer::Descriptions(count as u64));
         }
+        _ => step::answered(Answer::NotFound),
     }
 }

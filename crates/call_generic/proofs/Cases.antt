@@ -1,57 +1,86 @@
 -- The generic calls by their tests. Assumes nothing.
-use Prim.Native.Nat.{ℕ, _<_, _≤_}
-use mathlib.Core.Path.{_≡_, refl, _∙_}
+use Prim.Native.Nat.{ℕ, min, _<_, _≤_}
+use mathlib.Core.Path.{_≡_, refl, ap, _∙_}
 use mathlib.Core.Bool.{true, false}
-use mathlib.Core.List.{List, []}
+use mathlib.Core.List.{List, [], _∷_}
 use lib.ListN.{length}
 use borrow.Author.Tests.{eq-eqb, ne-eqb, lt-ltb, le-ltb}
-use Rattle.fd_list.specs.Lists.{listOf}
+use Rattle.fd_list.specs.declared.List.{List as Fds}
 use Rattle.opcode.specs.Opcodes.{call, stdFsCall}
-use Rattle.slot.specs.Slots.{waitingOf}
-use Rattle.state.specs.declared.State.{State}
-use Rattle.events.specs.World.{world, holdsOf, queueFull}
-use Rattle.events.specs.Outcome.{Outcome, outcome, no}
-use Rattle.events.specs.Submit.{wrongKind, kindByte, stdMeta, tableFull, begun, genericEntry, genericOf, stdfsOf}
-use Rattle.call_generic.specs.Generic.{genericWith}
+use Rattle.schemev2.specs.declared.Sqe.{Sqe}
+use Rattle.slot.specs.declared.Slot.{Slot}
+use Rattle.slot.specs.Slots.{noFds, waitingOf}
+use Rattle.events.specs.World.{World, tableOf, holdsOf, queueFull}
+use Rattle.events.specs.Outcome.{Answer, ok, no, readable}
+use Rattle.events.specs.Submit.{wrongKind, kindByte, stdMeta, tableFull, begun, genericRows, genericEntry, stdfsRows}
+use Rattle.events.specs.Event.{Event, on, generic, stdfs}
+use Rattle.layout.specs.Layout.{plainOf}
+use Rattle.layout.specs.Store.{storedAll, give, send}
+use Rattle.step.specs.Does.{Due, Does}
+use Rattle.step.proofs.Rows.{turned}
+use Rattle.step.proofs.Given.{does}
+use Rattle.call_generic.specs.Generic.{DoesWith}
 
-module _ (s : State) (ws : List ℕ) (op c pid : ℕ) (fds : List ℕ) (base len : ℕ) (ms : List ℕ) where
-  abbrev Done : Outcome → Type 0
-  Done o = o ≡ genericWith op (world s ws) c pid fds base len ms
+module _ (op : ℕ) (ws : List ℕ) (c pid : ℕ) (fds : List ℕ) (base len : ℕ) (ms : List ℕ) where
+  abbrev w : World
+  w = plainOf ws
 
-  module _ (fx : List ℕ) (none : fx ≡ []) where
-    pub no-fds : length fds ≡ 0 → Done (outcome (no 22) fx (world s ws))
-    no-fds q = rw (eq-eqb (length fds) 0 q, none) refl
+  abbrev f : ℕ → Sqe
+  f = genericEntry op pid fds base len ms
 
-    pub many-fds : (length fds ≡ 0 → ⊥) → 2 < length fds → Done (outcome (no 22) fx (world s ws))
-    many-fds q r = rw (ne-eqb (length fds) 0 q, lt-ltb 2 (length fds) r, none) refl
+  abbrev v : Slot
+  v = waitingOf c noFds
 
-    pub full : (length fds ≡ 0 → ⊥) → length fds ≤ 2 → tableFull (world s ws) ≡ true → Done (outcome (no 202) fx (world s ws))
-    full q r f = rw (ne-eqb (length fds) 0 q, le-ltb 2 (length fds) r, f, none) refl
+  module _ (a : Answer) (fx : List ℕ) where
+    abbrev Down : Type 0
+    Down = DoesWith op ws ws c pid fds base len ms a fx
 
-    pub queue-full :
-        (length fds ≡ 0 → ⊥) → length fds ≤ 2 → tableFull (world s ws) ≡ false → queueFull (world s ws) ≡ true
-        → Done (outcome (no 203) fx (world s ws))
-    queue-full q r f g = rw (ne-eqb (length fds) 0 q, le-ltb 2 (length fds) r, f, g, none) refl
+    down : (k : ℕ) → Due (genericRows w fds) k → a ≡ no k → fx ≡ [] → Down
+    down k d p q e is stores = turned ws e (genericRows w fds) (begun w v (holdsOf w) f) (give v ∷ send (f (tableOf w .head)) ∷ []) is stores k d a fx p q
+
+    pub no-fds : length fds ≡ 0 → a ≡ no 22 → fx ≡ [] → Down
+    no-fds q = down 22 (rw (eq-eqb (length fds) 0 q) refl)
+
+    pub many-fds : (length fds ≡ 0 → ⊥) → 2 < length fds → a ≡ no 22 → fx ≡ [] → Down
+    many-fds q r = down 22 (rw (ne-eqb (length fds) 0 q, lt-ltb 2 (length fds) r) refl)
+
+    pub full : (length fds ≡ 0 → ⊥) → length fds ≤ 2 → tableFull w ≡ true → a ≡ no 202 → fx ≡ [] → Down
+    full q r t = down 202 (rw (ne-eqb (length fds) 0 q, le-ltb 2 (length fds) r, t) refl)
+
+    pub queue-full : (length fds ≡ 0 → ⊥) → length fds ≤ 2 → tableFull w ≡ false → queueFull w ≡ true → a ≡ no 203 → fx ≡ [] → Down
+    queue-full q r t u = down 203 (rw (ne-eqb (length fds) 0 q, le-ltb 2 (length fds) r, t, u) refl)
 
   pub called :
-      (length fds ≡ 0 → ⊥) → length fds ≤ 2 → tableFull (world s ws) ≡ false → queueFull (world s ws) ≡ false → (o : Outcome)
-      → o ≡ begun (world s ws) (waitingOf c (listOf [])) (holdsOf (world s ws)) (genericEntry op pid fds base len ms) → Done o
-  called q r f g o e = e ∙ rw (ne-eqb (length fds) 0 q, le-ltb 2 (length fds) r, f, g) refl
+      (length fds ≡ 0 → ⊥) → length fds ≤ 2 → tableFull w ≡ false → queueFull w ≡ false → (n : ℕ) → n ≡ min (tableOf w .head) 64 → (l : Fds) → l ≡ noFds
+      → (u : Slot) → u ≡ waitingOf c l → (g : Sqe) → g ≡ f n → (a : Answer) (fx xs : List ℕ) → a ≡ ok (min (tableOf w .head) 64) → fx ≡ readable w
+      → xs ≡ storedAll ws (give u ∷ send g ∷ []) → DoesWith op ws xs c pid fds base len ms a fx
+  called q r t x n h l el u eu g eg a fx xs ea ef ex e is stores =
+      does ws e (genericRows w fds) v f is stores n u g xs fx a (rw (ne-eqb (length fds) 0 q, le-ltb 2 (length fds) r) refl, (t, (x, tt))) t h (eu ∙ ap (waitingOf c) el) eg ea ef ex
 
-module _ (s : State) (ws : List ℕ) (c pid : ℕ) (fds : List ℕ) (base len : ℕ) (ms : List ℕ) where
-  pub as-call : (op : ℕ) (o : Outcome) → op ≡ call → o ≡ genericWith op (world s ws) c pid fds base len ms → o ≡ genericOf (world s ws) c pid fds base len ms
-  as-call op o q e = e ∙ rw q refl
+module _ (ws xs : List ℕ) (c pid : ℕ) (fds : List ℕ) (base len : ℕ) (ms : List ℕ) (a : Answer) (fx : List ℕ) where
+  pub as-call : (op : ℕ) → op ≡ call → DoesWith op ws xs c pid fds base len ms a fx → Does ws xs (on (generic c pid fds base len ms)) a fx
+  as-call op q e = e (on (generic c pid fds base len ms)) (rw q refl) (rw q refl)
 
-  abbrev Is : Outcome → Type 0
-  Is o = o ≡ stdfsOf (world s ws) c pid fds base len ms
+  abbrev std : Event
+  std = on (stdfs c pid fds base len ms)
 
-  pub few-words : (fx : List ℕ) → fx ≡ [] → length ms < 3 → Is (outcome (no 22) fx (world s ws))
-  few-words fx none q = rw (lt-ltb (length ms) 3 q, none) refl
+  abbrev g : ℕ → Sqe
+  g = genericEntry stdFsCall pid fds base len (stdMeta ms)
 
-  pub no-kind : (fx : List ℕ) → fx ≡ [] → 3 ≤ length ms → wrongKind (kindByte ms) ≡ true → Is (outcome (no 95) fx (world s ws))
-  no-kind fx none q r = rw (le-ltb (length ms) 3 q, r, none) refl
+  abbrev world : World
+  world = plainOf ws
+
+  stopped : (k : ℕ) → Due (stdfsRows world fds ms) k → a ≡ no k → fx ≡ [] → Does ws ws std a fx
+  stopped k d =
+      turned ws std (stdfsRows world fds ms) (begun world (waitingOf c noFds) (holdsOf world) g) (give (waitingOf c noFds) ∷ send (g (tableOf world .head)) ∷ []) refl refl k d a fx
+
+  pub few-words : length ms < 3 → a ≡ no 22 → fx ≡ [] → Does ws ws std a fx
+  few-words q = stopped 22 (rw (lt-ltb (length ms) 3 q) refl)
+
+  pub no-kind : 3 ≤ length ms → wrongKind (kindByte ms) ≡ true → a ≡ no 95 → fx ≡ [] → Does ws ws std a fx
+  no-kind q r = stopped 95 (rw (le-ltb (length ms) 3 q, r) refl)
 
   pub translated :
-      (op : ℕ) (o : Outcome) → op ≡ stdFsCall → 3 ≤ length ms → wrongKind (kindByte ms) ≡ false
-      → o ≡ genericWith op (world s ws) c pid fds base len (stdMeta ms) → Is o
-  translated op o p q r e = e ∙ rw (p, le-ltb (length ms) 3 q, r) refl
+      (op : ℕ) → op ≡ stdFsCall → 3 ≤ length ms → wrongKind (kindByte ms) ≡ false
+      → DoesWith op ws xs c pid fds base len (stdMeta ms) a fx → Does ws xs std a fx
+  translated op p q r e = e std (rw (p, le-ltb (length ms) 3 q, r) refl) (rw (p, le-ltb (length ms) 3 q, r) refl)

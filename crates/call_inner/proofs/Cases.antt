@@ -1,13 +1,16 @@
 -- A wake by its tests; k is the slot number of the tag n. Assumes nothing.
-use Prim.Native.Nat.{ℕ, _<_, _≤_}
+use Prim.Native.Nat.{ℕ, min, _<_, _≤_}
 use mathlib.Core.Path.{_≡_, refl, sym, ap, ap₂, _∙_}
-use mathlib.Core.Bool.{Bool, true, false}
-use mathlib.Core.List.{List, []}
+use mathlib.Core.Bool.{Bool, true, false, cond}
+use mathlib.Core.List.{List, [], _∷_}
 use native.Mathlib.Omega.{arith}
-use lib.Dec.{eqb}
-use lib.ListN.{set, getD}
-use borrow.Author.Tests.{lt-ltb, le-ltb}
+use lib.Dec.{eqb, leb, ltb}
+use lib.ListN.{getD}
+use borrow.Author.Tests.{lt-ltb, le-ltb, ltb-true}
 use Rattle.answer.specs.declared.Answer.{Answer as Case}
+use Rattle.counts.specs.Counts.{moreAll}
+use Rattle.fd_list.specs.declared.List.{List as Fds}
+use Rattle.fd_list.specs.Lists.{numbers}
 use Rattle.holds.specs.declared.Holds.{Holds}
 use Rattle.holds.specs.Holds.{outsideOf}
 use Rattle.ids.specs.declared.SlotNo.{SlotNo}
@@ -19,27 +22,36 @@ use Rattle.slot.specs.declared.Phase.{Phase}
 use Rattle.slot.specs.declared.Phase.the-variants.{Vacant, Placeholder, Waiting, Responded, Fmap}
 use Rattle.slot.specs.declared.Slot.{Slot}
 use Rattle.slot.specs.Slots.{phaseOf, vacantSlot, canceledOf, interruptedOf}
-use Rattle.state.specs.declared.State.{State}
-use Rattle.table.specs.Table.{noSlot, stored, putAt}
-use Rattle.table.proofs.Cases.{slot-out, slot-in, put-in, vacate-in}
-use Rattle.wait_queue.specs.declared.WaitQueue.{WaitQueue}
-use Rattle.wait_queue.specs.Queue.{sentOf, sentWords}
-use Rattle.events.specs.World.{World, world, slotIn, phaseIn, tableWith, queueFull}
-use Rattle.events.specs.Outcome.{Response, success, Outcome, outcome, saidWith, no, blocked, reply, refuse, checked, readable}
-use Rattle.events.specs.Wake.{responseOf, heldIn, cancelEntry, handedOver, interrupted, blockedBy, waitedBy, wokenBy, wakeable, wakeRows, wakeOf}
+use Rattle.table.specs.Table.{noSlot}
+use Rattle.events.specs.World.{World, tableOf, holdsOf, queueOf, slotIn, phaseIn, queueFull}
+use Rattle.events.specs.Outcome.{Answer, Response, Outcome, outcome, saidWith, no, blocked, reply, refuse, checked, readable}
+use Rattle.events.specs.Wake.{responseOf, heldIn, cancelEntry, handedOver, interrupted, blockedBy, waitedBy, wokenBy, wakeable, wakeRows}
+use Rattle.events.specs.Event.{Event, on, wake, step}
+use Rattle.layout.specs.Layout.{plainOf}
+use Rattle.layout.specs.Store.{Store, put, vacate, send, outside, stored, storedAll}
+use Rattle.packed.specs.Stores.{unless, blockedStores, waitedStores, wokenStores, storesOf}
+use Rattle.step.specs.Does.{Does}
+use Rattle.step.proofs.Rows.{turned}
+use Rattle.step.proofs.Tests.{slot-of-in}
 use Rattle.wake_decision.specs.declared.Decided.{Decided}
 use Rattle.wake_decision.specs.declared.Turn.{Turn}
 use Rattle.wake_decision.specs.declared.Turn.the-variants.{Stay, Interrupt, Cancel, HandOver}
 use Rattle.wake_decision.specs.Wake.{decidedOf}
 
--- what each turn comes to
-abbrev carried : Turn → Case → World → ℕ → PageSpan → Response → Outcome
-carried Stay a w n span r = outcome (saidWith r a) [] w
-carried Interrupt a w n span r = interrupted w n span
-carried Cancel a w n span r = blockedBy false false w n
-carried HandOver a w n span r = handedOver w n
+-- what each turn comes to, and what it stores
+abbrev said : Turn → Case → World → ℕ → PageSpan → Response → Outcome
+said Stay a w n span r = outcome (saidWith r a) [] w
+said Interrupt a w n span r = interrupted w n span
+said Cancel a w n span r = blockedBy false false w n
+said HandOver a w n span r = handedOver w n
 
--- the definition, by the tests that the decision makes
+abbrev stores : Turn → World → ℕ → PageSpan → List Store
+stores Stay w n span = []
+stores Interrupt w n span = put n (interruptedOf (slotIn w n) span) ∷ []
+stores Cancel w n span = put n (canceledOf (slotIn w n)) ∷ send (cancelEntry n) ∷ []
+stores HandOver w n span = outside (outsideOf (holdsOf w) (heldIn (responseOf (slotIn w n))) .outside) ∷ vacate n ∷ []
+
+-- the definitions, by the tests that the decision makes
 abbrev waitedAs : Bool → Bool → Bool → World → ℕ → PageSpan → Outcome
 waitedAs true c f w n span = interrupted w n span
 waitedAs false c f w n span = blockedBy c f w n
@@ -51,24 +63,38 @@ wokenAs Waiting k c f w n span = waitedAs k c f w n span
 wokenAs Responded k c f w n span = handedOver w n
 wokenAs Fmap k c f w n span = refuse w 77
 
-abbrev wakeAs : Phase → Bool → Bool → Bool → Bool → World → ℕ → PageSpan → Outcome
-wakeAs p y k c f w n span = checked (refuse w) (wakeRows false p y) (wokenAs p k c f w n span)
+abbrev waitedSs : Bool → Bool → Bool → World → ℕ → PageSpan → List Store
+waitedSs true c f w n span = put n (interruptedOf (slotIn w n) span) ∷ []
+waitedSs false c f w n span = blockedStores c f w n
+
+abbrev wokenSs : Phase → Bool → Bool → Bool → World → ℕ → PageSpan → List Store
+wokenSs Vacant k c f w n span = []
+wokenSs Placeholder k c f w n span = []
+wokenSs Waiting k c f w n span = waitedSs k c f w n span
+wokenSs Responded k c f w n span = outside (outsideOf (holdsOf w) (heldIn (responseOf (slotIn w n))) .outside) ∷ vacate n ∷ []
+wokenSs Fmap k c f w n span = []
 
 module _ (w : World) (n : ℕ) (span : PageSpan) (r : Response) where
-  abbrev By : Phase → Bool → Bool → Bool → Bool → Type 0
-  By p y k c f = carried (decidedOf p y k c f .turn) (decidedOf p y k c f .answer) w n span r ≡ wakeAs p y k c f w n span
+  record Same (d : Decided) (o : Outcome) (ss : List Store) : Type 0 where
+    outcome : said (d .turn) (d .answer) w n span r ≡ o
+    stored : stores (d .turn) w n span ≡ ss
 
-  decided-is : (p : Phase) (y k c f : Bool) → By p y k c f
-  decided-is Vacant y k c f = refl
-  decided-is Placeholder y k c f = refl
-  decided-is Fmap y k c f = refl
-  decided-is Waiting false k c f = refl
-  decided-is Waiting true true c f = refl
-  decided-is Waiting true false true f = refl
-  decided-is Waiting true false false true = refl
-  decided-is Waiting true false false false = refl
-  decided-is Responded false k c f = refl
-  decided-is Responded true k c f = refl
+  both : (d : Decided) → Same d (said (d .turn) (d .answer) w n span r) (stores (d .turn) w n span)
+  both d = record { outcome = refl; stored = refl }
+
+  decided-is :
+      (p : Phase) (y k c f : Bool)
+      → Same (decidedOf p y k c f) (checked (refuse w) (wakeRows false p y) (wokenAs p k c f w n span)) (unless (wakeRows false p y) (wokenSs p k c f w n span))
+  decided-is Vacant y k c f = both (decidedOf Vacant y k c f)
+  decided-is Placeholder y k c f = both (decidedOf Placeholder y k c f)
+  decided-is Fmap y k c f = both (decidedOf Fmap y k c f)
+  decided-is Waiting false k c f = both (decidedOf Waiting false k c f)
+  decided-is Waiting true true c f = both (decidedOf Waiting true true c f)
+  decided-is Waiting true false true f = both (decidedOf Waiting true false true f)
+  decided-is Waiting true false false true = both (decidedOf Waiting true false false true)
+  decided-is Waiting true false false false = both (decidedOf Waiting true false false false)
+  decided-is Responded false k c f = both (decidedOf Responded false k c f)
+  decided-is Responded true k c f = both (decidedOf Responded true k c f)
 
 module _ (w : World) (n killed : ℕ) (span : PageSpan) where
   waited-is : (k : Bool) → waitedAs k (slotIn w n .canceling) (queueFull w) w n span ≡ waitedBy k w n span
@@ -82,73 +108,111 @@ module _ (w : World) (n killed : ℕ) (span : PageSpan) where
   woken-is Responded = refl
   woken-is Fmap = refl
 
-module _ (s : State) (ws : List ℕ) (n : Tag) (c killed base count : ℕ) where
+  waited-ss : (k : Bool) → waitedSs k (slotIn w n .canceling) (queueFull w) w n span ≡ waitedStores k w n span
+  waited-ss true = refl
+  waited-ss false = refl
+
+  woken-ss : (p : Phase) → wokenSs p (eqb killed 1) (slotIn w n .canceling) (queueFull w) w n span ≡ wokenStores p w n killed span
+  woken-ss Vacant = refl
+  woken-ss Placeholder = refl
+  woken-ss Waiting = waited-ss (eqb killed 1)
+  woken-ss Responded = refl
+  woken-ss Fmap = refl
+
+-- a tag over 63 names no slot: its slot is vacant, and nothing is done there
+low : (w : World) (n : ℕ) → (phaseIn w n ≡ Vacant → ⊥) → min n 64 ≡ n
+low w n z = go (ltb n 64) refl z
+  where
+    go : (b : Bool) → ltb n 64 ≡ b → (phaseOf (cond b (getD (tableOf w .slots) n noSlot) vacantSlot) ≡ Vacant → ⊥) → min n 64 ≡ n
+    go true e z = omega (arith, ltb-true n 64 e)
+    go false e z = absurd (z refl)
+
+abbrev stays : Turn → ℕ
+stays Stay = 0
+stays Interrupt = 1
+stays Cancel = 2
+stays HandOver = 3
+
+module _ (ws : List ℕ) (n : Tag) (c killed base count : ℕ) where
   abbrev span : PageSpan
   span = record { base = base; count = count }
 
   abbrev w : World
-  w = world s ws
+  w = plainOf ws
 
-  abbrev Is : Outcome → Type 0
-  Is o = o ≡ wakeOf w (n .0) c killed base count
+  abbrev e : Event
+  e = on (wake (n .0) c killed base count)
 
-  module _ (fx : List ℕ) (none : fx ≡ []) where
-    pub bad-killed : 1 < killed → Is (outcome (no 205) fx w)
-    bad-killed q = rw (lt-ltb 1 killed q, none) refl
+  pub bad-killed : 1 < killed → (a : Answer) (fx : List ℕ) → a ≡ no 205 → fx ≡ [] → Does ws ws e a fx
+  bad-killed q =
+      let b = lt-ltb 1 killed q in
+      turned ws e (wakeRows (ltb 1 killed) (phaseIn w (n .0)) (wakeable (slotIn w (n .0)) c)) (wokenBy (phaseIn w (n .0)) w (n .0) killed span) (wokenStores (phaseIn w (n .0)) w (n .0) killed span) refl refl 205
+      (rw b refl)
 
-    module _ (k : SlotNo) (is : k ≡ slotOf n) (x : killed ≤ 1) where
-      pub no-slot : 64 ≤ k .0 → Is (outcome (no 77) fx w)
-      no-slot h =
-          let p : phaseIn w (n .0) ≡ Vacant = ap phaseOf (sym (slot-out (s .table) n k is vacantSlot refl h)) in rw (le-ltb 1 killed x, p, none) refl
+  module _ (x : killed ≤ 1) (k : SlotNo) (is : k ≡ slotOf n) (v : Slot) (at : v ≡ slotIn w (k .0)) (unread : ℕ) (ul : unread ≡ queueOf w .len) (d : Decided) (ed : d ≡ decidedOf (phaseOf v) (wakeable v c) (eqb killed 1) (v .canceling) (leb 128 unread)) where
+    here : v ≡ slotIn w (n .0)
+    here = at ∙ ap (λ (y : SlotNo). slotIn w (y .0)) is ∙ slot-of-in w (n .0)
 
-      module _ (h : k .0 < 64) (v : Slot) (at : v ≡ getD (s .table .slots) (k .0) noSlot) where
-        here : v ≡ slotIn w (n .0)
-        here = at ∙ slot-in (s .table) n k is h
+    abbrev told : Decided
+    told = decidedOf (phaseIn w (n .0)) (wakeable (slotIn w (n .0)) c) (eqb killed 1) (slotIn w (n .0) .canceling) (queueFull w)
 
-        whole : wakeAs (phaseOf v) (wakeable v c) (eqb killed 1) (v .canceling) (queueFull w) w (n .0) span ≡ wakeOf w (n .0) c killed base count
-        whole =
-            ap (λ (u : Slot). wakeAs (phaseOf u) (wakeable u c) (eqb killed 1) (u .canceling) (queueFull w) w (n .0) span) here
-            ∙ ap₂ (λ (b : Bool) (o : Outcome). checked (refuse w) (wakeRows b (phaseIn w (n .0)) (wakeable (slotIn w (n .0)) c)) o) (sym (le-ltb 1 killed x)) (woken-is w (n .0) killed span (phaseIn w (n .0)))
+    told-is : d ≡ told
+    told-is = ed ∙ λ i. decidedOf (phaseOf (here i)) (wakeable (here i) c) (eqb killed 1) (here i .canceling) (leb 128 (ul i))
 
-        module _ (d : Decided) (ed : d ≡ decidedOf (phaseOf v) (wakeable v c) (eqb killed 1) (v .canceling) (queueFull w)) where
-          turned : (t : Turn) (o : Outcome) (r : Response) → d .turn ≡ t → o ≡ carried t (d .answer) w (n .0) span r → Is o
-          turned t o r et eo =
-              eo
-              ∙ ap (λ (u : Turn). carried u (d .answer) w (n .0) span r) (sym et)
-              ∙ ap (λ (e : Decided). carried (e .turn) (e .answer) w (n .0) span r) ed
-              ∙ decided-is w (n .0) span r (phaseOf v) (wakeable v c) (eqb killed 1) (v .canceling) (queueFull w)
-              ∙ whole
+    module _ (r : Response) where
+      abbrev Rows : Outcome → List Store → Type 0
+      Rows o ss = Same w (n .0) span r told o ss
 
-          pub stays : (r : Response) → d .turn ≡ Stay → Is (outcome (saidWith r (d .answer)) fx w)
-          stays r et = turned Stay _ r et (ap (λ (z : List ℕ). outcome (saidWith r (d .answer)) z w) none)
+      same :
+          Rows (checked (refuse w) (wakeRows false (phaseIn w (n .0)) (wakeable (slotIn w (n .0)) c)) (wokenAs (phaseIn w (n .0)) (eqb killed 1) (slotIn w (n .0) .canceling) (queueFull w) w (n .0) span))
+          (unless (wakeRows false (phaseIn w (n .0)) (wakeable (slotIn w (n .0)) c)) (wokenSs (phaseIn w (n .0)) (eqb killed 1) (slotIn w (n .0) .canceling) (queueFull w) w (n .0) span))
+      same = decided-is w (n .0) span r (phaseIn w (n .0)) (wakeable (slotIn w (n .0)) c) (eqb killed 1) (slotIn w (n .0) .canceling) (queueFull w)
 
-          pub killed-now :
-              (u : Slot) → d .turn ≡ Interrupt → u ≡ interruptedOf v span
-              → Is (outcome (no 4) fx (world (record { driver = s .driver; table = stored (s .table) (k .0) u }) ws))
-          killed-now u et eu =
-              let p : stored (s .table) (k .0) u ≡ putAt (s .table) (n .0) (interruptedOf (slotIn w (n .0)) span) =
-              put-in (s .table) n k is u h ∙ ap (putAt (s .table) (n .0)) (eu ∙ ap (λ (z : Slot). interruptedOf z span) here) in
-              turned Interrupt _ (success 0 0 false) et (λ i. outcome (no 4) (none i) (world (record { driver = s .driver; table = p i }) ws))
+      whole : said (told .turn) (told .answer) w (n .0) span r ≡ step w e
+      whole =
+          same .outcome
+          ∙ ap₂ (λ (b : Bool) (o : Outcome). checked (refuse w) (wakeRows b (phaseIn w (n .0)) (wakeable (slotIn w (n .0)) c)) o) (sym (le-ltb 1 killed x)) (woken-is w (n .0) killed span (phaseIn w (n .0)))
 
-          pub blocked-now :
-              (u : Slot) (e : Sqe) (q : WaitQueue) (xs gx : List ℕ) → d .turn ≡ Cancel → u ≡ canceledOf v → e ≡ cancelEntry (k .0)
-              → q ≡ sentOf (s .driver .queue) .queue → xs ≡ sentWords (s .driver .queue) ws e → gx ≡ readable w
-              → Is (outcome blocked gx (world (record { driver = record { scheme = s .driver .scheme; handles = s .driver .handles; queue = q }; table = stored (s .table) (k .0) u }) xs))
-          blocked-now u e q xs gx et eu ee eq ex eg =
-              let m : k .0 ≡ n .0 = omega (arith, ap (λ (z : SlotNo). z .0) is, h) in
-              let p : stored (s .table) (k .0) u ≡ putAt (s .table) (n .0) (canceledOf (slotIn w (n .0))) =
-              put-in (s .table) n k is u h ∙ ap (putAt (s .table) (n .0)) (eu ∙ ap canceledOf here) in
-              let ew : xs ≡ sentWords (s .driver .queue) ws (cancelEntry (n .0)) =
-              ex ∙ ap (sentWords (s .driver .queue) ws) (ee ∙ ap cancelEntry m) in
-              turned Cancel _ (success 0 0 false) et
-              (λ i. outcome blocked (eg i) (world (record { driver = record { scheme = s .driver .scheme; handles = s .driver .handles; queue = eq i }; table = p i }) (ew i)))
+      all-stores : stores (told .turn) w (n .0) span ≡ storesOf w e
+      all-stores =
+          same .stored
+          ∙ ap₂ (λ (b : Bool) (ss : List Store). unless (wakeRows b (phaseIn w (n .0)) (wakeable (slotIn w (n .0)) c)) ss) (sym (le-ltb 1 killed x)) (woken-ss w (n .0) killed span (phaseIn w (n .0)))
 
-          pub handed :
-              (u : Slot) (g : Holds) → d .turn ≡ HandOver → u ≡ vacantSlot → g ≡ outsideOf (s .table .holds) (heldIn (responseOf v))
-              → Is (outcome (reply (responseOf v)) fx
-              (world (record { driver = s .driver; table = record { slots = set (s .table .slots) (k .0) u; next = set (s .table .next) (k .0) (s .table .head); head = k .0; holds = g } }) ws))
-          handed u g et eu eg =
-              let p = vacate-in (s .table) n k is u eu h in
-              let eh : g ≡ outsideOf (s .table .holds) (heldIn (responseOf (slotIn w (n .0)))) = eg ∙ ap (λ (z : Slot). outsideOf (s .table .holds) (heldIn (responseOf z))) here in
-              let er : responseOf v ≡ responseOf (slotIn w (n .0)) = ap responseOf here in
-              turned HandOver _ (success 0 0 false) et (λ i. outcome (reply (er i)) (none i) (world (record { driver = s .driver; table = tableWith (p i) (eh i) }) ws))
+      does : (t : Turn) → d .turn ≡ t → (xs : List ℕ) (a : Answer) (fx : List ℕ) → a ≡ said t (d .answer) w (n .0) span r .answer → fx ≡ said t (d .answer) w (n .0) span r .effects → xs ≡ storedAll ws (stores t w (n .0) span) → Does ws xs e a fx
+      does t et xs a fx ea ef ex =
+          let q : said t (d .answer) w (n .0) span r ≡ step w e = ap (λ (u : Turn). said u (d .answer) w (n .0) span r) (sym et) ∙ ap (λ (u : Decided). said (u .turn) (u .answer) w (n .0) span r) told-is ∙ whole in
+          let z : stores t w (n .0) span ≡ storesOf w e = ap (λ (u : Turn). stores u w (n .0) span) (sym et) ∙ ap (λ (u : Decided). stores (u .turn) w (n .0) span) told-is ∙ all-stores in
+          record { answer = ea ∙ ap (λ (o : Outcome). o .answer) q; effects = ef ∙ ap (λ (o : Outcome). o .effects) q; words = ex ∙ ap (storedAll ws) z }
+
+    pub stay : (r : Response) (a : Answer) (fx : List ℕ) → d .turn ≡ Stay → a ≡ saidWith r (d .answer) → fx ≡ [] → Does ws ws e a fx
+    stay r a fx et ea ef = does r Stay et ws a fx ea ef refl
+
+    -- a slot that something is done to is within the 64
+    not-vacant : (t : Turn) → d .turn ≡ t → (stays t ≡ 0 → ⊥) → k .0 ≡ n .0
+    not-vacant t et z =
+        ap (λ (y : SlotNo). y .0) is
+        ∙ low w (n .0)
+        (λ q. z (ap stays (sym et ∙ ap (λ (u : Decided). u .turn) told-is ∙ ap (λ (p : Phase). decidedOf p (wakeable (slotIn w (n .0)) c) (eqb killed 1) (slotIn w (n .0) .canceling) (queueFull w) .turn) q)))
+
+    pub killed-now :
+        (r : Response) (a : Answer) (fx : List ℕ) (u : Slot) (xs : List ℕ) → d .turn ≡ Interrupt → a ≡ no 4 → fx ≡ [] → u ≡ interruptedOf v span → xs ≡ stored ws (put (k .0) u)
+        → Does ws xs e a fx
+    killed-now r a fx u xs et ea ef eu ex =
+        let j = not-vacant Interrupt et (λ q. omega (arith, q)) in
+        does r Interrupt et xs a fx ea ef (ex ∙ ap₂ (λ (m : ℕ) (y : Slot). stored ws (put m y)) j (eu ∙ ap (λ (y : Slot). interruptedOf y span) here))
+
+    pub blocked-now :
+        (r : Response) (a : Answer) (fx : List ℕ) (u : Slot) (g : Sqe) (xs : List ℕ) → d .turn ≡ Cancel → a ≡ blocked → fx ≡ readable w → u ≡ canceledOf v → g ≡ cancelEntry (k .0)
+        → xs ≡ storedAll ws (put (k .0) u ∷ send g ∷ []) → Does ws xs e a fx
+    blocked-now r a fx u g xs et ea ef eu eg ex =
+        let j = not-vacant Cancel et (λ q. omega (arith, q)) in
+        does r Cancel et xs a fx ea ef (ex ∙ λ i. storedAll ws (put (j i) ((eu ∙ ap canceledOf here) i) ∷ send ((eg ∙ ap cancelEntry j) i) ∷ []))
+
+    pub handed :
+        (fx : List ℕ) (o : Fds) (xs ys : List ℕ) → d .turn ≡ HandOver → fx ≡ [] → outsideOf (holdsOf w) (numbers o) ≡ outsideOf (holdsOf w) (heldIn (responseOf v))
+        → xs ≡ stored ws (outside (moreAll (holdsOf w .outside) (numbers o))) → ys ≡ stored xs (vacate (k .0)) → Does ws ys e (reply (responseOf v)) fx
+    handed fx o xs ys et ef eo ex ey =
+        let j = not-vacant HandOver et (λ q. omega (arith, q)) in
+        let h : moreAll (holdsOf w .outside) (numbers o) ≡ outsideOf (holdsOf w) (heldIn (responseOf (slotIn w (n .0)))) .outside = ap (λ (z : Holds). z .outside) eo ∙ ap (λ (y : Slot). outsideOf (holdsOf w) (heldIn (responseOf y)) .outside) here in
+        does (responseOf v) HandOver et ys (reply (responseOf v)) fx (ap (λ (y : Slot). reply (responseOf y)) here) ef
+        (ey ∙ λ i. stored ((ex ∙ ap (λ (z : List ℕ). stored ws (outside z)) h) i) (vacate (j i)))

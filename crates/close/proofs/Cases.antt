@@ -1,34 +1,33 @@
--- Close and detach by their test. Assumes nothing.
-use Prim.Native.Nat.{ℕ, _+_}
-use mathlib.Core.Path.{_≡_, refl, ap₂, _∙_}
+-- `close` and `detach` by their test. Assumes nothing.
+use Prim.Native.Nat.{ℕ}
+use mathlib.Core.Path.{_≡_, refl, ap, _∙_}
 use mathlib.Core.Bool.{true, false}
-use mathlib.Core.List.{List, []}
-use Rattle.flag.specs.Flags.{eventRead, eventHup}
+use mathlib.Core.List.{List, [], _∷_}
 use Rattle.schemev2.specs.declared.Sqe.{Sqe}
-use Rattle.state.specs.declared.State.{State}
-use Rattle.wait_queue.specs.declared.WaitQueue.{WaitQueue}
-use Rattle.wait_queue.specs.Queue.{sentOf, sentWords}
-use Rattle.events.specs.World.{world, queueFull}
-use Rattle.events.specs.Outcome.{Outcome, outcome, ok, no, refuse, checked, rootWords}
+use Rattle.events.specs.World.{World, queueFull}
+use Rattle.events.specs.Outcome.{Answer, ok, no, rootEffect, checked, refuse}
 use Rattle.events.specs.Submit.{queueRows, notified}
+use Rattle.events.specs.Event.{Event, step}
+use Rattle.layout.specs.Layout.{plainOf}
+use Rattle.layout.specs.Store.{storedAll, send}
+use Rattle.packed.specs.Stores.{unless, storesOf}
+use Rattle.step.specs.Does.{Does}
+use Rattle.step.proofs.Rows.{turned, carried}
 
-module _ (s : State) (ws : List ℕ) (bits : ℕ) (e : Sqe) where
-  -- what an event that queues e answers and leaves
-  abbrev Is : Outcome → Type 0
-  Is o = o ≡ checked (refuse (world s ws)) (queueRows (world s ws)) (notified (world s ws) bits e)
+-- an event that queues the entry f, with the root's event and these flags
+module _
+    (ws : List ℕ) (e : Event) (flags : ℕ) (f : Sqe)
+    (is : step (plainOf ws) e ≡ checked (refuse (plainOf ws)) (queueRows (plainOf ws)) (notified (plainOf ws) flags f))
+    (stores : storesOf (plainOf ws) e ≡ unless (queueRows (plainOf ws)) (send f ∷ []))
+  where
+    abbrev w : World
+    w = plainOf ws
 
-  pub full : (fx : List ℕ) → fx ≡ [] → queueFull (world s ws) ≡ true → Is (outcome (no 203) fx (world s ws))
-  full fx none q = rw (q, none) refl
+    pub full : queueFull w ≡ true → (a : Answer) (fx : List ℕ) → a ≡ no 203 → fx ≡ [] → Does ws ws e a fx
+    full q = turned ws e (queueRows w) (notified w flags f) (send f ∷ []) is stores 203 (rw q refl)
 
-  abbrev left : WaitQueue → State
-  left q = record { driver = record { scheme = s .driver .scheme; handles = s .driver .handles; queue = q }; table = s .table }
-
-  pub sent :
-      queueFull (world s ws) ≡ false → (q : WaitQueue) (xs fx : List ℕ) → q ≡ sentOf (s .driver .queue) .queue
-      → xs ≡ sentWords (s .driver .queue) ws e → fx ≡ rootWords (s .driver .scheme) bits → Is (outcome (ok 0) fx (world (left q) xs))
-  sent r q xs fx eq ex ef =
-      let last : notified (world s ws) bits e ≡ checked (refuse (world s ws)) (queueRows (world s ws)) (notified (world s ws) bits e) = rw r refl in
-      (λ i. outcome (ok 0) (ef i) (world (left (eq i)) (ex i))) ∙ last
-
-pub flags : (a b : ℕ) → a ≡ eventRead → b ≡ eventHup → a + b ≡ eventRead + eventHup
-flags a b p q = ap₂ (λ (x y : ℕ). x + y) p q
+    pub queued :
+        (bits : ℕ) (g : Sqe) (xs fx : List ℕ) (a : Answer) → queueFull w ≡ false → bits ≡ flags → g ≡ f → a ≡ ok 0 → fx ≡ rootEffect w bits → xs ≡ storedAll ws (send g ∷ [])
+        → Does ws xs e a fx
+    queued bits g xs fx a q b h p r x =
+        carried ws e (queueRows w) (notified w flags f) (send f ∷ []) is stores (q, tt) xs a fx p (r ∙ ap (rootEffect w) b) (x ∙ ap (λ (y : Sqe). storedAll ws (send y ∷ [])) h)

@@ -1,4 +1,2 @@
 pub mod Opcodes
 pub mod Taken
-pub mod Begun
-pub mod Parts

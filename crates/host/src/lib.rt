@@ -1,107 +1,133 @@
-// The host's five events on the whole state (01, "Slots and holds"). A refusal changes nothing.
+// The host's five events (01, "Slots and holds"): open, copy, drop, put, ended. A refusal stores nothing.
 use answer::Answer;
-use holds::Holds;
-use ids::Handle;
-use state::State;
+use ids::DescriptionFound;
+use ids::Tag;
+use slot::Phase;
+use slot::Slot;
+use step::Step;
 ghost use mathlib.Core.Path.{_≡_};
-ghost use mathlib.Core.List.{List, []};
-ghost use Prim.Native.Nat.{ℕ};
-ghost use Rattle.events.specs.World.{world};
-ghost use Rattle.events.specs.Outcome.{outcome, said};
-ghost use Rattle.events.specs.Host.{hostOpenOf, hostCopyOf, hostDropOf, hostPutOf, hostEndedOf};
-ghost use Rattle.host.specs.Holds.{stateWithHolds};
-
-pub struct HostStep {
-    pub answer: Answer,
-    pub state: State,
-}
-
-fn with_holds(s: State, h: Holds) -> State
-    ensures { λ r. ⌜ r ≡ stateWithHolds s h ⌝ }
-{
-    let mut t = s.table;
-    t.holds = h;
-    let mut u = s;
-    u.table = t;
-    u
-}
+ghost use Rattle.effect.specs.Effect.{effectWords};
+ghost use Rattle.events.specs.Outcome.{said};
+ghost use Rattle.events.specs.Event.{hostOpen, hostCopy, hostDrop, hostEnded, on, hostPut};
+ghost use Rattle.layout.specs.Layout.{plainOf};
+ghost use Rattle.layout.specs.Store.{storedAll};
+ghost use Rattle.packed.specs.Stores.{has as hasSlot, marks};
+ghost use Rattle.step.specs.Does.{Does};
 
 // A description that is not open gets its first hold, an outside one.
-pub fn open(s: State, description: u64) -> HostStep
-    ensures { λ r. ⌜ ((ws : List ℕ) → outcome (said (r .answer)) [] (world (r .state) ws) ≡ hostOpenOf (world s ws) description) ⌝ }
+pub fn open(s: &mut [u64; 2060], description: u64) -> Step
+    ensures { λ r. ⌜ Does (now (s .entry)) (now (s .exit)) (hostOpen description) (said (r .answer)) (effectWords (r .effect)) ⌝ }
 {
-    let t = s.table;
-    let h = t.holds;
-    let done = host_holds::open_hold(h, description);
-    let answer = done.answer;
-    let opened = done.holds;
-    HostStep {
-        answer: answer,
-        state: with_holds(s, opened),
+    words::sized(s);
+    let found = ids::description_of(description);
+    match found {
+        DescriptionFound::Outside => step::answered(Answer::BadArgument),
+        DescriptionFound::At(d) => {
+            if words::holds_of(s, d) != 0 {
+                return step::answered(Answer::BadArgument);
+            }
+            words::raise_outside(s, d);
+            words::raise(s, d);
+            return step::answered(Answer::Done);
+        }
     }
 }
 
 // One outside hold more.
-pub fn copy(s: State, description: u64) -> HostStep
-    ensures { λ r. ⌜ ((ws : List ℕ) → outcome (said (r .answer)) [] (world (r .state) ws) ≡ hostCopyOf (world s ws) description) ⌝ }
+pub fn copy(s: &mut [u64; 2060], description: u64) -> Step
+    ensures { λ r. ⌜ Does (now (s .entry)) (now (s .exit)) (hostCopy description) (said (r .answer)) (effectWords (r .effect)) ⌝ }
 {
-    let t = s.table;
-    let h = t.holds;
-    let done = host_holds::copy_hold(h, description);
-    let answer = done.answer;
-    let copied = done.holds;
-    HostStep {
-        answer: answer,
-        state: with_holds(s, copied),
+    words::sized(s);
+    let found = words::held(s, description);
+    match found {
+        DescriptionFound::Outside => step::answered(Answer::BadArgument),
+        DescriptionFound::At(d) => {
+            if words::holds_of(s, d) == 65535 {
+                return step::answered(Answer::TooManyHolds);
+            }
+            words::raise_outside(s, d);
+            words::raise(s, d);
+            return step::answered(Answer::Done);
+        }
     }
 }
 
 // One outside hold dropped. No effect follows, also of the last.
-pub fn drop(s: State, description: u64) -> HostStep
-    ensures { λ r. ⌜ ((ws : List ℕ) → outcome (said (r .answer)) [] (world (r .state) ws) ≡ hostDropOf (world s ws) description) ⌝ }
+pub fn drop(s: &mut [u64; 2060], description: u64) -> Step
+    ensures { λ r. ⌜ Does (now (s .entry)) (now (s .exit)) (hostDrop description) (said (r .answer)) (effectWords (r .effect)) ⌝ }
 {
-    let t = s.table;
-    let h = t.holds;
-    let done = host_holds::drop_hold(h, description);
-    let answer = done.answer;
-    let dropped = done.holds;
-    HostStep {
-        answer: answer,
-        state: with_holds(s, dropped),
+    words::sized(s);
+    let found = words::held(s, description);
+    match found {
+        DescriptionFound::Outside => step::answered(Answer::BadArgument),
+        DescriptionFound::At(d) => {
+            words::lower_outside(s, d);
+            words::lower(s, d);
+            return step::answered(Answer::Done);
+        }
     }
 }
 
 // One outside hold moves into an empty handle.
-pub fn put(s: State, description: u64, handle: u64) -> HostStep
-    ensures { λ r. ⌜ ((ws : List ℕ) → outcome (said (r .answer)) [] (world (r .state) ws) ≡ hostPutOf (world s ws) description handle) ⌝ }
+pub fn put(s: &mut [u64; 2060], description: u64, handle: u64) -> Step
+    ensures { λ r. ⌜ Does (now (s .entry)) (now (s .exit)) (on (hostPut description handle)) (said (r .answer)) (effectWords (r .effect)) ⌝ }
 {
-    let t = s.table;
-    let h = t.holds;
-    let mut d = s.driver;
-    let n = d.handles;
-    let done = host_put::put_hold(h, n, description, Handle(handle));
-    let answer = done.answer;
-    let inside = done.holds;
-    let filled = done.handles;
-    d.handles = filled;
-    let mut u = with_holds(s, inside);
-    u.driver = d;
-    HostStep {
-        answer: answer,
-        state: u,
+    words::sized(s);
+    let found = words::held(s, description);
+    match found {
+        DescriptionFound::Outside => step::answered(Answer::BadArgument),
+        DescriptionFound::At(d) => {
+            if 63 < handle {
+                return step::answered(Answer::BadArgument);
+            }
+            let k = ids::handle_of(handle);
+            if words::held_at(s, k) != 0 {
+                return step::answered(Answer::BadArgument);
+            }
+            words::lower_outside(s, d);
+            words::put_into(s, k, d);
+            return step::answered(Answer::Done);
+        }
+    }
+}
+
+// Whether a slot is the caller's. A vacant one is nobody's.
+fn has(v: Slot, caller: u32) -> bool
+    ensures { λ r. ⌜ r ≡ hasSlot caller v ⌝ }
+{
+    if v.caller != caller {
+        return false;
+    }
+    let p = slot::phase_of(v);
+    match p {
+        Phase::Vacant => false,
+        Phase::Placeholder => true,
+        Phase::Waiting => true,
+        Phase::Responded => true,
+        Phase::Fmap => true,
+    }
+}
+
+// Slot i is marked if it is the caller's.
+fn mark(s: &mut [u64; 2060], i: u64, caller: u32)
+    ensures { λ r. ⌜ now (s .exit) ≡ storedAll (now (s .entry)) (marks 1 i (plainOf (now (s .entry))) caller) ⌝ }
+{
+    let n = ids::slot_of(Tag(i));
+    let v = words::load(s, n);
+    if has(v, caller) {
+        let w = slot::caller_ended(v);
+        words::put(s, n, w);
     }
 }
 
 // The slots that an ended caller has are marked.
-pub fn ended(s: State, caller: u32) -> HostStep
-    ensures { λ r. ⌜ ((ws : List ℕ) → outcome (said (r .answer)) [] (world (r .state) ws) ≡ hostEndedOf (world s ws) caller) ⌝ }
+pub fn ended(s: &mut [u64; 2060], caller: u32) -> Step
+    ensures { λ r. ⌜ Does (now (s .entry)) (now (s .exit)) (hostEnded caller) (said (r .answer)) (effectWords (r .effect)) ⌝ }
 {
-    let t = s.table;
-    let marked = host_ended::ended(t, caller);
-    let mut u = s;
-    u.table = marked;
-    HostStep {
-        answer: Answer::Done,
-        state: u,
+    let mut i = 0;
+    while i < 64 {
+        mark(s, i, caller);
+        i += 1;
     }
+    step::answered(Answer::Done)
 }

@@ -1,83 +1,47 @@
 // Map supply (01, "Map supply"; `ProvideMmap` in `handle_parsed`, src/scheme/user.rs, lines 849 to 919): it alone vacates a
-// map request's slot.
+// map request's slot. It has no effects.
 use answer::Answer;
 use ids::Tag;
-use part::Part;
 use slot::Phase;
-ghost use mathlib.Core.Path.{_≡_};
-ghost use mathlib.Core.List.{List, []};
-ghost use Prim.Native.Nat.{ℕ, _%_};
-ghost use Rattle.holds.specs.declared.Holds.{Holds};
-ghost use Rattle.state.specs.declared.State.{State};
-ghost use Rattle.part.specs.Part.{Stands, found, leaves};
-ghost use Rattle.events.specs.World.{world};
-ghost use Rattle.events.specs.Outcome.{outcome, said};
-ghost use Rattle.events.specs.Supply.{supplyOf};
-
-pub struct ProvideMmap {
-    pub answer: Answer,
-    pub part: Part,
-}
+use step::Step;
+ghost use Rattle.effect.specs.Effect.{effectWords};
+ghost use Rattle.events.specs.Outcome.{said};
+ghost use Rattle.step.specs.Does.{Does};
+ghost use Rattle.events.specs.Event.{on, supply};
 
 // The slot is vacated also where its caller has ended.
-pub fn provide_mmap(p: Part, tag: Tag, offset: u64, base: u64, count: u64) -> ProvideMmap
-    ensures { λ r. ⌜ ((s : State) (h : Holds) (ws : List ℕ) → Stands s (tag .0 % 64) p → outcome (said (r .answer)) [] (world (leaves s (tag .0 % 64) (r .part) h) ws) ≡ supplyOf (world (found s p h) ws) (tag .0) offset base count) ⌝ }
+pub fn provide_mmap(s: &mut [u64; 2060], tag: Tag, offset: u64, base: u64, count: u64) -> Step
+    ensures { λ r. ⌜ Does (now (s .entry)) (now (s .exit)) (on (supply (tag .0) offset base count)) (said (r .answer)) (effectWords (r .effect)) ⌝ }
 {
     if offset % 4096 != 0 {
-        return ProvideMmap {
-            answer: Answer::Invalid,
-            part: p,
-        };
+        return step::answered(Answer::Invalid);
     }
     if base % 4096 != 0 {
-        return ProvideMmap {
-            answer: Answer::Invalid,
-            part: p,
-        };
+        return step::answered(Answer::Invalid);
     }
     if count != 1 {
-        return ProvideMmap {
-            answer: Answer::Invalid,
-            part: p,
-        };
+        return step::answered(Answer::Invalid);
     }
     let n = ids::slot_of(tag);
-    if 64 <= n.0 {
-        return ProvideMmap {
-            answer: Answer::Invalid,
-            part: p,
-        };
-    }
-    let v = p.slot;
+    let v = words::load(s, n);
     let phase = slot::phase_of(v);
     match phase {
-        Phase::Vacant => ProvideMmap {
-            answer: Answer::Invalid,
-            part: p,
-        },
-        Phase::Placeholder => ProvideMmap {
-            answer: Answer::BadDescriptor,
-            part: p,
-        },
-        Phase::Waiting => ProvideMmap {
-            answer: Answer::Invalid,
-            part: p,
-        },
-        Phase::Responded => ProvideMmap {
-            answer: Answer::Invalid,
-            part: p,
-        },
+        Phase::Vacant => step::answered(Answer::Invalid),
+        Phase::Placeholder => step::answered(Answer::BadDescriptor),
+        Phase::Waiting => step::answered(Answer::Invalid),
+        Phase::Responded => step::answered(Answer::Invalid),
         Phase::Fmap => {
-            let after = part::vacated(p, n.0 as u64);
+            words::vacate(s, n);
+            let none = effect::none();
             if v.ended {
-                return ProvideMmap {
+                return Step {
                     answer: Answer::NoCaller,
-                    part: after,
+                    effect: none,
                 };
             }
-            ProvideMmap {
+            Step {
                 answer: Answer::Done,
-                part: after,
+                effect: none,
             }
         }
     }

@@ -1,23 +1,33 @@
 -- A read by what the queue gives. Assumes nothing.
 use Prim.Native.Nat.{ℕ}
-use mathlib.Core.Path.{_≡_, ap}
-use mathlib.Core.List.{List}
+use mathlib.Core.Path.{_≡_, refl, ap, _∙_}
+use mathlib.Core.List.{List, []}
 use lib.ListN.{length}
 use lib.Seq.{sets}
-use Rattle.state.specs.declared.State.{State}
 use Rattle.wait_queue_receive.specs.declared.Received.{Received}
 use Rattle.wait_queue_receive.specs.Receive.{receivedOf, copiedOf}
-use Rattle.events.specs.World.{world, withQueue}
+use Rattle.events.specs.World.{World, queueOf}
 use Rattle.events.specs.Outcome.{said}
-use Rattle.events.specs.Read.{readOf}
+use Rattle.events.specs.Event.{Event, step, on, read}
+use Rattle.layout.specs.Layout.{plainOf}
+use Rattle.layout.specs.Store.{stored, queue}
+use Rattle.step.specs.Does.{Does}
 
-pub received :
-    (s : State) (ws out : List ℕ) (flags : ℕ) (o : Received) (new : List ℕ)
-    → o ≡ receivedOf (s .driver .queue) (length out) flags → new ≡ copiedOf (s .driver .queue) ws out
-    → (said (o .answer) ≡ readOf (world s ws) (length out) flags .answer)
-    × ((withQueue (world s ws) (o .queue) ws ≡ readOf (world s ws) (length out) flags .world)
-    × (new ≡ sets out 0 (readOf (world s ws) (length out) flags .bytes)))
-received s ws out flags o new e f = (
-  ap (λ (x : Received). said (x .answer)) e,
-  (ap (λ (x : Received). withQueue (world s ws) (x .queue) ws) e, f),
-)
+module _ (ws out : List ℕ) (flags : ℕ) where
+  abbrev w : World
+  w = plainOf ws
+
+  abbrev e : Event
+  e = on (read (length out) flags)
+
+  pub received :
+      (o : Received) (xs new : List ℕ) → o ≡ receivedOf (queueOf w) (length out) flags → new ≡ copiedOf (queueOf w) (w .words) out → xs ≡ stored ws (queue (o .queue))
+      → Does ws xs e (said (o .answer)) [] × (new ≡ sets out 0 (step w e .bytes))
+  received o xs new p f x = (
+    record {
+      answer = ap (λ (y : Received). said (y .answer)) p;
+      effects = refl;
+      words = x ∙ ap (λ (y : Received). stored ws (queue (y .queue))) p;
+    },
+    f,
+  )

@@ -281,7 +281,7 @@ fn copied_on(s: &mut [u64; 2060]) -> AnswerWords {
     let mut said = answer_words::done(0);
     let mut i: u64 = 0;
     while i < 65536 {
-        let done = w_host::copy(s, 5);
+        let done = host::copy(s, 5);
         let answer = done.answer;
         said = answer_words::words(answer);
         if said.kind != 0 {
@@ -306,9 +306,9 @@ fn print_limit(kind: u64, value: u64, told: &[u8]) {
 fn hold_limit() {
     let mut s = [0; 2060];
     plain::fresh_words(7, &mut s);
-    w_host::open(&mut s, 5);
-    w_host::copy(&mut s, 5);
-    w_host::put(&mut s, 5, 0);
+    host::open(&mut s, 5);
+    host::copy(&mut s, 5);
+    host::put(&mut s, 5, 0);
     let answer = copied_on(&mut s);
     let mut told = [0; STATE_SIZE];
     state_bytes::put_state(&mut told, &s);

@@ -1,29 +1,15 @@
 // `request_fmap` (src/scheme/user.rs, lines 756 to 791): a map request. It is no call, and its offset stays out of the entry.
 use answer::Answer;
-use effect::Effect;
-use ids::Tag;
-use part::Part;
 use schemev2::Args;
 use schemev2::Sqe;
-ghost use mathlib.Core.Path.{_≡_};
-ghost use Prim.Native.Nat.{_%_};
+use step::Step;
 ghost use Rattle.effect.specs.Effect.{effectWords};
-ghost use Rattle.holds.specs.declared.Holds.{Holds};
-ghost use Rattle.state.specs.declared.State.{State};
-ghost use Rattle.part.specs.Part.{Stands, found, leaves};
-ghost use Rattle.events.specs.World.{world};
-ghost use Rattle.events.specs.Outcome.{outcome, said};
-ghost use Rattle.events.specs.Submit.{fmapOf};
-
-pub struct FmapStep {
-    pub answer: Answer,
-    pub effect: Effect,
-    pub part: Part,
-}
+ghost use Rattle.events.specs.Outcome.{said};
+ghost use Rattle.step.specs.Does.{Does};
+ghost use Rattle.events.specs.Event.{on, fmap};
 
 pub fn request_fmap(
-    p: Part,
-    words: &mut [u64; 1024],
+    s: &mut [u64; 2060],
     caller: u32,
     id: u64,
     pages: u64,
@@ -31,26 +17,16 @@ pub fn request_fmap(
     uid: u32,
     gid: u32,
     pid: u64,
-) -> FmapStep
-    ensures { λ r. ⌜ ((s : State) (h : Holds) → Stands s (p .head % 64) p → outcome (said (r .answer)) (effectWords (r .effect)) (world (leaves s (p .head % 64) (r .part) h) (now (words .exit))) ≡ fmapOf (world (found s p h) (now (words .entry))) caller id pages flags uid gid pid) ⌝ }
+) -> Step
+    ensures { λ r. ⌜ Does (now (s .entry)) (now (s .exit)) (on (fmap caller id pages flags uid gid pid)) (said (r .answer)) (effectWords (r .effect)) ⌝ }
 {
-    let none = effect::none();
-    let n = p.head;
-    if 64 <= n {
-        return FmapStep {
-            answer: Answer::Full,
-            effect: none,
-            part: p,
-        };
+    if words::is_full(s) {
+        return step::answered(Answer::Full);
     }
-    let q = p.queue;
-    if 128 <= q.len {
-        return FmapStep {
-            answer: Answer::QueueFull,
-            effect: none,
-            part: p,
-        };
+    if words::queue_full(s) {
+        return step::answered(Answer::QueueFull);
     }
+    let n = words::head(s);
     let v = slot::map_request(caller);
     let who = user_args::uid_gid_hack_merge(uid, gid);
     let a = Args(id, flags, pages, 0, 0, who);
@@ -58,18 +34,9 @@ pub fn request_fmap(
     let e = Sqe {
         opcode: op,
         sqe_flags: 0,
-        tag: n as u32,
+        tag: n.0 as u32,
         args: a,
         caller: pid,
     };
-    let sent = wait_queue::send(q, words, e);
-    let longer = sent.queue;
-    let after = part::given(p, v, longer);
-    let bits = flag::event_read();
-    let fx = effect::root(p.scheme, bits);
-    FmapStep {
-        answer: Answer::Given(Tag(n)),
-        effect: fx,
-        part: after,
-    }
+    step::begun(s, v, e)
 }

@@ -26,7 +26,7 @@ use Rattle.answer.specs.declared.Answer.the-variants.{Bytes}
 use Rattle.layout.specs.Layout.{plainOf}
 use Rattle.packed.proofs.Agree.{steps-agree}
 use Rattle.step.specs.Does.{Does}
-use Rattle.w_write.specs.Writing.{Writes}
+use Rattle.write.specs.Writing.{Writes}
 use Rattle.run.specs.Run.{Told}
 use Rattle.run.proofs.Silent.{silent}
 use Rattle.wait_queue_receive.specs.Receive.{copied, emptyBy, receivedIf}

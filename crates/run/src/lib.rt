@@ -41,13 +41,13 @@ fn event(s: &mut [u64; 2060], r: Record, first: &[u64], second: &[u64]) -> Step
     let c = r.number;
     let kind = r.kind;
     match kind {
-        1 => w_host::open(s, a.0),
-        2 => w_host::copy(s, a.0),
-        3 => w_host::drop(s, a.0),
-        4 => w_host::put(s, a.0, a.1),
-        5 => w_host::ended(s, c),
-        6 => w_next_id::next_id(s, c),
-        7 => w_submit::submit(
+        1 => host::open(s, a.0),
+        2 => host::copy(s, a.0),
+        3 => host::drop(s, a.0),
+        4 => host::put(s, a.0, a.1),
+        5 => host::ended(s, c),
+        6 => next_id::next_id(s, c),
+        7 => submit::submit(
             s,
             Tag(a.0),
             c,
@@ -57,7 +57,7 @@ fn event(s: &mut [u64; 2060], r: Record, first: &[u64], second: &[u64]) -> Step
             a.8,
             first,
         ),
-        8 => w_call::call(
+        8 => call::call(
             s,
             c,
             a.0,
@@ -67,14 +67,14 @@ fn event(s: &mut [u64; 2060], r: Record, first: &[u64], second: &[u64]) -> Step
             a.7,
             first,
         ),
-        9 => w_generic::call_generic(s, c, a.0, first, a.1, a.2, second),
-        10 => w_generic::translate_std_fs_call(s, c, a.0, first, a.1, a.2, second),
-        11 => w_fmap::request_fmap(s, c, a.0, a.1, a.2, r.uid, r.gid, a.3),
-        12 => w_close::close(s, a.0),
-        13 => w_close::detach(s, a.0, a.1),
-        17 => w_fd::call_fdwrite(s, first, second),
-        18 => w_fd::call_fdread(s, first),
-        _ => w_supply::provide_mmap(s, Tag(a.0), a.1, a.2, a.3),
+        9 => call_generic::call_generic(s, c, a.0, first, a.1, a.2, second),
+        10 => call_generic::translate_std_fs_call(s, c, a.0, first, a.1, a.2, second),
+        11 => request_fmap::request_fmap(s, c, a.0, a.1, a.2, r.uid, r.gid, a.3),
+        12 => close::close(s, a.0),
+        13 => close::detach(s, a.0, a.1),
+        17 => call_fd::call_fdwrite(s, first, second),
+        18 => call_fd::call_fdread(s, first),
+        _ => provide_mmap::provide_mmap(s, Tag(a.0), a.1, a.2, a.3),
     }
 }
 
@@ -107,7 +107,7 @@ fn wake_turn(s: &mut [u64; 2060], r: Record, out: &mut [u8]) -> usize
 {
     words::sized(s);
     let a = r.words;
-    let done = w_wake::wake(s, Tag(a.0), r.number, a.1, a.2, a.3);
+    let done = call_inner::wake(s, Tag(a.0), r.number, a.1, a.2, a.3);
     let answer = done.answer;
     let reply = done.reply;
     let fds = done.fds;
@@ -125,7 +125,7 @@ fn read_turn(s: &mut [u64; 2060], r: Record, buf: &mut [u8], out: &mut [u8]) -> 
     let a = r.words;
     let n = run_room::least(a.0, 8192);
     let k = wait_queue_receive::copied(n, words::unread(s));
-    let answer = w_read::read(s, &mut buf[..n], r.number);
+    let answer = read::read(s, &mut buf[..n], r.number);
     lent_bytes::put_received(out, answer, &buf[..k])
 }
 
@@ -140,7 +140,7 @@ fn write_turn(s: &mut [u64; 2060], rec: &[u8], r: Record, fx: &mut [u64], out: &
     let n = run_room::least(a.0, fx.len());
     let at = record::tail_at(r);
     let k = record::tail(r);
-    let done = w_write::write(s, &mut fx[..n], &rec[at..at + k]);
+    let done = write::write(s, &mut fx[..n], &rec[at..at + k]);
     let m = done.words;
     let answer = done.answer;
     lent_bytes::put_completed(out, answer, &fx[..m])

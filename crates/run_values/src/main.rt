@@ -10,7 +10,7 @@ fn fifteen() {
     plain::fresh_words(7, &mut s);
     let bytes = [9; 15];
     let mut fx = [0; 54];
-    let r = w_write::write(&mut s, &mut fx, &bytes);
+    let r = write::write(&mut s, &mut fx, &bytes);
     let said = r.answer;
     let answer = answer_words::words(said);
     io::write_all(STDOUT_FILENO, b"15 bytes written: ");

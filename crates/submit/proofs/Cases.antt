@@ -1,13 +1,19 @@
--- A submit by its tests; k is the slot number of the tag n. Assumes nothing.
-use Prim.Native.Nat.{ℕ, _<_, _≤_}
-use mathlib.Core.Path.{_≡_, refl, sym, ap, ap₂, _∙_}
-use mathlib.Core.Bool.{Bool, true, false, not, _&&_}
-use mathlib.Core.List.{List, []}
+-- A submit by its tests. Assumes nothing.
+use Prim.Native.Nat.{ℕ, min, _≤_}
+use mathlib.Core.Path.{_≡_, refl, sym, ap, _∙_}
+use mathlib.Core.Bool.{Bool, true, false, not, cond, _||_, _&&_, true≢false}
+use mathlib.Core.List.{List, [], _∷_}
 use native.Mathlib.Omega.{arith}
-use lib.Dec.{eqb}
-use lib.ListN.{set, getD}
-use Rattle.fd_list.specs.Lists.{listOf}
-use Rattle.holds.specs.declared.Holds.{Holds}
+use lib.Dec.{ltb, eqb}
+use lib.ListN.{length, getD}
+use borrow.Author.Tests.{ltb-true}
+use Rattle.ask.specs.declared.Asked.{Asked}
+use Rattle.ask.specs.Asked.{askedOf}
+use Rattle.ask.proofs.Cases.{asked-turned, taken-is}
+use Rattle.counts.specs.Counts.{lessAll}
+use Rattle.counts.proofs.Laws.{lessAll-length}
+use Rattle.fd_list.specs.declared.List.{List as Fds}
+use Rattle.fd_list.specs.Lists.{numbers, listOf}
 use Rattle.ids.specs.declared.SlotNo.{SlotNo}
 use Rattle.ids.specs.declared.Tag.{Tag}
 use Rattle.ids.specs.Ids.{slotOf}
@@ -16,15 +22,18 @@ use Rattle.schemev2.specs.declared.Sqe.{Sqe}
 use Rattle.slot.specs.declared.Phase.{Phase}
 use Rattle.slot.specs.declared.Slot.{Slot}
 use Rattle.slot.specs.Slots.{phaseOf, vacantSlot, waitingOf}
-use Rattle.state.specs.declared.State.{State}
-use Rattle.table.specs.declared.Table.{Table}
-use Rattle.table.specs.Table.{noSlot, stored, putAt}
-use Rattle.table.proofs.Cases.{slot-out, slot-in, put-in}
-use Rattle.wait_queue.specs.declared.WaitQueue.{WaitQueue}
-use Rattle.wait_queue.specs.Queue.{sentOf, sentWords}
-use Rattle.events.specs.World.{World, world, slotIn, queueFull, tableWith}
-use Rattle.events.specs.Outcome.{Outcome, outcome, ok, no, readable}
-use Rattle.events.specs.Submit.{sqe, badOpcode, badList, longList, isPlaceholder, submittable, takenHolds, submitted, submitEntry, submitOf}
+use Rattle.table.specs.Table.{noSlot}
+use Rattle.events.specs.World.{World, tableOf, holdsOf, slotIn, queueFull}
+use Rattle.events.specs.Outcome.{Answer, ok, no, said, row, readable}
+use Rattle.events.specs.Submit.{sqe, badOpcode, badList, longList, isPlaceholder, submittable, submitted, submitEntry, submitRows}
+use Rattle.events.specs.Event.{Event, on, submit}
+use Rattle.layout.specs.Layout.{plainOf}
+use Rattle.layout.specs.Store.{Store, put, send, outside, stored, storedAll}
+use Rattle.packed.specs.Stores.{taken}
+use Rattle.step.specs.Does.{Does}
+use Rattle.step.proofs.Rows.{turned, carried}
+use Rattle.step.proofs.Tests.{slot-of-in}
+use Rattle.step.proofs.Frames.{outside-short, readable-outside}
 
 -- the decision on a slot
 pub decided :
@@ -32,55 +41,53 @@ pub decided :
     → isPlaceholder p && (o && not e) ≡ submittable v c
 decided v c p o e qp qo qe = rw (← qp, ← qo, ← qe)
 
-module _ (s : State) (ws : List ℕ) (n : Tag) (c op fl : ℕ) (args : Args) (pid : ℕ) (ds : List ℕ) where
-  module _ (fx : List ℕ) (none : fx ≡ []) where
-    abbrev Is : ℕ → Type 0
-    Is k = outcome (no k) fx (world s ws) ≡ submitOf (world s ws) (n .0) c op fl args pid ds
+-- a slot that is no Placeholder's is none to submit
+within : (w : World) (n c : ℕ) → submittable (slotIn w n) c ≡ true → min n 64 ≡ n
+within w n c = go (ltb n 64) refl
+  where
+    go : (b : Bool) → ltb n 64 ≡ b → submittable (cond b (getD (tableOf w .slots) n noSlot) vacantSlot) c ≡ true → min n 64 ≡ n
+    go true e q = omega (arith, ltb-true n 64 e)
+    go false e q = absurd (true≢false (sym q))
 
-    pub bad-opcode : badOpcode op ≡ true → Is 205
-    bad-opcode q = rw (q, none) refl
+module _ (ws : List ℕ) (n : Tag) (c op fl : ℕ) (args : Args) (pid : ℕ) (ds : List ℕ) where
+  abbrev w : World
+  w = plainOf ws
 
-    pub bad-list : badOpcode op ≡ false → badList (world s ws) ds ≡ true → Is 205
-    bad-list q r = rw (q, r, none) refl
+  abbrev e : Event
+  e = on (submit (n .0) c op fl args pid ds)
 
-    pub long-list : badOpcode op ≡ false → badList (world s ws) ds ≡ false → longList ds ≡ true → Is 206
-    long-list q r t = rw (q, r, t, none) refl
+  abbrev f : Sqe
+  f = submitEntry (n .0) op fl args pid
 
-    not-yours : badOpcode op ≡ false → badList (world s ws) ds ≡ false → longList ds ≡ false → submittable (slotIn (world s ws) (n .0)) c ≡ false → Is 201
-    not-yours q r t f = rw (q, r, t, f, none) refl
+  abbrev ss : List Store
+  ss = taken w ds ∷ put (n .0) (waitingOf c (listOf ds)) ∷ send f ∷ []
 
-    module _ (k : SlotNo) (is : k ≡ slotOf n) where
-      pub no-slot : badOpcode op ≡ false → badList (world s ws) ds ≡ false → longList ds ≡ false → 64 ≤ k .0 → Is 201
-      no-slot q r t h = not-yours q r t (ap (λ (v : Slot). submittable v c) (sym (slot-out (s .table) n k is vacantSlot refl h)))
+  pub refused : (r : Asked) → r ≡ askedOf w op ds → r .good ≡ false → (a : Answer) (fx : List ℕ) → a ≡ said (r .answer) → fx ≡ [] → Does ws ws e a fx
+  refused = asked-turned ws e op ds (row 201 (not (submittable (slotIn w (n .0)) c)) ∷ row 203 (queueFull w) ∷ []) (submitted w (n .0) c ds f) ss refl refl
 
-      pub another : badOpcode op ≡ false → badList (world s ws) ds ≡ false → longList ds ≡ false → k .0 < 64 → submittable (getD (s .table .slots) (k .0) noSlot) c ≡ false → Is 201
-      another q r t h f = not-yours q r t (ap (λ (v : Slot). submittable v c) (sym (slot-in (s .table) n k is h)) ∙ f)
+  module _ (p : badOpcode op || badList w ds ≡ false) (r : longList ds ≡ false) (k : SlotNo) (is : k ≡ slotOf n) (v : Slot) (at : v ≡ slotIn w (k .0)) where
+    here : v ≡ slotIn w (n .0)
+    here = at ∙ ap (λ (x : SlotNo). slotIn w (x .0)) is ∙ slot-of-in w (n .0)
 
-      pub queue-full :
-          badOpcode op ≡ false → badList (world s ws) ds ≡ false → longList ds ≡ false → k .0 < 64
-          → submittable (getD (s .table .slots) (k .0) noSlot) c ≡ true → queueFull (world s ws) ≡ true → Is 203
-      queue-full q r t h f g = let z = ap (λ (v : Slot). submittable v c) (sym (slot-in (s .table) n k is h)) ∙ f in rw (q, r, t, z, g, none) refl
+    test : (b : Bool) → submittable v c ≡ b → submittable (slotIn w (n .0)) c ≡ b
+    test b q = ap (λ (x : Slot). submittable x c) (sym here) ∙ q
 
-  -- the state that is left
-  abbrev left : ℕ → Slot → Holds → WaitQueue → State
-  left k v h q =
-      record {
-        driver = record { scheme = s .driver .scheme; handles = s .driver .handles; queue = q };
-        table = record { slots = set (s .table .slots) k v; next = s .table .next; head = s .table .head; holds = h };
-      }
+    pub not-yours : submittable v c ≡ false → (a : Answer) (fx : List ℕ) → a ≡ no 201 → fx ≡ [] → Does ws ws e a fx
+    not-yours q = let t = test false q in turned ws e (submitRows w (n .0) c op ds) (submitted w (n .0) c ds f) ss refl refl 201 (rw (p, r, t) refl)
 
-  module _ (k : SlotNo) (is : k ≡ slotOf n) where
-    pub submitted-is :
-        badOpcode op ≡ false → badList (world s ws) ds ≡ false → longList ds ≡ false → k .0 < 64
-        → submittable (getD (s .table .slots) (k .0) noSlot) c ≡ true → queueFull (world s ws) ≡ false
-        → (v : Slot) (h : Holds) (m : ℕ) (q : WaitQueue) (xs fx : List ℕ) → v ≡ waitingOf c (listOf ds) → h ≡ takenHolds (world s ws) ds → op ≡ m
-        → q ≡ sentOf (s .driver .queue) .queue → xs ≡ sentWords (s .driver .queue) ws (sqe m fl (k .0) args pid) → fx ≡ readable (world s ws)
-        → outcome (ok (n .0)) fx (world (left (k .0) v h q) xs) ≡ submitOf (world s ws) (n .0) c op fl args pid ds
-    submitted-is q r t l f g v h m u xs fx ev eh em eu ex ef =
-        let z = ap (λ (x : Slot). submittable x c) (sym (slot-in (s .table) n k is l)) ∙ f in
-        let y : k .0 ≡ n .0 = omega (arith, ap (λ (x : SlotNo). x .0) is, l) in
-        let p : stored (s .table) (k .0) v ≡ putAt (s .table) (n .0) (waitingOf c (listOf ds)) = put-in (s .table) n k is v l ∙ ap (putAt (s .table) (n .0)) ev in
-        let x : xs ≡ sentWords (s .driver .queue) ws (submitEntry (n .0) op fl args pid) =
-        ex ∙ ap₂ (λ (a b : ℕ). sentWords (s .driver .queue) ws (sqe a fl b args pid)) (sym em) y in
-        let last : submitted (world s ws) (n .0) c ds (submitEntry (n .0) op fl args pid) ≡ submitOf (world s ws) (n .0) c op fl args pid ds = rw (q, r, t, z, g) refl in
-        (λ i. outcome (ok (n .0)) (ef i) (world (record { driver = record { scheme = s .driver .scheme; handles = s .driver .handles; queue = eu i }; table = tableWith (p i) (eh i) }) (x i))) ∙ last
+    pub no-room : submittable v c ≡ true → queueFull w ≡ true → (a : Answer) (fx : List ℕ) → a ≡ no 203 → fx ≡ [] → Does ws ws e a fx
+    no-room q g = let t = test true q in turned ws e (submitRows w (n .0) c op ds) (submitted w (n .0) c ds f) ss refl refl 203 (rw (p, r, t, g) refl)
+
+    pub sent :
+        (q : submittable v c ≡ true) → queueFull w ≡ false → (m : ℕ) (l : Fds) (u : Slot) (xs ys fx : List ℕ) (a : Answer)
+        → m ≡ op → l ≡ listOf ds → u ≡ waitingOf c l → xs ≡ stored ws (outside (lessAll (holdsOf w .outside) (numbers l)))
+        → a ≡ ok (n .0) → fx ≡ readable (plainOf xs) → ys ≡ storedAll xs (put (k .0) u ∷ send (sqe m fl (k .0) args pid) ∷ []) → Does ws ys e a fx
+    sent q g m l u xs ys fx a em el eu ex ea ef ey =
+        let t = test true q in
+        let o : List ℕ = lessAll (holdsOf w .outside) (numbers l) in
+        let h : length o ≤ 64 = rw (lessAll-length (numbers l) (holdsOf w .outside)) (outside-short ws) in
+        let j : k .0 ≡ n .0 = ap (λ (x : SlotNo). x .0) is ∙ within w (n .0) c t in
+        let z : xs ≡ stored ws (taken w ds) = ex ∙ ap (λ (y : List ℕ). stored ws (outside y)) (ap (λ (y : Fds). lessAll (holdsOf w .outside) (numbers y)) el ∙ taken-is w op ds p r) in
+        carried ws e (submitRows w (n .0) c op ds) (submitted w (n .0) c ds f) ss refl refl (p, (r, (ap not t, (g, tt)))) ys a fx
+        ea (ef ∙ ap (λ (x : List ℕ). readable (plainOf x)) ex ∙ readable-outside ws o h)
+        (ey ∙ λ i. storedAll (z i) (put (j i) ((eu ∙ ap (waitingOf c) el) i) ∷ send (sqe (em i) fl (j i) args pid) ∷ []))

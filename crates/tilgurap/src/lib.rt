@@ -41,7 +41,7 @@ ghost use Rattle.state.specs.State.{freshState};
 pub extern "C" fn tilgurap_open(words: &mut [u64; 2060], description: u64) -> StepWords
     ensures { λ r. ⌜ Settled r (now (words .entry)) (now (words .exit)) (hostOpen description) ⌝ }
 {
-    let done = w_host::open(words, description);
+    let done = host::open(words, description);
     answer_words::step_words(done)
 }
 
@@ -49,7 +49,7 @@ pub extern "C" fn tilgurap_open(words: &mut [u64; 2060], description: u64) -> St
 pub extern "C" fn tilgurap_copy(words: &mut [u64; 2060], description: u64) -> StepWords
     ensures { λ r. ⌜ Settled r (now (words .entry)) (now (words .exit)) (hostCopy description) ⌝ }
 {
-    let done = w_host::copy(words, description);
+    let done = host::copy(words, description);
     answer_words::step_words(done)
 }
 
@@ -57,7 +57,7 @@ pub extern "C" fn tilgurap_copy(words: &mut [u64; 2060], description: u64) -> St
 pub extern "C" fn tilgurap_drop(words: &mut [u64; 2060], description: u64) -> StepWords
     ensures { λ r. ⌜ Settled r (now (words .entry)) (now (words .exit)) (hostDrop description) ⌝ }
 {
-    let done = w_host::drop(words, description);
+    let done = host::drop(words, description);
     answer_words::step_words(done)
 }
 
@@ -65,7 +65,7 @@ pub extern "C" fn tilgurap_drop(words: &mut [u64; 2060], description: u64) -> St
 pub extern "C" fn tilgurap_put(words: &mut [u64; 2060], description: u64, handle: u64) -> StepWords
     ensures { λ r. ⌜ Settled r (now (words .entry)) (now (words .exit)) (on (hostPut description handle)) ⌝ }
 {
-    let done = w_host::put(words, description, handle);
+    let done = host::put(words, description, handle);
     answer_words::step_words(done)
 }
 
@@ -73,7 +73,7 @@ pub extern "C" fn tilgurap_put(words: &mut [u64; 2060], description: u64, handle
 pub extern "C" fn tilgurap_ended(words: &mut [u64; 2060], caller: u32) -> StepWords
     ensures { λ r. ⌜ Settled r (now (words .entry)) (now (words .exit)) (hostEnded caller) ⌝ }
 {
-    let done = w_host::ended(words, caller);
+    let done = host::ended(words, caller);
     answer_words::step_words(done)
 }
 
@@ -81,7 +81,7 @@ pub extern "C" fn tilgurap_ended(words: &mut [u64; 2060], caller: u32) -> StepWo
 pub extern "C" fn tilgurap_next_id(words: &mut [u64; 2060], caller: u32) -> StepWords
     ensures { λ r. ⌜ Settled r (now (words .entry)) (now (words .exit)) (on (reserve caller)) ⌝ }
 {
-    let done = w_next_id::next_id(words, caller);
+    let done = next_id::next_id(words, caller);
     answer_words::step_words(done)
 }
 
@@ -98,7 +98,7 @@ pub extern "C" fn tilgurap_submit(
 ) -> StepWords
     ensures { λ r. ⌜ Settled r (now (words .entry)) (now (words .exit)) (on (submit (tag .0) caller opcode flags args pid (now (fds .entry)))) ⌝ }
 {
-    let done = w_submit::submit(words, tag, caller, opcode, flags, args, pid, fds);
+    let done = submit::submit(words, tag, caller, opcode, flags, args, pid, fds);
     answer_words::step_words(done)
 }
 
@@ -115,7 +115,7 @@ pub extern "C" fn tilgurap_call(
 ) -> StepWords
     ensures { λ r. ⌜ Settled r (now (words .entry)) (now (words .exit)) (on (call caller opcode args uid gid pid (now (fds .entry)))) ⌝ }
 {
-    let done = w_call::call(words, caller, opcode, args, uid, gid, pid, fds);
+    let done = call::call(words, caller, opcode, args, uid, gid, pid, fds);
     answer_words::step_words(done)
 }
 
@@ -131,7 +131,7 @@ pub extern "C" fn tilgurap_call_generic(
 ) -> StepWords
     ensures { λ r. ⌜ Settled r (now (words .entry)) (now (words .exit)) (on (generic caller pid (now (fds .entry)) base len (now (metadata .entry)))) ⌝ }
 {
-    let done = w_generic::call_generic(words, caller, pid, fds, base, len, metadata);
+    let done = call_generic::call_generic(words, caller, pid, fds, base, len, metadata);
     answer_words::step_words(done)
 }
 
@@ -147,7 +147,7 @@ pub extern "C" fn tilgurap_translate_std_fs_call(
 ) -> StepWords
     ensures { λ r. ⌜ Settled r (now (words .entry)) (now (words .exit)) (on (stdfs caller pid (now (fds .entry)) base len (now (metadata .entry)))) ⌝ }
 {
-    let done = w_generic::translate_std_fs_call(words, caller, pid, fds, base, len, metadata);
+    let done = call_generic::translate_std_fs_call(words, caller, pid, fds, base, len, metadata);
     answer_words::step_words(done)
 }
 
@@ -164,7 +164,7 @@ pub extern "C" fn tilgurap_request_fmap(
 ) -> StepWords
     ensures { λ r. ⌜ Settled r (now (words .entry)) (now (words .exit)) (on (fmap caller id pages flags uid gid pid)) ⌝ }
 {
-    let done = w_fmap::request_fmap(words, caller, id, pages, flags, uid, gid, pid);
+    let done = request_fmap::request_fmap(words, caller, id, pages, flags, uid, gid, pid);
     answer_words::step_words(done)
 }
 
@@ -172,7 +172,7 @@ pub extern "C" fn tilgurap_request_fmap(
 pub extern "C" fn tilgurap_close(words: &mut [u64; 2060], id: u64) -> StepWords
     ensures { λ r. ⌜ Settled r (now (words .entry)) (now (words .exit)) (on (close id)) ⌝ }
 {
-    let done = w_close::close(words, id);
+    let done = close::close(words, id);
     answer_words::step_words(done)
 }
 
@@ -180,7 +180,7 @@ pub extern "C" fn tilgurap_close(words: &mut [u64; 2060], id: u64) -> StepWords
 pub extern "C" fn tilgurap_detach(words: &mut [u64; 2060], id: u64, pid: u64) -> StepWords
     ensures { λ r. ⌜ Settled r (now (words .entry)) (now (words .exit)) (on (detach id pid)) ⌝ }
 {
-    let done = w_close::detach(words, id, pid);
+    let done = close::detach(words, id, pid);
     answer_words::step_words(done)
 }
 
@@ -195,7 +195,7 @@ pub extern "C" fn tilgurap_wake(
 ) -> WakeWords
     ensures { λ r. ⌜ SettledWake r (now (words .entry)) (now (words .exit)) (on (wake (tag .0) caller killed base count)) ⌝ }
 {
-    let done = w_wake::wake(words, tag, caller, killed, base, count);
+    let done = call_inner::wake(words, tag, caller, killed, base, count);
     let answer = done.answer;
     let reply = done.reply;
     let fds = done.fds;
@@ -209,7 +209,7 @@ pub extern "C" fn tilgurap_read(words: &mut [u64; 2060], out: &mut [u8], flags: 
     ensures { λ r. ⌜ now (words .exit) ≡ wordsAfter (now (words .entry)) (on (read (length (now (out .entry))) flags)) ⌝ }
     ensures { λ r. ⌜ now (out .exit) ≡ sets (now (out .entry)) 0 (step (plainOf (now (words .entry))) (on (read (length (now (out .entry))) flags)) .bytes) ⌝ }
 {
-    let answer = w_read::read(words, out, flags);
+    let answer = read::read(words, out, flags);
     answer_words::words(answer)
 }
 
@@ -227,7 +227,7 @@ pub extern "C" fn tilgurap_write(words: &mut [u64; 2060], fx: &mut [u64], bytes:
     ensures { λ r. ⌜ now (fx .exit) ≡ sets (now (fx .entry)) 0 (step (plainOf (now (words .entry))) (on (write (length (now (fx .entry))) (now (bytes .entry)))) .effects) ⌝ }
     ensures { λ r. ⌜ r .words ≡ length (step (plainOf (now (words .entry))) (on (write (length (now (fx .entry))) (now (bytes .entry)))) .effects) ⌝ }
 {
-    let done = w_write::write(words, fx, bytes);
+    let done = write::write(words, fx, bytes);
     let answer = done.answer;
     let said = answer_words::words(answer);
     Completed {
@@ -244,7 +244,7 @@ pub extern "C" fn tilgurap_call_fdwrite(
 ) -> StepWords
     ensures { λ r. ⌜ Settled r (now (words .entry)) (now (words .exit)) (on (move (now (metadata .entry)) (now (fds .entry)))) ⌝ }
 {
-    let done = w_fd::call_fdwrite(words, metadata, fds);
+    let done = call_fd::call_fdwrite(words, metadata, fds);
     answer_words::step_words(done)
 }
 
@@ -252,7 +252,7 @@ pub extern "C" fn tilgurap_call_fdwrite(
 pub extern "C" fn tilgurap_call_fdread(words: &mut [u64; 2060], metadata: &[u64]) -> StepWords
     ensures { λ r. ⌜ Settled r (now (words .entry)) (now (words .exit)) (on (obtain (now (metadata .entry)))) ⌝ }
 {
-    let done = w_fd::call_fdread(words, metadata);
+    let done = call_fd::call_fdread(words, metadata);
     answer_words::step_words(done)
 }
 
@@ -266,7 +266,7 @@ pub extern "C" fn tilgurap_provide_mmap(
 ) -> StepWords
     ensures { λ r. ⌜ Settled r (now (words .entry)) (now (words .exit)) (on (supply (tag .0) offset base count)) ⌝ }
 {
-    let done = w_supply::provide_mmap(words, tag, offset, base, count);
+    let done = provide_mmap::provide_mmap(words, tag, offset, base, count);
     answer_words::step_words(done)
 }
 

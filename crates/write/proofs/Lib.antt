@@ -1,3 +1,4 @@
-pub mod Loop
-mod One
+pub mod Carried
+pub mod Entries
 pub mod Small
+pub mod Looping

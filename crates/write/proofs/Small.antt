@@ -7,7 +7,7 @@ use borrow.Author.Tests.{eqb-true, ne-eqb}
 use native.Mathlib.Omega.{arith}
 use Rattle.events.specs.Outcome.{ok, no}
 use Rattle.events.specs.Complete.{stopped}
-use Rattle.write.specs.Write.{isRefusal}
+use Rattle.write.specs.Writing.{isRefusal}
 
 pub some-done : (n k : ℕ) → 0 < n → ok (16 * n) ≡ stopped n k
 some-done zero k q = absurd (omega arith)

@@ -1,40 +1,137 @@
-// `write` (src/scheme/user.rs, lines 743 to 755): completions, entry after entry up to the first refusal. An entry's decision
-// is carried out on the table in place, with no branch: what stays is stored as it was.
+// `write` (src/scheme/user.rs, lines 743 to 755): completions, entry after entry up to the first refusal. An entry's plan is
+// carried out in one place.
 use answer::Answer;
-use handles::Handles;
-use holds::Holds;
-use part::Part;
+use closes::Reason;
+use effect::Effect;
+use ids::SlotNo;
+use ids::Tag;
+use plan::Plan;
 use schemev2::Cqe;
-use state::Driver;
-use state::State;
+use slot::Act;
+use slot::PageSpan;
 ghost use mathlib.Core.Path.{_≡_};
 ghost use mathlib.Core.Bool.{true};
-ghost use mathlib.Core.List.{List};
-ghost use Prim.Native.Nat.{ℕ, _/_, _%_, _<_};
+ghost use Prim.Native.Nat.{_<_, _≤_};
+ghost use lib.Dec.{eqb};
 ghost use lib.ListN.{length};
 ghost use lib.Seq.{sets};
-ghost use Rattle.state.specs.declared.State.{State as AnyState};
-ghost use Rattle.holds.specs.Holds.{holdsWith};
-ghost use Rattle.handles.specs.Handles.{handlesWith};
-ghost use Rattle.schemev2.specs.Entry.{cqeOf};
-ghost use Rattle.part.specs.Part.{Stands, found, leaves};
-ghost use Rattle.events.specs.World.{world};
+ghost use Rattle.effect.specs.Effect.{effectWords};
+ghost use Rattle.events.specs.World.{holdsOf, handlesOf};
 ghost use Rattle.events.specs.Outcome.{said};
-ghost use Rattle.events.specs.Complete.{stopped, writeOf};
-ghost use Rattle.write.specs.Write.{isRefusal, stateWithHandles};
+ghost use Rattle.events.specs.Entry.{unmapOf};
+ghost use Rattle.events.specs.Complete.{stopped};
+ghost use Rattle.layout.specs.Layout.{plainOf};
+ghost use Rattle.layout.specs.Store.{stored, storedAll, handles as handlesStore};
+ghost use Rattle.packed.specs.Stores.{actStores, decidedStores};
+ghost use Rattle.plan.specs.Plans.{effectsBy, handlesBy, decisionBy};
+ghost use Rattle.write.specs.Writing.{isRefusal, Enters, Writes};
 
-// So many of the lent words hold effects, three to each.
-pub struct WriteStep {
-    pub answer: Answer,
-    pub words: usize,
-    pub state: State,
+// The three words of an effect, where it is one.
+fn put_effect(e: Effect, fx: &mut [u64], at: usize) -> usize
+    ensures { λ r. ⌜ r ≡ length (effectWords e) ⌝ }
+    ensures { λ r. ⌜ r ≤ 3 ⌝ }
+    ensures { λ r. ⌜ now (fx .exit) ≡ sets (now (fx .entry)) at (effectWords e) ⌝ }
+{
+    let kind = e.kind;
+    if kind == 0 {
+        return 0;
+    }
+    word_put::put3(fx, at, kind, e.a, e.b);
+    3
 }
 
-// The same of a write of one entry, on the part at its tag.
-pub struct EntryStep {
-    pub answer: Answer,
-    pub words: usize,
-    pub part: Part,
+// The span is unmapped where it has pages.
+fn unmap(span: PageSpan, fx: &mut [u64], at: usize) -> usize
+    ensures { λ r. ⌜ r ≡ length (unmapOf (eqb (span .count) 0) span) ⌝ }
+    ensures { λ r. ⌜ r ≤ 3 ⌝ }
+    ensures { λ r. ⌜ now (fx .exit) ≡ sets (now (fx .entry)) at (unmapOf (eqb (span .count) 0) span) ⌝ }
+{
+    let count = span.count;
+    if count == 0 {
+        return 0;
+    }
+    word_put::put3(fx, at, 2, span.base, count);
+    3
+}
+
+// The handle that a plan moves.
+fn move_handle(s: &mut [u64; 2060], p: Plan)
+    ensures { λ r. ⌜ now (s .exit) ≡ stored (now (s .entry)) (handlesStore (handlesBy p (handlesOf (plainOf (now (s .entry)))) .at)) ⌝ }
+{
+    words::sized(s);
+    if p.moves {
+        let k = p.handle;
+        words::set_handle(s, k, p.held);
+    }
+}
+
+// What becomes of the slot.
+fn act_on(s: &mut [u64; 2060], n: SlotNo, p: Plan)
+    ensures { λ r. ⌜ now (s .exit) ≡ storedAll (now (s .entry)) (actStores (p .act) (n .0) (p .slot)) ⌝ }
+{
+    let act = p.act;
+    let v = p.slot;
+    match act {
+        Act::Leave => {}
+        Act::Store => words::put(s, n, v),
+        Act::Vacate => words::vacate(s, n),
+    }
+}
+
+// An entry's plan carried out at its slot, its effects stored from word `at` on; says how many words these are.
+fn carry_out(s: &mut [u64; 2060], n: SlotNo, p: Plan, fx: &mut [u64], at: usize) -> usize
+    requires { ⌜ at ≤ 0x4000_0000_0000_0000 ⌝ }
+    ensures { λ r. ⌜ r ≡ length (effectsBy p (holdsOf (plainOf (now (s .entry))))) ⌝ }
+    ensures { λ r. ⌜ r ≤ 102 ⌝ }
+    ensures { λ r. ⌜ now (fx .exit) ≡ sets (now (fx .entry)) at (effectsBy p (holdsOf (plainOf (now (s .entry))))) ⌝ }
+    ensures { λ r. ⌜ now (s .exit) ≡ storedAll (now (s .entry)) (decidedStores (n .0) (decisionBy p (holdsOf (plainOf (now (s .entry)))) (handlesOf (plainOf (now (s .entry)))))) ⌝ }
+{
+    words::sized(s);
+    let first = p.first;
+    let a = put_effect(first, fx, at);
+    let span = p.span;
+    let b = unmap(span, fx, at + a);
+    let gone = p.gone;
+    let follows = closes::is_closing(Reason::Replied);
+    let c = words::drop_all(s, gone, follows, fx, at + a + b);
+    let own = p.own;
+    let d = words::drop_all(s, own, p.closing, fx, at + a + b + 3 * c);
+    move_handle(s, p);
+    act_on(s, n, p);
+    a + b + 3 * c + 3 * d
+}
+
+// 0 for an accepted entry, else the refusal's number; so many words of effects.
+struct Entered {
+    number: u64,
+    words: usize,
+}
+
+// What a byte's type says.
+fn is_byte(x: u8)
+    ensures { λ r. ⌜ x < 256 ⌝ }
+{}
+
+// One entry, on the slot that its tag names.
+fn entry(s: &mut [u64; 2060], e: Cqe, fx: &mut [u64], at: usize) -> Entered
+    requires { ⌜ at ≤ 0x4000_0000_0000_0000 ⌝ }
+    ensures { λ r. ⌜ Enters (now (s .entry)) (now (s .exit)) (now (fx .entry)) (now (fx .exit)) at e (r .number) (r .words) ⌝ }
+    ensures { λ r. ⌜ r .words ≤ 102 ⌝ }
+{
+    words::sized(s);
+    let extra = e.extra_raw;
+    is_byte(extra.0);
+    let asked = parse_cqe::parse_cqe(e);
+    let n = ids::slot_of(Tag(e.tag as u64));
+    let v = words::load(s, n);
+    let k = plan::handle_in(asked);
+    let held = words::held_at(s, k);
+    let p = plan::handle_parsed(asked, v, held);
+    let j = carry_out(s, n, p, fx, at);
+    Entered {
+        number: p.number,
+        words: j,
+    }
 }
 
 // A refusal after a good entry returns the bytes so far, a first one its number.
@@ -54,136 +151,39 @@ fn stop(done: usize, number: u64) -> Answer
     Answer::NotFound
 }
 
-pub fn write(s: State, fx: &mut [u64], bytes: &[u8]) -> WriteStep
-    ensures { λ r. ⌜ ((ws : List ℕ) → said (r .answer) ≡ writeOf (world s ws) (length (now (fx .entry))) (now (bytes .entry)) .answer) ⌝ }
-    ensures { λ r. ⌜ ((ws : List ℕ) → world (r .state) ws ≡ writeOf (world s ws) (length (now (fx .entry))) (now (bytes .entry)) .world) ⌝ }
-    ensures { λ r. ⌜ ((ws : List ℕ) → now (fx .exit) ≡ sets (now (fx .entry)) 0 (writeOf (world s ws) (length (now (fx .entry))) (now (bytes .entry)) .effects)) ⌝ }
-    ensures { λ r. ⌜ ((ws : List ℕ) → r .words ≡ length (writeOf (world s ws) (length (now (fx .entry))) (now (bytes .entry)) .effects)) ⌝ }
+// So many of the lent words hold effects, three to each.
+pub struct Written {
+    pub answer: Answer,
+    pub words: usize,
+}
+
+pub fn write(s: &mut [u64; 2060], fx: &mut [u64], bytes: &[u8]) -> Written
+    ensures { λ r. ⌜ Writes (now (s .entry)) (now (s .exit)) (now (fx .entry)) (now (fx .exit)) (now (bytes .entry)) (said (r .answer)) (r .words) ⌝ }
 {
     let n = bytes.len() / 16;
     if fx.len() / 54 < n {
-        return WriteStep {
+        return Written {
             answer: Answer::ShortWords,
             words: 0,
-            state: s,
         };
     }
-    let mut t = s.table;
-    let d = s.driver;
-    let queue = d.queue;
-    let h = t.holds;
-    let outside = h.outside;
-    let mut all = h.holds;
-    let k = d.handles;
-    let mut handles = k.at;
     let mut i = 0;
     let mut j = 0;
     while i < n {
         let e = decode::cqe(&bytes[16 * i..]);
-        let p = parse_cqe::parse_cqe(e);
-        let tag = e.tag as u64;
-        let at = (tag % 64) as usize;
-        let old = t.slots[at];
-        let v = carry_out::look(tag, old);
-        let r = handle_parsed::handle_parsed(p, v, &mut all, &mut handles, fx, j);
-        let act = r.act;
-        let new = r.slot;
-        let w = carry_out::slot_after(tag, act, new, old);
-        let next = t.next[at];
-        let head = t.head;
-        let after = carry_out::next_after(tag, act, next, head);
-        let first = carry_out::head_after(tag, act, head);
-        t.slots[at] = w;
-        t.next[at] = after;
-        t.head = first;
-        j += r.words;
-        let number = r.number;
+        let done = entry(s, e, fx, j);
+        j += done.words;
+        let number = done.number;
         if number != 0 {
-            let left = Holds {
-                holds: all,
-                outside: outside,
-            };
-            t.holds = left;
-            return WriteStep {
+            return Written {
                 answer: stop(i, number),
                 words: j,
-                state: State {
-                    driver: Driver {
-                        scheme: d.scheme,
-                        handles: Handles { at: handles },
-                        queue: queue,
-                    },
-                    table: t,
-                },
             };
         }
         i += 1;
     }
-    let left = Holds {
-        holds: all,
-        outside: outside,
-    };
-    t.holds = left;
-    WriteStep {
+    Written {
         answer: Answer::Bytes(16 * n as u64),
         words: j,
-        state: State {
-            driver: Driver {
-                scheme: d.scheme,
-                handles: Handles { at: handles },
-                queue: queue,
-            },
-            table: t,
-        },
-    }
-}
-
-// A write that holds the entry e alone, on the part at its tag. Hold counts and handles are lent.
-pub fn entry(
-    p: Part,
-    all: &mut [u64; 64],
-    handles: &mut [u64; 64],
-    fx: &mut [u64],
-    e: Cqe,
-) -> EntryStep
-    ensures { λ r. ⌜ ((s : AnyState) (o ws bs : List ℕ) → length bs / 16 ≡ 1 → e ≡ cqeOf bs → Stands s (e .tag % 64) p → (said (r .answer) ≡ writeOf (world (found (stateWithHandles s (handlesWith (now (handles .entry)))) p (holdsWith (now (all .entry)) o)) ws) (length (now (fx .entry))) bs .answer) × ((world (leaves (stateWithHandles s (handlesWith (now (handles .exit)))) (e .tag % 64) (r .part) (holdsWith (now (all .exit)) o)) ws ≡ writeOf (world (found (stateWithHandles s (handlesWith (now (handles .entry)))) p (holdsWith (now (all .entry)) o)) ws) (length (now (fx .entry))) bs .world) × ((now (fx .exit) ≡ sets (now (fx .entry)) 0 (writeOf (world (found (stateWithHandles s (handlesWith (now (handles .entry)))) p (holdsWith (now (all .entry)) o)) ws) (length (now (fx .entry))) bs .effects)) × (r .words ≡ length (writeOf (world (found (stateWithHandles s (handlesWith (now (handles .entry)))) p (holdsWith (now (all .entry)) o)) ws) (length (now (fx .entry))) bs .effects))))) ⌝ }
-{
-    if fx.len() < 54 {
-        return EntryStep {
-            answer: Answer::ShortWords,
-            words: 0,
-            part: p,
-        };
-    }
-    let c = parse_cqe::parse_cqe(e);
-    let tag = e.tag as u64;
-    let old = p.slot;
-    let v = carry_out::look(tag, old);
-    let r = handle_parsed::handle_parsed(c, v, all, handles, fx, 0);
-    let act = r.act;
-    let new = r.slot;
-    let w = carry_out::slot_after(tag, act, new, old);
-    let next = carry_out::next_after(tag, act, p.next, p.head);
-    let head = carry_out::head_after(tag, act, p.head);
-    let queue = p.queue;
-    let after = Part {
-        slot: w,
-        next: next,
-        head: head,
-        queue: queue,
-        scheme: p.scheme,
-    };
-    let number = r.number;
-    if number != 0 {
-        return EntryStep {
-            answer: stop(0, number),
-            words: r.words,
-            part: after,
-        };
-    }
-    EntryStep {
-        answer: Answer::Bytes(16),
-        words: r.words,
-        part: after,
     }
 }

@@ -1,34 +1,52 @@
 -- `call_generic::call_with` meets its contract. Assumes nothing.
 use borrow.Author.Needs.{needs}
+use Rattle.call_generic.proofs.Cases.{no-fds, many-fds, full, queue-full, called}
+use Rattle.step.proofs.Tests.{is}
+use Rattle.events.specs.Outcome.{said}
+use mathlib.Core.Path.{ap}
 use Rattle.call_generic.proofs.call_with.Statement.{statement}
 use Rattle.call_generic.proofs.call_with.Tie as tie
-use Prim.Native.Nat.{_%_}
-use mathlib.Core.Path.{refl, ap, _∙_}
-use native.Mathlib.Omega.{arith}
-use borrow.Author.Tests.{le-leb, lt-leb}
-use Rattle.slot.specs.Slots.{waitingOf}
-use Rattle.wait_queue.specs.declared.Sent.{Sent}
-use Rattle.part.specs.Part.{found}
-use Rattle.part.proofs.Laws.{given-is}
-use Rattle.events.specs.Submit.{genericEntry}
-use Rattle.event_cases.proofs.Begun.{begun-is}
-use Rattle.event_cases.proofs.Parts.{leads, stays, rooted}
-use Rattle.call_generic.proofs.Cases.{no-fds, many-fds, full, queue-full, called}
+use Rattle.fd_list.proofs.empty.Reads as empty-reads
+use Rattle.generic_entry.proofs.entry.Reads as entry-reads
+use Rattle.slot.proofs.waiting.Reads as waiting-reads
+use Rattle.step.proofs.begun.Reads as begun-reads
+use Rattle.step.proofs.answered.Reads as answered-reads
+use Rattle.words.proofs.head.Reads as head-reads
+use Rattle.words.proofs.is_full.Reads as is-full-reads
+use Rattle.words.proofs.queue_full.Reads as queue-full-reads
 
-none-requires : tie.Need-none-requires
-none-requires c κs = search needs
+answered-requires : tie.Need-answered-requires
+answered-requires c κs = search needs
 
 returns : tie.Need-returns
-returns c = let a = c .before .before .before .before .args in λ s h st. stays s (a .p .head % 64) (a .p) st h _ _ _ _ (no-fds (found s (a .p) h) (a .words .now) (a .op) (a .caller) (a .pid) (a .fds .now) (a .base) (a .len) (a .metadata .now) _ (c .before .none .ensures) (c .if1 .taken))
+returns c = let a = c .before .before .before .before .args in no-fds (a .op) (a .s .now) (a .caller) (a .pid) (a .fds .now) (a .base) (a .len) (a .metadata .now) _ _ (c .before .if1 .taken) (ap said (c .answered .ensures .0)) (c .answered .ensures .1)
+
+answered-requires-2 : tie.Need-answered-requires-2
+answered-requires-2 c κs = search needs
 
 returns-2 : tie.Need-returns-2
-returns-2 c = let a = c .before .before .before .before .before .args in λ s h st. stays s (a .p .head % 64) (a .p) st h _ _ _ _ (many-fds (found s (a .p) h) (a .words .now) (a .op) (a .caller) (a .pid) (a .fds .now) (a .base) (a .len) (a .metadata .now) _ (c .before .before .none .ensures) (c .before .if1 .left) (c .if2 .taken))
+returns-2 c = let a = c .before .before .before .before .before .args in many-fds (a .op) (a .s .now) (a .caller) (a .pid) (a .fds .now) (a .base) (a .len) (a .metadata .now) _ _ (c .before .before .if1 .left) (c .before .if2 .taken) (ap said (c .answered2 .ensures .0)) (c .answered2 .ensures .1)
+
+is-full-requires : tie.Need-is-full-requires
+is-full-requires c κs = search needs
+
+answered-requires-3 : tie.Need-answered-requires-3
+answered-requires-3 c κs = search needs
 
 returns-3 : tie.Need-returns-3
-returns-3 c = let a = c .before .before .before .before .before .before .args in λ s h st. stays s (a .p .head % 64) (a .p) st h _ _ _ _ (full (found s (a .p) h) (a .words .now) (a .op) (a .caller) (a .pid) (a .fds .now) (a .base) (a .len) (a .metadata .now) _ (c .before .before .before .none .ensures) (c .before .before .if1 .left) (c .before .if2 .left) (le-leb _ _ (c .if3 .taken)))
+returns-3 c = let a = c .before .before .before .before .before .before .before .before .args in full (a .op) (a .s .now) (a .caller) (a .pid) (a .fds .now) (a .base) (a .len) (a .metadata .now) _ _ (c .before .before .before .before .before .if1 .left) (c .before .before .before .before .if2 .left) (is (c .before .before .is-full .ensures) (c .before .if3 .taken)) (ap said (c .answered3 .ensures .0)) (c .answered3 .ensures .1)
+
+queue-full-requires : tie.Need-queue-full-requires
+queue-full-requires c κs = search needs
+
+answered-requires-4 : tie.Need-answered-requires-4
+answered-requires-4 c κs = search needs
 
 returns-4 : tie.Need-returns-4
-returns-4 c = let a = c .before .before .before .before .before .before .before .before .before .args in λ s h st. stays s (a .p .head % 64) (a .p) st h _ _ _ _ (queue-full (found s (a .p) h) (a .words .now) (a .op) (a .caller) (a .pid) (a .fds .now) (a .base) (a .len) (a .metadata .now) _ (c .before .before .before .before .before .before .none .ensures) (c .before .before .before .before .before .if1 .left) (c .before .before .before .before .if2 .left) (lt-leb _ _ (c .before .before .before .if3 .left)) (le-leb _ _ (c .if4 .taken)))
+returns-4 c = let a = c .before .before .before .before .before .before .before .before .before .before .before .args in queue-full (a .op) (a .s .now) (a .caller) (a .pid) (a .fds .now) (a .base) (a .len) (a .metadata .now) _ _ (c .before .before .before .before .before .before .before .before .if1 .left) (c .before .before .before .before .before .before .before .if2 .left) (is (c .before .before .before .before .before .is-full .ensures) (c .before .before .before .before .if3 .left)) (is (c .before .before .queue-full .ensures) (c .before .if4 .taken)) (ap said (c .answered4 .ensures .0)) (c .answered4 .ensures .1)
+
+head-requires : tie.Need-head-requires
+head-requires c κs = search needs
 
 empty-requires : tie.Need-empty-requires
 empty-requires c κs = search needs
@@ -42,36 +60,32 @@ cast-entry c = search needs
 entry-requires : tie.Need-entry-requires
 entry-requires c κs = search needs
 
-send-requires : tie.Need-send-requires
-send-requires c κs = search needs
-
-given-requires : tie.Need-given-requires
-given-requires c κs = search needs
-
-event-read-requires : tie.Need-event-read-requires
-event-read-requires c κs = search needs
-
-root-requires : tie.Need-root-requires
-root-requires c κs = search needs
+begun-requires : tie.Need-begun-requires
+begun-requires c κs = search needs
 
 returns-5 : tie.Need-returns-5
-returns-5 c = let a = c .before .before .before .before .before .before .before .before .before .before .before .before .before .before .before .before .before .before .args in λ s h st. leads _ _ (given-is s (a .p) _ _ _ h st (c .before .before .before .before .before .before .before .before .before .before .before .before .if3 .left) (c .before .before .given .ensures)) _ _ _ _ (called (found s (a .p) h) (a .words .now) (a .op) (a .caller) (a .pid) (a .fds .now) (a .base) (a .len) (a .metadata .now) (c .before .before .before .before .before .before .before .before .before .before .before .before .before .before .if1 .left) (c .before .before .before .before .before .before .before .before .before .before .before .before .before .if2 .left) (lt-leb _ _ (c .before .before .before .before .before .before .before .before .before .before .before .before .if3 .left)) (lt-leb _ _ (c .before .before .before .before .before .before .before .before .before .if4 .left)) _ (begun-is (found s (a .p) h) (a .words .now) _ _ h _ (genericEntry (a .op) (a .pid) (a .fds .now) (a .base) (a .len) (a .metadata .now)) _ _ _ _ (c .before .before .before .before .before .before .before .waiting .ensures ∙ ap (waitingOf (a .caller)) (c .before .before .before .before .before .before .before .before .empty .ensures)) refl (c .before .before .before .before .before .before .entry .ensures) (ap (λ (t : Sent). t .queue) (c .before .before .before .before .send .ensures .0)) (c .before .before .before .before .send .ensures .1) (rooted s _ _ _ _ (c .root .ensures) (st .2) (c .before .event-read .ensures))))
+returns-5 c =
+    let a = c .before .before .before .before .before .before .before .before .before .before .before .before .before .before .before .before .before .before .args in
+    called (a .op) (a .s .now) (a .caller) (a .pid) (a .fds .now) (a .base) (a .len) (a .metadata .now) (c .before .before .before .before .before .before .before .before .before .before .before .before .before .before .before .if1 .left) (c .before .before .before .before .before .before .before .before .before .before .before .before .before .before .if2 .left) (is (c .before .before .before .before .before .before .before .before .before .before .before .before .is-full .ensures) (c .before .before .before .before .before .before .before .before .before .before .before .if3 .left)) (is (c .before .before .before .before .before .before .before .before .before .queue-full .ensures) (c .before .before .before .before .before .before .before .before .if4 .left)) _ (c .before .before .before .before .before .before .head .ensures) _ (c .before .before .before .before .before .empty .ensures) _ (c .before .before .before .before .waiting .ensures) _ (c .before .before .entry .ensures) _ _ _ (c .begun .ensures .0) (c .begun .ensures .1 .0) (c .begun .ensures .1 .1)
 
 pub call-with-spec : {M : Type 1} → statement M
 call-with-spec =
     tie.close
     (tie.spec
-    none-requires
+    answered-requires
     returns
+    answered-requires-2
     returns-2
+    is-full-requires
+    answered-requires-3
     returns-3
+    queue-full-requires
+    answered-requires-4
     returns-4
+    head-requires
     empty-requires
     waiting-requires
     cast-entry
     entry-requires
-    send-requires
-    given-requires
-    event-read-requires
-    root-requires
+    begun-requires
     returns-5)

@@ -1,32 +1,48 @@
 -- `call_inner::wake` meets its contract. Assumes nothing.
 use borrow.Author.Needs.{needs}
+use Rattle.call_inner.proofs.Cases.{bad-killed, stay, killed-now, blocked-now, handed}
+use Rattle.layout.proofs.Worlds.{plain-fits}
+use Rattle.layout.specs.Layout.{plainOf}
+use Rattle.events.specs.Wake.{responseFrom}
+use Rattle.events.specs.Outcome.{saidWith}
+use Rattle.events.specs.World.{holdsOf}
+use Rattle.effect.specs.Effect.{effectWords}
+use mathlib.Core.Path.{ap, _∙_}
 use Rattle.call_inner.proofs.wake.Statement.{statement}
 use Rattle.call_inner.proofs.wake.Tie as tie
-use Prim.Native.Nat.{_%_}
-use mathlib.Core.Path.{refl, ap}
-use Rattle.wait_queue.specs.declared.Sent.{Sent}
-use Rattle.part.specs.Part.{found}
-use Rattle.part.proofs.Laws.{slot-is, vacated-at}
-use Rattle.event_cases.proofs.Parts.{leads, stays-with, stored-with, rooted}
-use Rattle.call_inner.proofs.Cases.{bad-killed, no-slot, stays, killed-now, blocked-now, handed}
+use Rattle.effect.proofs.none.Reads as none-reads
+use Rattle.ids.proofs.slot_of.Reads as slot-of-reads
+use Rattle.slot.proofs.canceled.Reads as canceled-reads
+use Rattle.slot.proofs.interrupted.Reads as interrupted-reads
+use Rattle.step.proofs.went_on.Reads as went-on-reads
+use Rattle.call_inner.proofs.without_reply.Reads as without-reply-reads
+use Rattle.wake_decision.proofs.cancel_entry.Reads as cancel-entry-reads
+use Rattle.wake_decision.proofs.decide.Reads as decide-reads
+use Rattle.wake_decision.proofs.holds_in.Reads as holds-in-reads
+use Rattle.words.proofs.load.Reads as load-reads
+use Rattle.words.proofs.put.Reads as put-reads
+use Rattle.words.proofs.sized.Reads as sized-reads
+use Rattle.words.proofs.to_outside.Reads as to-outside-reads
+use Rattle.words.proofs.unread.Reads as unread-reads
+use Rattle.words.proofs.vacate.Reads as vacate-reads
 
 none-requires : tie.Need-none-requires
 none-requires c κs = search needs
 
-no-reply-requires : tie.Need-no-reply-requires
-no-reply-requires c κs = search needs
-
-empty-requires : tie.Need-empty-requires
-empty-requires c κs = search needs
+without-reply-requires : tie.Need-without-reply-requires
+without-reply-requires c κs = search needs
 
 returns : tie.Need-returns
-returns c = let a = c .before .before .before .before .args in λ s h long st. stays-with s (a .tag .0 % 64) (a .p) st h _ (c .before .empty .ensures) _ _ _ _ (bad-killed (found s (a .p) h) (a .words .now) (a .tag) (a .caller) (a .killed) (a .base) (a .count) _ (c .before .before .before .none .ensures) (c .if1 .taken))
+returns c = let a = c .before .before .before .args in let x = c .without-reply in let R = responseFrom (x .result .reply) (x .result .fds) in bad-killed (a .s .now) (a .tag) (a .caller) (a .killed) (a .base) (a .count) (c .before .if1 .taken) _ _ (ap (saidWith R) (x .ensures .0)) (ap effectWords (x .ensures .1) ∙ c .before .before .none .ensures)
 
 slot-of-requires : tie.Need-slot-of-requires
 slot-of-requires c κs = search needs
 
-returns-2 : tie.Need-returns-2
-returns-2 c = let a = c .before .before .before .before .before .before .before .args in λ s h long st. stays-with s (a .tag .0 % 64) (a .p) st h _ (c .before .before .before .before .empty .ensures) _ _ _ _ (no-slot (found s (a .p) h) (a .words .now) (a .tag) (a .caller) (a .killed) (a .base) (a .count) _ (c .before .before .before .before .before .before .none .ensures) _ (c .before .before .slot-of .ensures) (c .before .before .before .if1 .left) (c .if2 .taken))
+load-requires : tie.Need-load-requires
+load-requires c κs = search needs
+
+unread-requires : tie.Need-unread-requires
+unread-requires c κs = search needs
 
 decide-requires : tie.Need-decide-requires
 decide-requires c κs = search needs
@@ -34,8 +50,8 @@ decide-requires c κs = search needs
 enum-told : tie.Need-enum-told
 enum-told c = search needs
 
-returns-3 : tie.Need-returns-3
-returns-3 c = let a = c .before .before .before .before .before .before .before .before .before .before .before .before .args in λ s h long st. stays-with s (a .tag .0 % 64) (a .p) st h _ (c .before .before .before .before .before .before .before .before .before .empty .ensures) _ _ _ _ (stays (found s (a .p) h) (a .words .now) (a .tag) (a .caller) (a .killed) (a .base) (a .count) _ (c .before .before .before .before .before .before .before .before .before .before .before .none .ensures) _ (c .before .before .before .before .before .before .before .slot-of .ensures) (c .before .before .before .before .before .before .before .before .if1 .left) (c .before .before .before .before .before .if2 .left) (a .p .slot) (slot-is s (a .tag) _ (c .before .before .before .before .before .before .before .slot-of .ensures) (c .before .before .before .before .before .if2 .left) (a .p) st) _ (c .before .before .decide .ensures) _ (c .enum-told .given .1))
+without-reply-requires-2 : tie.Need-without-reply-requires-2
+without-reply-requires-2 c κs = search needs
 
 enum-told-2 : tie.Need-enum-told-2
 enum-told-2 c = search needs
@@ -43,11 +59,14 @@ enum-told-2 c = search needs
 interrupted-requires : tie.Need-interrupted-requires
 interrupted-requires c κs = search needs
 
-stored-requires : tie.Need-stored-requires
-stored-requires c κs = search needs
+put-requires : tie.Need-put-requires
+put-requires c κs = search needs
 
-returns-4 : tie.Need-returns-4
-returns-4 c = let a = c .before .before .before .before .before .before .before .before .before .before .before .before .before .before .args in λ s h long st. leads _ _ (stored-with s (a .tag) _ (c .before .before .before .before .before .before .before .before .before .slot-of .ensures) (c .before .before .before .before .before .before .before .if2 .left) (a .p) st _ _ _ h _ (c .before .before .before .before .before .before .before .before .before .before .before .empty .ensures) (c .stored .ensures)) _ _ _ _ (killed-now (found s (a .p) h) (a .words .now) (a .tag) (a .caller) (a .killed) (a .base) (a .count) _ (c .before .before .before .before .before .before .before .before .before .before .before .before .before .none .ensures) _ (c .before .before .before .before .before .before .before .before .before .slot-of .ensures) (c .before .before .before .before .before .before .before .before .before .before .if1 .left) (c .before .before .before .before .before .before .before .if2 .left) (a .p .slot) (slot-is s (a .tag) _ (c .before .before .before .before .before .before .before .before .before .slot-of .ensures) (c .before .before .before .before .before .before .before .if2 .left) (a .p) st) _ (c .before .before .before .before .decide .ensures) _ (c .before .before .enum-told2 .given .1) (c .before .interrupted .ensures))
+without-reply-requires-3 : tie.Need-without-reply-requires-3
+without-reply-requires-3 c κs = search needs
+
+returns-2 : tie.Need-returns-2
+returns-2 c = let a = c .before .before .before .before .before .before .before .before .before .before .before .before .before .before .args in let x = c .without-reply3 in let R = responseFrom (x .result .reply) (x .result .fds) in killed-now (a .s .now) (a .tag) (a .caller) (a .killed) (a .base) (a .count) (c .before .before .before .before .before .before .before .before .before .before .before .before .if1 .left) _ (c .before .before .before .before .before .before .before .before .before .before .before .slot-of .ensures) _ (c .before .before .before .before .before .before .before .before .before .load .ensures) _ (c .before .before .before .before .before .before .before .unread .ensures) _ (c .before .before .before .before .before .before .decide .ensures) R _ _ _ _ (c .before .before .before .before .enum-told2 .given .1) (ap (saidWith R) (x .ensures .0)) (ap effectWords (x .ensures .1) ∙ c .before .before .before .before .before .before .before .before .before .before .before .before .before .none .ensures) (c .before .before .before .interrupted .ensures) (c .before .put .ensures)
 
 enum-told-3 : tie.Need-enum-told-3
 enum-told-3 c = search needs
@@ -58,20 +77,14 @@ canceled-requires c κs = search needs
 cancel-entry-requires : tie.Need-cancel-entry-requires
 cancel-entry-requires c κs = search needs
 
-send-requires : tie.Need-send-requires
-send-requires c κs = search needs
+went-on-requires : tie.Need-went-on-requires
+went-on-requires c κs = search needs
 
-stored-requires-2 : tie.Need-stored-requires-2
-stored-requires-2 c κs = search needs
+without-reply-requires-4 : tie.Need-without-reply-requires-4
+without-reply-requires-4 c κs = search needs
 
-event-read-requires : tie.Need-event-read-requires
-event-read-requires c κs = search needs
-
-root-requires : tie.Need-root-requires
-root-requires c κs = search needs
-
-returns-5 : tie.Need-returns-5
-returns-5 c = let a = c .before .before .before .before .before .before .before .before .before .before .before .before .before .before .before .before .before .before .before .before .args in λ s h long st. leads _ _ (stored-with s (a .tag) _ (c .before .before .before .before .before .before .before .before .before .before .before .before .before .before .before .slot-of .ensures) (c .before .before .before .before .before .before .before .before .before .before .before .before .before .if2 .left) (a .p) st _ _ _ h _ (c .before .before .before .before .before .before .before .before .before .before .before .before .before .before .before .before .before .empty .ensures) (c .before .before .stored2 .ensures)) _ _ _ _ (blocked-now (found s (a .p) h) (a .words .now) (a .tag) (a .caller) (a .killed) (a .base) (a .count) _ (c .before .before .before .before .before .before .before .before .before .before .before .before .before .before .before .before .before .before .before .none .ensures) _ (c .before .before .before .before .before .before .before .before .before .before .before .before .before .before .before .slot-of .ensures) (c .before .before .before .before .before .before .before .before .before .before .before .before .before .before .before .before .if1 .left) (c .before .before .before .before .before .before .before .before .before .before .before .before .before .if2 .left) (a .p .slot) (slot-is s (a .tag) _ (c .before .before .before .before .before .before .before .before .before .before .before .before .before .before .before .slot-of .ensures) (c .before .before .before .before .before .before .before .before .before .before .before .before .before .if2 .left) (a .p) st) _ (c .before .before .before .before .before .before .before .before .before .before .decide .ensures) _ _ _ _ _ (c .before .before .before .before .before .before .before .before .enum-told3 .given .1) (c .before .before .before .before .before .before .before .canceled .ensures) (c .before .before .before .before .before .before .cancel-entry .ensures) (ap (λ (t : Sent). t .queue) (c .before .before .before .before .send .ensures .0)) (c .before .before .before .before .send .ensures .1) (rooted s _ _ _ _ (c .root .ensures) (st .2) (c .before .event-read .ensures)))
+returns-3 : tie.Need-returns-3
+returns-3 c = let a = c .before .before .before .before .before .before .before .before .before .before .before .before .before .before .before .before .args in let x = c .without-reply4 in let R = responseFrom (x .result .reply) (x .result .fds) in blocked-now (a .s .now) (a .tag) (a .caller) (a .killed) (a .base) (a .count) (c .before .before .before .before .before .before .before .before .before .before .before .before .before .before .if1 .left) _ (c .before .before .before .before .before .before .before .before .before .before .before .before .before .slot-of .ensures) _ (c .before .before .before .before .before .before .before .before .before .before .before .load .ensures) _ (c .before .before .before .before .before .before .before .before .before .unread .ensures) _ (c .before .before .before .before .before .before .before .before .decide .ensures) R _ _ _ _ _ (c .before .before .before .before .before .before .enum-told3 .given .1) (ap (saidWith R) (x .ensures .0)) (ap effectWords (x .ensures .1) ∙ c .before .before .went-on .ensures .1 .0) (c .before .before .before .before .before .canceled .ensures) (c .before .before .before .before .cancel-entry .ensures) (c .before .before .went-on .ensures .1 .1)
 
 enum-told-4 : tie.Need-enum-told-4
 enum-told-4 c = search needs
@@ -79,42 +92,49 @@ enum-told-4 c = search needs
 holds-in-requires : tie.Need-holds-in-requires
 holds-in-requires c κs = search needs
 
-cast-vacated : tie.Need-cast-vacated
-cast-vacated c = search needs
+sized-requires : tie.Need-sized-requires
+sized-requires c κs = search needs
 
-vacated-requires : tie.Need-vacated-requires
-vacated-requires c κs = search needs
+to-outside-requires : tie.Need-to-outside-requires
+to-outside-requires c κs = search needs
 
-returns-6 : tie.Need-returns-6
-returns-6 c = let a = c .before .before .before .before .before .before .before .before .before .before .before .before .before .before .before .before .before .args in λ s h long st. leads _ _ (vacated-at s (a .tag) _ (c .before .before .before .before .before .before .before .before .before .before .before .before .slot-of .ensures) (c .before .before .before .before .before .before .before .before .before .before .if2 .left) (a .p) st _ _ (c .vacated .ensures)) _ _ _ _ (handed (found s (a .p) h) (a .words .now) (a .tag) (a .caller) (a .killed) (a .base) (a .count) _ (c .before .before .before .before .before .before .before .before .before .before .before .before .before .before .before .before .none .ensures) _ (c .before .before .before .before .before .before .before .before .before .before .before .before .slot-of .ensures) (c .before .before .before .before .before .before .before .before .before .before .before .before .before .if1 .left) (c .before .before .before .before .before .before .before .before .before .before .if2 .left) (a .p .slot) (slot-is s (a .tag) _ (c .before .before .before .before .before .before .before .before .before .before .before .before .slot-of .ensures) (c .before .before .before .before .before .before .before .before .before .before .if2 .left) (a .p) st) _ (c .before .before .before .before .before .before .before .decide .ensures) _ _ (c .before .before .before .before .before .enum-told4 .given .1) refl (c .before .before .holds-in .ensures h long))
+vacate-requires : tie.Need-vacate-requires
+vacate-requires c κs = search needs
+
+returns-4 : tie.Need-returns-4
+returns-4 c = let a = c .before .before .before .before .before .before .before .before .before .before .before .before .before .before .before .before .before .before .before .args in handed (a .s .now) (a .tag) (a .caller) (a .killed) (a .base) (a .count) (c .before .before .before .before .before .before .before .before .before .before .before .before .before .before .before .before .before .if1 .left) _ (c .before .before .before .before .before .before .before .before .before .before .before .before .before .before .before .before .slot-of .ensures) _ (c .before .before .before .before .before .before .before .before .before .before .before .before .before .before .load .ensures) _ (c .before .before .before .before .before .before .before .before .before .before .before .before .unread .ensures) _ (c .before .before .before .before .before .before .before .before .before .before .before .decide .ensures) _ (c .before .before .before .before .before .before .holds-in .result) _ _ (c .before .before .before .before .before .before .before .before .before .enum-told4 .given .1) (c .before .before .before .before .before .before .before .before .before .before .before .before .before .before .before .before .before .before .none .ensures) (c .before .before .before .before .before .before .holds-in .ensures (holdsOf (plainOf (a .s .now))) (plain-fits (a .s .now) (c .before .before .before .before .sized .ensures) .outside)) (c .before .before .to-outside .ensures) (c .vacate .ensures)
+
+returns-5 : tie.Need-returns-5
+returns-5 c = let a = c .before .before .before .before .before .before .before .before .before .before .before .args in let x = c .without-reply2 in let R = responseFrom (x .result .reply) (x .result .fds) in stay (a .s .now) (a .tag) (a .caller) (a .killed) (a .base) (a .count) (c .before .before .before .before .before .before .before .before .before .if1 .left) _ (c .before .before .before .before .before .before .before .before .slot-of .ensures) _ (c .before .before .before .before .before .before .load .ensures) _ (c .before .before .before .before .unread .ensures) _ (c .before .before .before .decide .ensures) R _ _ (c .before .enum-told .given .1) (ap (saidWith R) (x .ensures .0)) (ap effectWords (x .ensures .1) ∙ c .before .before .before .before .before .before .before .before .before .before .none .ensures)
 
 pub wake-spec : {M : Type 1} → statement M
 wake-spec =
     tie.close
     (tie.spec
     none-requires
-    no-reply-requires
-    empty-requires
+    without-reply-requires
     returns
     slot-of-requires
-    returns-2
+    load-requires
+    unread-requires
     decide-requires
     enum-told
-    returns-3
+    without-reply-requires-2
     enum-told-2
     interrupted-requires
-    stored-requires
-    returns-4
+    put-requires
+    without-reply-requires-3
+    returns-2
     enum-told-3
     canceled-requires
     cancel-entry-requires
-    send-requires
-    stored-requires-2
-    event-read-requires
-    root-requires
-    returns-5
+    went-on-requires
+    without-reply-requires-4
+    returns-3
     enum-told-4
     holds-in-requires
-    cast-vacated
-    vacated-requires
-    returns-6)
+    sized-requires
+    to-outside-requires
+    vacate-requires
+    returns-4
+    returns-5)

@@ -1,52 +1,51 @@
 -- `close::detach` meets its contract. Assumes nothing.
 use borrow.Author.Needs.{needs}
+use Rattle.close.proofs.Cases.{full, queued}
+use Rattle.step.proofs.Tests.{is}
+use Rattle.events.specs.Event.{on, detach}
+use Rattle.events.specs.Submit.{args6, sqe, detachEntry}
+use Rattle.events.specs.Outcome.{said}
+use Rattle.flag.specs.Flags.{eventRead}
+use mathlib.Core.Path.{refl, ap}
 use Rattle.close.proofs.detach.Statement.{statement}
 use Rattle.close.proofs.detach.Tie as tie
-use Prim.Native.Nat.{ℕ}
-use mathlib.Core.Path.{ap, _∙_}
-use borrow.Author.Tests.{le-leb, lt-leb}
-use Rattle.flag.specs.Flags.{eventRead}
-use Rattle.wait_queue.specs.declared.Sent.{Sent}
-use Rattle.wait_queue.specs.Queue.{sentWords}
-use Rattle.events.specs.Submit.{args6, sqe, detachEntry}
-use Rattle.part.specs.Part.{found}
-use Rattle.part.proofs.Laws.{queued-is}
-use Rattle.event_cases.proofs.Parts.{leads, stays, rooted}
-use Rattle.close.proofs.Cases.{full, sent}
+use Rattle.flag.proofs.event_read.Reads as event-read-reads
+use Rattle.opcode.proofs.detach.Reads as detach-reads
+use Rattle.step.proofs.notified.Reads as notified-reads
+use Rattle.step.proofs.answered.Reads as answered-reads
+use Rattle.words.proofs.queue_full.Reads as queue-full-reads
 
-none-requires : tie.Need-none-requires
-none-requires c κs = search needs
+queue-full-requires : tie.Need-queue-full-requires
+queue-full-requires c κs = search needs
+
+answered-requires : tie.Need-answered-requires
+answered-requires c κs = search needs
 
 returns : tie.Need-returns
-returns c = let a = c .before .before .before .before .args in λ s n h st. stays s n (a .p) st h _ _ _ _ (full (found s (a .p) h) (a .words .now) (eventRead) (detachEntry (a .id) (a .pid)) _ (c .none .ensures) (le-leb _ _ (c .before .if1 .taken)))
+returns c = let a = c .before .before .before .before .args in full (a .s .now) (on (detach (a .id) (a .pid))) eventRead (detachEntry (a .id) (a .pid)) refl refl (is (c .before .before .queue-full .ensures) (c .before .if1 .taken)) _ _ (ap said (c .answered .ensures .0)) (c .answered .ensures .1)
 
 detach-requires : tie.Need-detach-requires
 detach-requires c κs = search needs
 
-send-requires : tie.Need-send-requires
-send-requires c κs = search needs
-
-queued-requires : tie.Need-queued-requires
-queued-requires c κs = search needs
-
 event-read-requires : tie.Need-event-read-requires
 event-read-requires c κs = search needs
 
-root-requires : tie.Need-root-requires
-root-requires c κs = search needs
+notified-requires : tie.Need-notified-requires
+notified-requires c κs = search needs
 
 returns-2 : tie.Need-returns-2
-returns-2 c = let a = c .before .before .before .before .before .before .before .before .before .before .args in λ s n h st. leads _ _ (queued-is s n (a .p) st _ _ h (c .before .before .queued .ensures)) _ _ _ _ (sent (found s (a .p) h) (a .words .now) (eventRead) (detachEntry (a .id) (a .pid)) (lt-leb _ _ (c .before .before .before .before .before .before .before .if1 .left)) _ _ _ (ap (λ (t : Sent). t .queue) (c .before .before .before .before .send .ensures .0)) (c .before .before .before .before .send .ensures .1 ∙ ap (λ (o : ℕ). sentWords (a .p .queue) (a .words .now) (sqe o 0 0 (args6 (a .id) 0 0 0 0 0) (a .pid))) (c .before .before .before .before .before .before .detach .ensures)) (rooted s _ _ _ _ (c .root .ensures) (st .2) (c .before .event-read .ensures)))
+returns-2 c =
+    let a = c .before .before .before .before .before .before .before .args in
+    queued (a .s .now) (on (detach (a .id) (a .pid))) eventRead (detachEntry (a .id) (a .pid)) refl refl _ _ _ _ _ (is (c .before .before .before .before .before .queue-full .ensures) (c .before .before .before .before .if1 .left)) (c .before .before .event-read .ensures) (ap (λ op. sqe op 0 0 (args6 (a .id) 0 0 0 0 0) (a .pid)) (c .before .before .before .detach .ensures)) (c .notified .ensures .0) (c .notified .ensures .1 .0) (c .notified .ensures .1 .1)
 
 pub detach-spec : {M : Type 1} → statement M
 detach-spec =
     tie.close
     (tie.spec
-    none-requires
+    queue-full-requires
+    answered-requires
     returns
     detach-requires
-    send-requires
-    queued-requires
     event-read-requires
-    root-requires
+    notified-requires
     returns-2)

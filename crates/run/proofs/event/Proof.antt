@@ -3,22 +3,22 @@ use borrow.Author.Needs.{needs}
 use Rattle.run.proofs.ByKind.{as-kind, as-supply, over}
 use Rattle.run.proofs.event.Statement.{statement}
 use Rattle.run.proofs.event.Tie as tie
-use Rattle.w_call.proofs.call.Reads as call-reads
-use Rattle.w_close.proofs.close.Reads as close-reads
-use Rattle.w_close.proofs.detach.Reads as detach-reads
-use Rattle.w_fd.proofs.call_fdread.Reads as call-fdread-reads
-use Rattle.w_fd.proofs.call_fdwrite.Reads as call-fdwrite-reads
-use Rattle.w_fmap.proofs.request_fmap.Reads as request-fmap-reads
-use Rattle.w_generic.proofs.call_generic.Reads as call-generic-reads
-use Rattle.w_generic.proofs.translate_std_fs_call.Reads as translate-std-fs-call-reads
-use Rattle.w_host.proofs.copy.Reads as copy-reads
-use Rattle.w_host.proofs.drop.Reads as drop-reads
-use Rattle.w_host.proofs.ended.Reads as ended-reads
-use Rattle.w_host.proofs.open.Reads as open-reads
-use Rattle.w_host.proofs.put.Reads as put-reads
-use Rattle.w_next_id.proofs.next_id.Reads as next-id-reads
-use Rattle.w_submit.proofs.submit.Reads as submit-reads
-use Rattle.w_supply.proofs.provide_mmap.Reads as provide-mmap-reads
+use Rattle.call.proofs.call.Reads as call-reads
+use Rattle.close.proofs.close.Reads as close-reads
+use Rattle.close.proofs.detach.Reads as detach-reads
+use Rattle.call_fd.proofs.call_fdread.Reads as call-fdread-reads
+use Rattle.call_fd.proofs.call_fdwrite.Reads as call-fdwrite-reads
+use Rattle.request_fmap.proofs.request_fmap.Reads as request-fmap-reads
+use Rattle.call_generic.proofs.call_generic.Reads as call-generic-reads
+use Rattle.call_generic.proofs.translate_std_fs_call.Reads as translate-std-fs-call-reads
+use Rattle.host.proofs.copy.Reads as copy-reads
+use Rattle.host.proofs.drop.Reads as drop-reads
+use Rattle.host.proofs.ended.Reads as ended-reads
+use Rattle.host.proofs.open.Reads as open-reads
+use Rattle.host.proofs.put.Reads as put-reads
+use Rattle.next_id.proofs.next_id.Reads as next-id-reads
+use Rattle.submit.proofs.submit.Reads as submit-reads
+use Rattle.provide_mmap.proofs.provide_mmap.Reads as provide-mmap-reads
 
 open-requires : tie.Need-open-requires
 open-requires c κs = search needs

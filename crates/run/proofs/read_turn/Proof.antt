@@ -8,7 +8,7 @@ use Rattle.run.proofs.read_turn.Statement.{statement}
 use Rattle.run.proofs.read_turn.Tie as tie
 use Rattle.lent_bytes.proofs.put_received.Reads as put-received-reads
 use Rattle.run_room.proofs.least.Reads as least-reads
-use Rattle.w_read.proofs.read.Reads as read-reads
+use Rattle.read.proofs.read.Reads as read-reads
 use Rattle.wait_queue_receive.proofs.copied.Reads as copied-reads
 use Rattle.words.proofs.sized.Reads as sized-reads
 use Rattle.words.proofs.unread.Reads as unread-reads

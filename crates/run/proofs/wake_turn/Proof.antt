@@ -4,7 +4,7 @@ use Rattle.run.proofs.ByKind.{wake-told}
 use Rattle.run.proofs.wake_turn.Statement.{statement}
 use Rattle.run.proofs.wake_turn.Tie as tie
 use Rattle.outcome_bytes.proofs.put_woken.Reads as put-woken-reads
-use Rattle.w_wake.proofs.wake.Reads as wake-reads
+use Rattle.call_inner.proofs.wake.Reads as wake-reads
 use Rattle.words.proofs.sized.Reads as sized-reads
 
 sized-requires : tie.Need-sized-requires

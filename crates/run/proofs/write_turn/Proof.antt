@@ -11,7 +11,7 @@ use Rattle.lent_bytes.proofs.put_completed.Reads as put-completed-reads
 use Rattle.record.proofs.tail.Reads as tail-reads
 use Rattle.record.proofs.tail_at.Reads as tail-at-reads
 use Rattle.run_room.proofs.least.Reads as least-reads
-use Rattle.w_write.proofs.write.Reads as write-reads
+use Rattle.write.proofs.write.Reads as write-reads
 
 least-requires : tie.Need-least-requires
 least-requires c κs = search needs

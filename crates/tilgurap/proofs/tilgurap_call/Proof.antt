@@ -3,7 +3,7 @@ use borrow.Author.Needs.{needs}
 use Rattle.tilgurap.proofs.tilgurap_call.Statement.{statement}
 use Rattle.tilgurap.proofs.tilgurap_call.Tie as tie
 use Rattle.answer_words.proofs.step_words.Reads as step-words-reads
-use Rattle.w_call.proofs.call.Reads as call-reads
+use Rattle.call.proofs.call.Reads as call-reads
 
 call-requires : tie.Need-call-requires
 call-requires c κs = search needs

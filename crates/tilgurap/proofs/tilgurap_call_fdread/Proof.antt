@@ -3,7 +3,7 @@ use borrow.Author.Needs.{needs}
 use Rattle.tilgurap.proofs.tilgurap_call_fdread.Statement.{statement}
 use Rattle.tilgurap.proofs.tilgurap_call_fdread.Tie as tie
 use Rattle.answer_words.proofs.step_words.Reads as step-words-reads
-use Rattle.w_fd.proofs.call_fdread.Reads as call-fdread-reads
+use Rattle.call_fd.proofs.call_fdread.Reads as call-fdread-reads
 
 call-fdread-requires : tie.Need-call-fdread-requires
 call-fdread-requires c κs = search needs

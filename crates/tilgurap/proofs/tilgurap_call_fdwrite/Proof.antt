@@ -3,7 +3,7 @@ use borrow.Author.Needs.{needs}
 use Rattle.tilgurap.proofs.tilgurap_call_fdwrite.Statement.{statement}
 use Rattle.tilgurap.proofs.tilgurap_call_fdwrite.Tie as tie
 use Rattle.answer_words.proofs.step_words.Reads as step-words-reads
-use Rattle.w_fd.proofs.call_fdwrite.Reads as call-fdwrite-reads
+use Rattle.call_fd.proofs.call_fdwrite.Reads as call-fdwrite-reads
 
 call-fdwrite-requires : tie.Need-call-fdwrite-requires
 call-fdwrite-requires c κs = search needs

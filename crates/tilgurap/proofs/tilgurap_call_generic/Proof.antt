@@ -3,7 +3,7 @@ use borrow.Author.Needs.{needs}
 use Rattle.tilgurap.proofs.tilgurap_call_generic.Statement.{statement}
 use Rattle.tilgurap.proofs.tilgurap_call_generic.Tie as tie
 use Rattle.answer_words.proofs.step_words.Reads as step-words-reads
-use Rattle.w_generic.proofs.call_generic.Reads as call-generic-reads
+use Rattle.call_generic.proofs.call_generic.Reads as call-generic-reads
 
 call-generic-requires : tie.Need-call-generic-requires
 call-generic-requires c κs = search needs

@@ -3,7 +3,7 @@ use borrow.Author.Needs.{needs}
 use Rattle.tilgurap.proofs.tilgurap_close.Statement.{statement}
 use Rattle.tilgurap.proofs.tilgurap_close.Tie as tie
 use Rattle.answer_words.proofs.step_words.Reads as step-words-reads
-use Rattle.w_close.proofs.close.Reads as close-reads
+use Rattle.close.proofs.close.Reads as close-reads
 
 close-requires : tie.Need-close-requires
 close-requires c κs = search needs

@@ -3,7 +3,7 @@ use borrow.Author.Needs.{needs}
 use Rattle.tilgurap.proofs.tilgurap_detach.Statement.{statement}
 use Rattle.tilgurap.proofs.tilgurap_detach.Tie as tie
 use Rattle.answer_words.proofs.step_words.Reads as step-words-reads
-use Rattle.w_close.proofs.detach.Reads as detach-reads
+use Rattle.close.proofs.detach.Reads as detach-reads
 
 detach-requires : tie.Need-detach-requires
 detach-requires c κs = search needs

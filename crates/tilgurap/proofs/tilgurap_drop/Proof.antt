@@ -3,7 +3,7 @@ use borrow.Author.Needs.{needs}
 use Rattle.tilgurap.proofs.tilgurap_drop.Statement.{statement}
 use Rattle.tilgurap.proofs.tilgurap_drop.Tie as tie
 use Rattle.answer_words.proofs.step_words.Reads as step-words-reads
-use Rattle.w_host.proofs.drop.Reads as drop-reads
+use Rattle.host.proofs.drop.Reads as drop-reads
 
 drop-requires : tie.Need-drop-requires
 drop-requires c κs = search needs

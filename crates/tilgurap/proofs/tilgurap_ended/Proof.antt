@@ -3,7 +3,7 @@ use borrow.Author.Needs.{needs}
 use Rattle.tilgurap.proofs.tilgurap_ended.Statement.{statement}
 use Rattle.tilgurap.proofs.tilgurap_ended.Tie as tie
 use Rattle.answer_words.proofs.step_words.Reads as step-words-reads
-use Rattle.w_host.proofs.ended.Reads as ended-reads
+use Rattle.host.proofs.ended.Reads as ended-reads
 
 ended-requires : tie.Need-ended-requires
 ended-requires c κs = search needs

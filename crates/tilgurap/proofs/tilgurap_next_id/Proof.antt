@@ -3,7 +3,7 @@ use borrow.Author.Needs.{needs}
 use Rattle.tilgurap.proofs.tilgurap_next_id.Statement.{statement}
 use Rattle.tilgurap.proofs.tilgurap_next_id.Tie as tie
 use Rattle.answer_words.proofs.step_words.Reads as step-words-reads
-use Rattle.w_next_id.proofs.next_id.Reads as next-id-reads
+use Rattle.next_id.proofs.next_id.Reads as next-id-reads
 
 next-id-requires : tie.Need-next-id-requires
 next-id-requires c κs = search needs

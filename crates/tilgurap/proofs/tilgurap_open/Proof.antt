@@ -3,7 +3,7 @@ use borrow.Author.Needs.{needs}
 use Rattle.tilgurap.proofs.tilgurap_open.Statement.{statement}
 use Rattle.tilgurap.proofs.tilgurap_open.Tie as tie
 use Rattle.answer_words.proofs.step_words.Reads as step-words-reads
-use Rattle.w_host.proofs.open.Reads as open-reads
+use Rattle.host.proofs.open.Reads as open-reads
 
 open-requires : tie.Need-open-requires
 open-requires c κs = search needs

@@ -3,7 +3,7 @@ use borrow.Author.Needs.{needs}
 use Rattle.tilgurap.proofs.tilgurap_provide_mmap.Statement.{statement}
 use Rattle.tilgurap.proofs.tilgurap_provide_mmap.Tie as tie
 use Rattle.answer_words.proofs.step_words.Reads as step-words-reads
-use Rattle.w_supply.proofs.provide_mmap.Reads as provide-mmap-reads
+use Rattle.provide_mmap.proofs.provide_mmap.Reads as provide-mmap-reads
 
 provide-mmap-requires : tie.Need-provide-mmap-requires
 provide-mmap-requires c κs = search needs

@@ -7,7 +7,7 @@ use mathlib.Core.Path.{ap, _∙_}
 use Rattle.tilgurap.proofs.tilgurap_read.Statement.{statement}
 use Rattle.tilgurap.proofs.tilgurap_read.Tie as tie
 use Rattle.answer_words.proofs.words.Reads as words-reads
-use Rattle.w_read.proofs.read.Reads as read-reads
+use Rattle.read.proofs.read.Reads as read-reads
 
 read-requires : tie.Need-read-requires
 read-requires c κs = search needs

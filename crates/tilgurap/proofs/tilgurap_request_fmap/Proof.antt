@@ -3,7 +3,7 @@ use borrow.Author.Needs.{needs}
 use Rattle.tilgurap.proofs.tilgurap_request_fmap.Statement.{statement}
 use Rattle.tilgurap.proofs.tilgurap_request_fmap.Tie as tie
 use Rattle.answer_words.proofs.step_words.Reads as step-words-reads
-use Rattle.w_fmap.proofs.request_fmap.Reads as request-fmap-reads
+use Rattle.request_fmap.proofs.request_fmap.Reads as request-fmap-reads
 
 request-fmap-requires : tie.Need-request-fmap-requires
 request-fmap-requires c κs = search needs

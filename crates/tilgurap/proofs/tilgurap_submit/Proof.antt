@@ -3,7 +3,7 @@ use borrow.Author.Needs.{needs}
 use Rattle.tilgurap.proofs.tilgurap_submit.Statement.{statement}
 use Rattle.tilgurap.proofs.tilgurap_submit.Tie as tie
 use Rattle.answer_words.proofs.step_words.Reads as step-words-reads
-use Rattle.w_submit.proofs.submit.Reads as submit-reads
+use Rattle.submit.proofs.submit.Reads as submit-reads
 
 submit-requires : tie.Need-submit-requires
 submit-requires c κs = search needs

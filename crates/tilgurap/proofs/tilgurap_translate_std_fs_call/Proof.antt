@@ -3,7 +3,7 @@ use borrow.Author.Needs.{needs}
 use Rattle.tilgurap.proofs.tilgurap_translate_std_fs_call.Statement.{statement}
 use Rattle.tilgurap.proofs.tilgurap_translate_std_fs_call.Tie as tie
 use Rattle.answer_words.proofs.step_words.Reads as step-words-reads
-use Rattle.w_generic.proofs.translate_std_fs_call.Reads as translate-std-fs-call-reads
+use Rattle.call_generic.proofs.translate_std_fs_call.Reads as translate-std-fs-call-reads
 
 translate-std-fs-call-requires : tie.Need-translate-std-fs-call-requires
 translate-std-fs-call-requires c κs = search needs

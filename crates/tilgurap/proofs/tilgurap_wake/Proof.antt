@@ -3,7 +3,7 @@ use borrow.Author.Needs.{needs}
 use Rattle.tilgurap.proofs.tilgurap_wake.Statement.{statement}
 use Rattle.tilgurap.proofs.tilgurap_wake.Tie as tie
 use Rattle.answer_words.proofs.wake_words.Reads as wake-words-reads
-use Rattle.w_wake.proofs.wake.Reads as wake-reads
+use Rattle.call_inner.proofs.wake.Reads as wake-reads
 
 wake-requires : tie.Need-wake-requires
 wake-requires c κs = search needs
