@@ -276,17 +276,21 @@ fn replay_named(name: &[u8]) {
     libc::close(fd);
 }
 
+fn copied(s: &mut [u64; 2060]) -> AnswerWords {
+    let done = host::copy(s, 5);
+    let answer = done.answer;
+    answer_words::words(answer)
+}
+
 // Copies until one is refused, no more than 65,536.
 fn copied_on(s: &mut [u64; 2060]) -> AnswerWords {
-    let mut said = answer_words::done(0);
+    let mut said = copied(s);
     let mut i: u64 = 0;
     while i < 65536 {
-        let done = host::copy(s, 5);
-        let answer = done.answer;
-        said = answer_words::words(answer);
         if said.kind != 0 {
             return said;
         }
+        said = copied(s);
         i += 1;
     }
     said
