@@ -1,21 +1,13 @@
 -- Laws of the closes. Assumes nothing.
-use Prim.Native.Nat.{ℕ, suc, _+_, _*_, _≤_}
-use mathlib.Core.Path.{_≡_, refl, ap, _∙_}
+use Prim.Native.Nat.{ℕ, _*_, _≤_}
+use mathlib.Core.Path.{_≡_, refl}
 use mathlib.Core.Bool.{Bool, true, false}
-use mathlib.Core.List.{List, [], _∷_, _++_}
+use mathlib.Core.List.{List, [], _∷_}
 use native.Mathlib.Omega.{arith}
 use lib.ListN.{length}
-use lib.Seq.{sets}
 use Rattle.counts.specs.Counts.{lasts}
 use Rattle.counts.proofs.Laws.{lasts-length}
-use Rattle.closes.specs.Closes.{only, close, closes}
-
--- closes of two lists stored in turn; a close is three words, and there are no more closes than descriptions
-pub closes-then : (xs ys fx : List ℕ) (j : ℕ) → sets (sets fx j (closes xs)) (j + 3 * length xs) (closes ys) ≡ sets fx j (closes (xs ++ ys))
-closes-then [] ys fx j = ap (λ (k : ℕ). sets fx k (closes ys)) (let e : j + 3 * 0 ≡ j = omega arith in e)
-closes-then (x ∷ xs) ys fx j =
-    ap (λ (k : ℕ). sets (sets (sets fx j (close x)) (suc (suc (suc j))) (closes xs)) k (closes ys)) (let e : j + 3 * suc (length xs) ≡ suc (suc (suc j)) + 3 * length xs = omega arith in e)
-    ∙ closes-then xs ys (sets fx j (close x)) (suc (suc (suc j)))
+use Rattle.closes.specs.Closes.{only, closes}
 
 pub closes-length : (ds : List ℕ) → length (closes ds) ≡ 3 * length ds
 closes-length [] = refl

@@ -47,10 +47,6 @@ ruled-checked f turn bad (r ∷ rs) o = go (r .due) (ruled-checked f turn bad rs
     go true e = bad (r .number)
     go false e = e
 
-pub ruled-append : (rows rest : List Row) (a : Answer) → ruled rows (ruled rest a) ≡ ruled (rows ++ rest) a
-ruled-append [] rest a = refl
-ruled-append (r ∷ rs) rest a = ap (λ (x : Answer). cond (r .due) (no (r .number)) x) (ruled-append rs rest a)
-
 -- answers told apart
 abbrev refusal : Answer → ℕ
 refusal a = onOk a (λ v. 0) 1

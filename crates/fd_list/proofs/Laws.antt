@@ -8,7 +8,7 @@ use lib.ListN.{getD, set, length, take, drop, length-map, length-take, length-dr
 use lib.Seq.{sets, set-out, drop-cons, getD-take, length-sets, sets-eq, take-at}
 use Rattle.ids.specs.declared.Description.{Description}
 use Rattle.fd_list.specs.declared.List.{List as Sent}
-use Rattle.fd_list.specs.Lists.{desc, num, named, numbers, blank, listOf, withOf, withoutOf, restOf}
+use Rattle.fd_list.specs.Lists.{desc, num, named, numbers, blank, listOf, withOf, withoutOf}
 
 -- an array of structs: the relation that a need is handed speaks of the elements mapped
 pub length-mapped : (X Y : Type 0) (f : X → Y) (l : List X) (n : ℕ) → length (map f l) ≡ n → length l ≡ n
@@ -80,6 +80,3 @@ numbers-listOf ds b =
     let n : length blank ≡ 16 = refl in
     ap (λ (x : List Description). map num (take (length ds) x)) (sets-eq (map desc ds) blank 0 (omega (arith, m, n)))
     ∙ (ap (map num) (take-at (map desc ds) (drop (0 + length (map desc ds)) blank) (length ds) m) ∙ num-desc ds)
-
-pub numbers-rest : (l : Sent) → length (l .at) ≡ 16 → numbers (restOf l) ≡ drop 1 (numbers l)
-numbers-rest l e = numbers-listOf (drop 1 (numbers l)) (omega (arith, length-drop 1 (numbers l), numbers-most l e))

@@ -1,22 +1,10 @@
 -- Marks set slot after slot. Assumes nothing.
-use mathlib.Core.Path.{_≡_, refl, sym, ap, ap₂, _∙_}
-use mathlib.Core.Bool.{Bool, true, false}
+use mathlib.Core.Path.{_≡_, refl, sym, ap, _∙_}
 use mathlib.Core.List.{List, [], _∷_, map}
-use Prim.Native.Nat.{ℕ, zero, suc, _+_, _<_, _≤_}
-use native.Mathlib.Omega.{arith}
+use Prim.Native.Nat.{ℕ, zero, suc, _+_, _<_}
 use native.Mathlib.Numerals.{add-one}
 use native.Mathlib.Nat.{not-suc-le-zero, le-of-suc-le-suc}
-use lib.Dec.{eqb}
 use lib.ListN.{getD, set, length}
-use Rattle.slot.specs.declared.Phase.{Phase}
-use Rattle.slot.specs.declared.Slot.{Slot}
-use Rattle.slot.specs.Slots.{phaseOf}
-use Rattle.table.specs.declared.Table.{Table}
-use Rattle.host_ended.specs.Ended.{markedBy, markedOf, endedTable}
-
--- the tests that the code makes
-pub mark-is : (c : ℕ) (v : Slot) (b : Bool) (p : Phase) → eqb (v .caller) c ≡ b → phaseOf v ≡ p → markedBy b p v ≡ markedOf c v
-mark-is c v b p q r = ap₂ (λ (x : Bool) (y : Phase). markedBy x y v) (sym q) (sym r)
 
 -- the first n elements mapped: what a loop that stores f of each element has done
 module _ {A : Type 0} (f : A → A) where
@@ -41,7 +29,3 @@ module _ {A : Type 0} (f : A → A) where
 
   pub all : (s r : List A) (i : ℕ) → i ≡ length s → r ≡ mapTo i s → r ≡ map f s
   all s r i h e = e ∙ ap (λ (j : ℕ). mapTo j s) h ∙ whole s
-
-pub ended-is :
-    (t u : Table) (c : ℕ) → u .slots ≡ map (markedOf c) (t .slots) → u .next ≡ t .next → u .head ≡ t .head → u .holds ≡ t .holds → u ≡ endedTable t c
-ended-is t u c p q r s = λ i. record { slots = p i; next = q i; head = r i; holds = s i }

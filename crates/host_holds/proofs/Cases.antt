@@ -11,20 +11,12 @@ use Rattle.ids.specs.declared.DescriptionFound.{DescriptionFound}
 use Rattle.ids.specs.declared.DescriptionFound.the-variants as found
 use Rattle.ids.specs.Ids.{descriptionOf}
 use Rattle.fd_list.specs.Lists.{desc}
-use Rattle.counts.specs.Counts.{less, more}
 use Rattle.holds.specs.declared.Holds.{Holds}
-use Rattle.holds.specs.Holds.{holdsWith, unheld, heldOf}
+use Rattle.holds.specs.Holds.{unheld, heldOf}
 use Rattle.ids.proofs.Laws.{over-named, named as named-by}
 use Rattle.holds.proofs.Laws.{held-not, held-is}
 use Rattle.answer.specs.declared.Answer.the-variants.{Done, BadArgument, TooManyHolds}
 use Rattle.host_holds.specs.Host.{oneMore, oneFewer, openedAs, openOf, copiedAs, copyOf, droppedAs, dropOf}
-
-module _ (h : Holds) (d : ℕ) where
-  pub more-is : (a o : List ℕ) → a ≡ more (h .holds) d → o ≡ more (h .outside) d → holdsWith a o ≡ oneMore h d
-  more-is a o p q = rw (p, q) refl
-
-  pub fewer-is : (a o : List ℕ) → a ≡ less (h .holds) d → o ≡ less (h .outside) d → holdsWith a o ≡ oneFewer h d
-  fewer-is a o p q = rw (p, q) refl
 
 -- a count read at the description that a word names
 at-word : (a : List ℕ) (d : Description) (w r : ℕ) → d ≡ desc w → r ≡ getD a (d .0) 0 → r ≡ getD a w 0

@@ -2,22 +2,17 @@
 use Prim.Native.Nat.{ℕ}
 use mathlib.Core.Path.{_≡_, refl, sym, _∙_}
 use mathlib.Core.Bool.{Bool, true, false}
-use mathlib.Core.List.{List}
 use Rattle.ids.specs.declared.Description.{Description}
 use Rattle.ids.specs.declared.DescriptionFound.{DescriptionFound}
 use Rattle.ids.specs.declared.DescriptionFound.the-variants as found
 use Rattle.fd_list.specs.Lists.{desc}
-use Rattle.counts.specs.Counts.{less}
 use Rattle.holds.specs.declared.Holds.{Holds}
-use Rattle.holds.specs.Holds.{holdsWith, unheld, heldOf}
+use Rattle.holds.specs.Holds.{unheld, heldOf}
 use Rattle.holds.proofs.Laws.{held-not, held-is}
 use Rattle.handles.specs.declared.Handles.{Handles}
 use Rattle.handles.specs.Handles.{isFree, into}
 use Rattle.answer.specs.declared.Answer.the-variants.{Done, BadArgument}
 use Rattle.host_put.specs.Put.{inside, put, putOf}
-
-pub inside-is : (h : Holds) (d : ℕ) (o : List ℕ) → o ≡ less (h .outside) d → holdsWith (h .holds) o ≡ inside h d
-inside-is h d o q = rw q refl
 
 module _ (h : Holds) (w : ℕ) (f : DescriptionFound) (q : f ≡ heldOf (h .holds) (h .outside) w) where
   pub put-bad : f ≡ found.Outside → (n : Handles) (k : ℕ) → put BadArgument n h ≡ putOf h n w k

@@ -1,15 +1,14 @@
 -- What stands at every tag after a store, a give-out and a vacate: all that the rest needs of the layout. Assumes nothing.
-use mathlib.Core.Path.{_≡_, refl, sym, ap, _∙_, subst}
+use mathlib.Core.Path.{_≡_, sym, ap, _∙_, subst}
 use mathlib.Core.Logic.{_≢_}
 use mathlib.Core.Bool.{Bool, true, false, cond}
-use mathlib.Core.List.{List}
 use Prim.Native.Nat.{ℕ, _<_, _≤_}
 use native.Mathlib.Omega.{arith}
 use native.Mathlib.Decide.{ℕ-discrete}
 use lib.Dec.{ltb}
 use lib.ListN.{getD, set, length, length-set}
 use lib.Seq.{getD-set-same, getD-set-other}
-use borrow.Author.Tests.{lt-ltb, le-ltb, ltb-true}
+use borrow.Author.Tests.{lt-ltb, le-ltb}
 use Rattle.slot.specs.declared.Slot.{Slot}
 use Rattle.slot.specs.Slots.{vacantSlot}
 use Rattle.table.specs.declared.Table.{Table}
@@ -19,14 +18,8 @@ use Rattle.table.specs.Table.{noSlot, slotAt, stored, putAt, givenOut, v
 pub beyond-is : (t : Table) (n : ℕ) → 64 ≤ n → slotAt t n ≡ vacantSlot
 beyond-is t n h = ap (λ (b : Bool). cond b (getD (t .slots) n noSlot) vacantSlot) (le-ltb n 64 h)
 
-pub put-beyond : (t : Table) (n : ℕ) (v : Slot) → 64 ≤ n → putAt t n v ≡ t
-put-beyond t n v h = ap (λ (b : Bool). cond b (stored t n v) t) (le-ltb n 64 h)
-
 pub put-within : (t : Table) (n : ℕ) (v : Slot) → n < 64 → putAt t n v ≡ stored t n v
 put-within t n v h = ap (λ (b : Bool). cond b (stored t n v) t) (lt-ltb n 64 h)
-
-pub vacate-beyond : (t : Table) (n : ℕ) → 64 ≤ n → vacateAt t n ≡ t
-vacate-beyond t n h = ap (λ (b : Bool). cond b (vacated t n) t) (le-ltb n 64 h)
 
 pub vacate-within : (t : Table) (n : ℕ) → n < 64 → vacateAt t n ≡ vacated t n
 vacate-within t n h = ap (λ (b : Bool). cond b (vacated t n) t) (lt-ltb n 64 h)

@@ -4,7 +4,7 @@ use mathlib.Core.Bool.{Bool, true, false, cond}
 use Prim.Native.Nat.{ℕ, _<_, _≤_}
 use native.Mathlib.Omega.{arith}
 use lib.Dec.{ltb}
-use lib.ListN.{getD, set}
+use lib.ListN.{getD}
 use borrow.Author.Tests.{lt-ltb, le-ltb}
 use Rattle.ids.specs.declared.SlotNo.{SlotNo}
 use Rattle.ids.specs.declared.Tag.{Tag}
@@ -12,7 +12,7 @@ use Rattle.ids.specs.Ids.{slotOf}
 use Rattle.slot.specs.declared.Slot.{Slot}
 use Rattle.slot.specs.Slots.{vacantSlot}
 use Rattle.table.specs.declared.Table.{Table}
-use Rattle.table.specs.Table.{noSlot, slotAt, stored, putAt, vacated, vacateAt}
+use Rattle.table.specs.Table.{noSlot, slotAt, stored, putAt}
 
 module _ (t : Table) (n : Tag) (k : SlotNo) (is : k ≡ slotOf n) where
   beyond : 64 ≤ k .0 → ltb (n .0) 64 ≡ false
@@ -24,9 +24,6 @@ module _ (t : Table) (n : Tag) (k : SlotNo) (is : k ≡ slotOf n) where
   same : k .0 < 64 → k .0 ≡ n .0
   same h = omega (arith, ap (λ (s : SlotNo). s .0) is)
 
-  pub slot-out : (x : Slot) → x ≡ vacantSlot → 64 ≤ k .0 → x ≡ slotAt t (n .0)
-  slot-out x e h = e ∙ sym (ap (λ (b : Bool). cond b (getD (t .slots) (n .0) noSlot) vacantSlot) (beyond h))
-
   pub slot-in : k .0 < 64 → getD (t .slots) (k .0) noSlot ≡ slotAt t (n .0)
   slot-in h =
       ap (λ (j : ℕ). getD (t .slots) j noSlot) (same h)
@@ -34,10 +31,3 @@ module _ (t : Table) (n : Tag) (k : SlotNo) (is : k ≡ slotOf n) where
 
   pub put-in : (v : Slot) → k .0 < 64 → stored t (k .0) v ≡ putAt t (n .0) v
   put-in v h = ap (λ (j : ℕ). stored t j v) (same h) ∙ sym (ap (λ (b : Bool). cond b (stored t (n .0) v) t) (within h))
-
-  pub vacate-in :
-      (x : Slot) → x ≡ vacantSlot → k .0 < 64
-      → _≡_ {A = Table} (record { slots = set (t .slots) (k .0) x; next = set (t .next) (k .0) (t .head); head = k .0; holds = t .holds }) (vacateAt t (n .0))
-  vacate-in x e h =
-      ap (λ (v : Slot). record { slots = set (t .slots) (k .0) v; next = set (t .next) (k .0) (t .head); head = k .0; holds = t .holds }) e
-      ∙ ap (vacated t) (same h) ∙ sym (ap (λ (b : Bool). cond b (vacated t (n .0)) t) (within h))

@@ -1,14 +1,14 @@
 -- The chain of a table that came from the fresh one holds exactly the vacant slots, each once. Assumes nothing.
 use mathlib.Core.Path.{_≡_, refl, sym, ap, _∙_, subst}
 use mathlib.Core.Logic.{_≢_}
-use mathlib.Core.Bool.{Bool, true, false, cond}
+use mathlib.Core.Bool.{Bool, cond}
 use mathlib.Core.List.{List, [], _∷_}
 use Prim.Native.Nat.{ℕ, zero, suc, _+_, _≤_, _<_}
 use native.Mathlib.Omega.{arith}
 use native.Mathlib.Nat.{not-suc-le-zero, le-of-suc-le-suc}
 use native.Mathlib.Decide.{decLt}
 use lib.Dec.{eqb}
-use lib.ListN.{getD, set, length, length-set, length-replicate, getD-replicate, replicate}
+use lib.ListN.{getD, set, getD-replicate, replicate}
 use lib.Seq.{getD-set-same, getD-set-other}
 use borrow.Author.Tests.{eq-eqb, ne-eqb, lt-ltb}
 use Rattle.slot.specs.declared.Phase.{Phase}
@@ -16,7 +16,7 @@ use Rattle.slot.specs.declared.Phase.the-variants.{Vacant, Placeholder, Waiting
 use Rattle.slot.specs.declared.Slot.{Slot}
 use Rattle.slot.specs.Slots.{phaseOf, vacantSlot}
 use Rattle.table.specs.declared.Table.{Table}
-use Rattle.table.specs.Table.{rising, freshTable, noSlot, slotAt, putAt, givenOut, vacated, vacateAt}
+use Rattle.table.specs.Table.{rising, freshTable, noSlot, slotAt, putAt, givenOut, vacateAt}
 use Rattle.table.specs.Reached.{idle, Occupied, one, times, Linked, Chain, Reached, fresh, gave, put, gone}
 use Rattle.table.proofs.Access.{beyond-is, put-within, vacate-within, put-at, give-at, vacate-at, Sized, sized-put, sized-give, sized-vacate}
 
@@ -92,14 +92,6 @@ module _ (t : Table) (size : Sized t) where
         (λ e. omega (arith, c .2 n h, o, one-if n m (sym e), ap (λ (j : ℕ). times j (c .0)) e))
         (λ e. omega (arith, c .2 m b, none-if n m (λ q. e (sym q)))),
   )
-
--- an empty chain: no slot is vacant
-pub empty-full : (t : Table) → 64 ≤ t .head → Chain t → (m : ℕ) → m < 64 → phaseOf (slotAt t m) ≡ Vacant → ⊥
-empty-full t b c = go (c .0) (c .1) (c .2)
-  where
-    go : (l : List ℕ) → Linked (t .next) (t .head) l → ((m : ℕ) → m < 64 → times m l ≡ idle (phaseOf (slotAt t m))) → (m : ℕ) → m < 64 → phaseOf (slotAt t m) ≡ Vacant → ⊥
-    go [] p q m l v = omega (arith, q m l, ap idle v)
-    go (x ∷ l) p q m d v = omega (arith, p .0, p .1)
 
 -- the fresh table: every slot vacant, its next one more
 getD-rising : (n k i : ℕ) → i < n → getD (rising k n) i 0 ≡ k + i

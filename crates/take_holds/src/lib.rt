@@ -3,9 +3,8 @@ use fd_list::List;
 use holds::Holds;
 use ids::DescriptionFound;
 ghost use mathlib.Core.Path.{_≡_};
-ghost use mathlib.Core.List.{[]};
 ghost use Rattle.holds.specs.Holds.{holdsWith};
-ghost use Rattle.take_holds.specs.Take.{takenAs, takeOf};
+ghost use Rattle.take_holds.specs.Take.{takeOf};
 
 pub enum TakeAnswer {
     Taken,
@@ -18,57 +17,6 @@ pub struct Taken {
     pub answer: TakeAnswer,
     pub list: List,
     pub holds: Holds,
-}
-
-fn refused(h: Holds, answer: TakeAnswer) -> Taken
-    ensures { λ r. ⌜ r ≡ takenAs answer [] h ⌝ }
-{
-    let list = fd_list::empty();
-    Taken {
-        answer: answer,
-        list: list,
-        holds: h,
-    }
-}
-
-// A list of any length taken from outside holds.
-pub fn take_list(h: Holds, words: &[u64]) -> Taken
-    ensures { λ r. ⌜ r ≡ takeOf h (now (words .entry)) ⌝ }
-{
-    let all = h.holds;
-    let mut left = h.outside;
-    let zero = ids::BLANK;
-    let mut list = List {
-        at: [zero; 16],
-        len: 0,
-    };
-    let mut i = 0;
-    while i < words.len() {
-        let next = holds::held_outside(&all, &left, words[i]);
-        match next {
-            DescriptionFound::Outside => {
-                return refused(h, TakeAnswer::BadArgument);
-            }
-            DescriptionFound::At(d) => {
-                counts::lower(&mut left, d);
-                let longer = fd_list::with(list, i, d);
-                list = longer;
-            }
-        }
-        i += 1;
-    }
-    if 16 < i {
-        return refused(h, TakeAnswer::TooMany);
-    }
-    list.len = i as u8;
-    Taken {
-        answer: TakeAnswer::Taken,
-        list: list,
-        holds: Holds {
-            holds: all,
-            outside: left,
-        },
-    }
 }
 
 // What a list is refused for, or the list.

@@ -17,7 +17,6 @@ use Rattle.effect.specs.declared.Effect.{Effect}
 use Rattle.effect.specs.Effect.{effectWords}
 use Rattle.fd_list.specs.Lists.{numbers}
 use Rattle.slot.specs.declared.Act.{Act}
-use Rattle.slot.specs.declared.Act.the-variants as act
 use Rattle.slot.specs.declared.PageSpan.{PageSpan}
 use Rattle.slot.specs.declared.Slot.{Slot}
 use Rattle.word_put.proofs.Stores.{sets-then}
@@ -26,7 +25,7 @@ use Rattle.events.specs.Entry.{closesOf, unmapOf}
 use Rattle.layout.specs.Layout.{plainOf}
 use Rattle.layout.specs.Store.{outside, all, handles, stored, storedAll}
 use Rattle.layout.proofs.Regions.{same-part}
-use Rattle.layout.proofs.Worlds.{outside-is, handles-is, plain-fits, stored-plain, stored-length}
+use Rattle.layout.proofs.Worlds.{outside-is, handles-is, plain-fits, stored-plain}
 use Rattle.packed.specs.Stores.{actStores, decidedStores}
 use Rattle.plan.specs.declared.Plan.{Plan}
 use Rattle.plan.specs.Plans.{effectsBy, handlesBy, decisionBy}
@@ -107,9 +106,6 @@ module _ (ws : List ℕ) (size : length ws ≡ 2060) (p : Plan) where
 
       handles-behind : handlesOf (plainOf ys) .at ≡ handlesOf w .at
       handles-behind = ap (λ (l : List ℕ). handlesOf (plainOf l) .at) dropped-is ∙ handles-all ws (lessAll lower own) (omega (arith, lessAll-length own lower, lower-long))
-
-      pub ys-long : length ys ≡ 2060
-      ys-long = ap length dropped-is ∙ stored-length ws (all (lessAll lower own)) ∙ size
 
       outside-first : ys ≡ storedAll ws (outside (holdsOf w .outside) ∷ all (lessAll lower own) ∷ [])
       outside-first =
