@@ -1,5 +1,5 @@
 -- What the code's single words come to: a slot's twelve, an entry's eight, and each store by its test. Assumes nothing.
-use Prim.Native.Nat.{ℕ, zero, suc, _+_, _*_, _%_, _<_, _≤_}
+use Prim.Native.Nat.{ℕ, zero, suc, _+_, _*_, _%_, _<_, _≤_, min}
 use mathlib.Core.Path.{_≡_, sym, ap, ap₂, _∙_}
 use mathlib.Core.Bool.{Bool, cond}
 use mathlib.Core.List.{List, [], _∷_, map}
@@ -78,6 +78,11 @@ module _ (ws : List ℕ) where
 
   pub put-none : (n : ℕ) (v : Slot) → 64 ≤ n → ws ≡ stored ws (put n v)
   put-none n v b = sym (ap (λ (x : Bool). cond x (putWords ws n v) ws) (le-ltb n 64 b))
+
+  -- a put that is known to be one
+  pub was-put : (n k : ℕ) (v : Slot) (xs : List ℕ) → n < 64 → k ≡ min n 64 → xs ≡ stored ws (put k v) → xs ≡ putWords ws n v
+  was-put n k v xs b q e =
+      e ∙ ap (λ (j : ℕ). stored ws (put j v)) (let z : k ≡ n = omega (arith, b, q) in z) ∙ sym (put-in n v b)
 
   pub gave : (v : Slot) (xs : List ℕ) → getD ws 832 0 < 64 → xs ≡ putWords ws (getD ws 832 0) v → set xs 832 (getD ws (768 + getD ws 832 0) 0) ≡ stored ws (give v)
   gave v xs b e =

@@ -31,7 +31,7 @@ ghost use Rattle.wait_queue.specs.Queue.{headOf};
 ghost use Rattle.wait_queue_receive.specs.Receive.{receivedOf, copiedOf};
 ghost use Rattle.events.specs.World.{tableOf, holdsOf, handlesOf, queueOf, schemeOf, slotIn, queueFull};
 ghost use Rattle.events.specs.Submit.{tableFull};
-ghost use Rattle.layout.specs.Layout.{chainPlace, headPlace, allPlace, outsidePlace, schemePlace, queuePlace, one as oneOf, slotOf, fdsFrom, marksWord, replyWord, lowWord, highWord, part as partOf, plainOf, slotWords};
+ghost use Rattle.layout.specs.Layout.{chainPlace, headPlace, allPlace, outsidePlace, schemePlace, queuePlace, one as oneOf, slotOf, fdsFrom, marksWord, replyWord, lowWord, highWord, part as partOf, plainOf};
 ghost use Rattle.layout.specs.Store.{stored, put as putStore, give as giveStore, vacate as vacateStore, send as sendStore, queue as queueStore, outside as outsideStore, all as allStore, handles as handlesStore};
 ghost use Rattle.words.specs.Counts.{countsOf, countsStore};
 
@@ -201,36 +201,29 @@ fn reply_word(r: Reply) -> u64
     (r.kind as u64) + (r.extra0 as u64) * 256 + a * 65536
 }
 
-// A slot in the twelve words from `at` on.
-fn store(s: &mut [u64; 2060], at: usize, v: Slot)
-    requires { ⌜ at + 12 ≤ 2060 ⌝ }
-    ensures { λ r. ⌜ now (s .exit) ≡ sets (now (s .entry)) at (slotWords v) ⌝ }
-{
-    let marks = marks_word(v);
-    let reply = reply_word(v.reply);
-    let low = low_word(v.fds);
-    let high = high_word(v.fds);
-    s[at] = marks;
-    s[at + 1] = v.caller as u64;
-    s[at + 2] = 0;
-    s[at + 3] = 0;
-    s[at + 4] = v.span.base;
-    s[at + 5] = v.span.count;
-    s[at + 6] = reply;
-    s[at + 7] = v.reply.word;
-    s[at + 8] = 0;
-    s[at + 9] = low;
-    s[at + 10] = high;
-    s[at + 11] = v.fds.len as u64;
-}
-
-// Slot n becomes v.
+// Slot n becomes v: its twelve words are stored, spare ones as 0.
 pub fn put(s: &mut [u64; 2060], n: SlotNo, v: Slot)
     ensures { λ r. ⌜ now (s .exit) ≡ stored (now (s .entry)) (putStore (n .0) v) ⌝ }
 {
     let i = n.0 as usize;
     if i < 64 {
-        store(s, 12 * i, v);
+        let at = 12 * i;
+        let marks = marks_word(v);
+        let reply = reply_word(v.reply);
+        let low = low_word(v.fds);
+        let high = high_word(v.fds);
+        s[at] = marks;
+        s[at + 1] = v.caller as u64;
+        s[at + 2] = 0;
+        s[at + 3] = 0;
+        s[at + 4] = v.span.base;
+        s[at + 5] = v.span.count;
+        s[at + 6] = reply;
+        s[at + 7] = v.reply.word;
+        s[at + 8] = 0;
+        s[at + 9] = low;
+        s[at + 10] = high;
+        s[at + 11] = v.fds.len as u64;
     }
 }
 
@@ -240,9 +233,8 @@ pub fn give(s: &mut [u64; 2060], v: Slot)
 {
     let n = s[HEAD];
     if n < 64 {
-        let i = n as usize;
-        let after = s[CHAIN + i];
-        store(s, 12 * i, v);
+        let after = s[CHAIN + n as usize];
+        put(s, ids::slot_of(Tag(n)), v);
         s[HEAD] = after;
     }
 }
@@ -255,7 +247,7 @@ pub fn vacate(s: &mut [u64; 2060], n: SlotNo)
     if i < 64 {
         let v = slot::vacant();
         let first = s[HEAD];
-        store(s, 12 * i, v);
+        put(s, n, v);
         s[CHAIN + i] = first;
         s[HEAD] = i as u64;
     }

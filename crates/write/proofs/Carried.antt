@@ -21,7 +21,7 @@ use Rattle.slot.specs.declared.PageSpan.{PageSpan}
 use Rattle.slot.specs.declared.Slot.{Slot}
 use Rattle.word_put.proofs.Stores.{sets-then}
 use Rattle.events.specs.World.{World, holdsOf, handlesOf}
-use Rattle.events.specs.Entry.{closesOf, unmapOf}
+use Rattle.events.specs.Entry.{Decision, closesOf, unmapOf}
 use Rattle.layout.specs.Layout.{plainOf}
 use Rattle.layout.specs.Store.{outside, all, handles, stored, storedAll}
 use Rattle.layout.proofs.Regions.{same-part}
@@ -30,6 +30,7 @@ use Rattle.packed.specs.Stores.{actStores, decidedStores}
 use Rattle.plan.specs.declared.Plan.{Plan}
 use Rattle.plan.specs.Plans.{effectsBy, handlesBy, decisionBy}
 use Rattle.step.proofs.Frames.{handles-all}
+use Rattle.write.specs.Writing.{heldStores}
 
 pub effect-none : (e : Effect) (fx : List ℕ) (at : ℕ) → e .kind ≡ 0 → (0 ≡ length (effectWords e)) × ((0 ≤ 3) × (fx ≡ sets fx at (effectWords e)))
 effect-none e fx at q = rw (eq-eqb (e .kind) 0 q) (refl, (omega arith, refl))
@@ -50,6 +51,11 @@ unmap-some s fx gx at q e = rw (ne-eqb (s .count) 0 q) (refl, (omega arith, e))
 -- the slot
 pub acted : (ws xs : List ℕ) (a b : Act) (n : ℕ) (v : Slot) → a ≡ b → xs ≡ storedAll ws (actStores b n v) → xs ≡ storedAll ws (actStores a n v)
 acted ws xs a b n v e q = q ∙ ap (λ (x : Act). storedAll ws (actStores x n v)) (sym e)
+
+-- the plan carried out, then its slot
+pub then-acted :
+    (ws ys xs : List ℕ) (d : Decision) (n : ℕ) → ys ≡ storedAll ws (heldStores d) → xs ≡ storedAll ys (actStores (d .act) n (d .slot)) → xs ≡ storedAll ws (decidedStores n d)
+then-acted ws ys xs d n e q = q ∙ ap (λ (l : List ℕ). storedAll l (actStores (d .act) n (d .slot))) e
 
 -- the handle
 module _ (ws : List ℕ) (size : length ws ≡ 2060) (p : Plan) where
@@ -113,12 +119,8 @@ module _ (ws : List ℕ) (size : length ws ≡ 2060) (p : Plan) where
           ∙ ap (λ (l : List ℕ). stored l (all (lessAll lower own))) (sym (same-part ws 904 64 (omega (arith, size))) ∙ ap (λ (o : List ℕ). stored ws (outside o)) (outside-is ws))
 
       pub all-stored :
-          (n : ℕ) (zs vs : List ℕ) → zs ≡ stored ys (handles (handlesBy p (handlesOf (plainOf ys)) .at)) → vs ≡ storedAll zs (actStores (p .act) n (p .slot))
-          → vs ≡ storedAll ws (decidedStores n (decisionBy p (holdsOf w) (handlesOf w)))
-      all-stored n zs vs ez ev =
-          ev
-          ∙ ap (λ (l : List ℕ). storedAll l (actStores (p .act) n (p .slot)))
-          (ez ∙ ap₂ (λ (l k : List ℕ). stored l (handles (handlesBy p (record { at = k }) .at))) outside-first handles-behind)
+          (zs : List ℕ) → zs ≡ stored ys (handles (handlesBy p (handlesOf (plainOf ys)) .at)) → zs ≡ storedAll ws (heldStores (decisionBy p (holdsOf w) (handlesOf w)))
+      all-stored zs ez = ez ∙ ap₂ (λ (l k : List ℕ). stored l (handles (handlesBy p (record { at = k }) .at))) outside-first handles-behind
 
   -- the effects, one run after the other
   module _ (fx : List ℕ) (at : ℕ) where

@@ -22,9 +22,9 @@ ghost use Rattle.events.specs.Entry.{unmapOf};
 ghost use Rattle.events.specs.Complete.{stopped};
 ghost use Rattle.layout.specs.Layout.{plainOf};
 ghost use Rattle.layout.specs.Store.{stored, storedAll, handles as handlesStore};
-ghost use Rattle.packed.specs.Stores.{actStores, decidedStores};
+ghost use Rattle.packed.specs.Stores.{actStores};
 ghost use Rattle.plan.specs.Plans.{effectsBy, handlesBy, decisionBy};
-ghost use Rattle.write.specs.Writing.{isRefusal, Enters, Writes};
+ghost use Rattle.write.specs.Writing.{isRefusal, heldStores, Enters, Writes};
 
 // The three words of an effect, where it is one.
 fn put_effect(e: Effect, fx: &mut [u64], at: usize) -> usize
@@ -78,13 +78,13 @@ fn act_on(s: &mut [u64; 2060], n: SlotNo, p: Plan)
     }
 }
 
-// An entry's plan carried out at its slot, its effects stored from word `at` on; says how many words these are.
-fn carry_out(s: &mut [u64; 2060], n: SlotNo, p: Plan, fx: &mut [u64], at: usize) -> usize
+// A plan carried out but for its slot, its effects stored from word `at` on; says how many words these are.
+fn carry_out(s: &mut [u64; 2060], p: Plan, fx: &mut [u64], at: usize) -> usize
     requires { ⌜ at ≤ 0x4000_0000_0000_0000 ⌝ }
     ensures { λ r. ⌜ r ≡ length (effectsBy p (holdsOf (plainOf (now (s .entry))))) ⌝ }
     ensures { λ r. ⌜ r ≤ 102 ⌝ }
     ensures { λ r. ⌜ now (fx .exit) ≡ sets (now (fx .entry)) at (effectsBy p (holdsOf (plainOf (now (s .entry))))) ⌝ }
-    ensures { λ r. ⌜ now (s .exit) ≡ storedAll (now (s .entry)) (decidedStores (n .0) (decisionBy p (holdsOf (plainOf (now (s .entry)))) (handlesOf (plainOf (now (s .entry)))))) ⌝ }
+    ensures { λ r. ⌜ now (s .exit) ≡ storedAll (now (s .entry)) (heldStores (decisionBy p (holdsOf (plainOf (now (s .entry)))) (handlesOf (plainOf (now (s .entry)))))) ⌝ }
 {
     words::sized(s);
     let first = p.first;
@@ -97,7 +97,6 @@ fn carry_out(s: &mut [u64; 2060], n: SlotNo, p: Plan, fx: &mut [u64], at: usize)
     let own = p.own;
     let d = words::drop_all(s, own, p.closing, fx, at + a + b + 3 * c);
     move_handle(s, p);
-    act_on(s, n, p);
     a + b + 3 * c + 3 * d
 }
 
@@ -127,7 +126,8 @@ fn entry(s: &mut [u64; 2060], e: Cqe, fx: &mut [u64], at: usize) -> Entered
     let k = plan::handle_in(asked);
     let held = words::held_at(s, k);
     let p = plan::handle_parsed(asked, v, held);
-    let j = carry_out(s, n, p, fx, at);
+    let j = carry_out(s, p, fx, at);
+    act_on(s, n, p);
     Entered {
         number: p.number,
         words: j,

@@ -1,9 +1,12 @@
 -- `words::give` meets its contract. Assumes nothing.
 use borrow.Author.Needs.{needs}
-use Rattle.words.proofs.Laws.{gave, gave-none}
+use Rattle.words.proofs.Laws.{was-put, gave, gave-none}
+use Rattle.ids.specs.declared.SlotNo.{SlotNo}
+use mathlib.Core.Path.{ap}
 use Rattle.words.proofs.give.Statement.{statement}
 use Rattle.words.proofs.give.Tie as tie
-use Rattle.words.proofs.store.Reads as store-reads
+use Rattle.ids.proofs.slot_of.Reads as slot-of-reads
+use Rattle.words.proofs.put.Reads as put-reads
 
 element-copy-out-n : tie.Need-element-copy-out-n
 element-copy-out-n c = search needs
@@ -17,17 +20,17 @@ mul-after c = search needs
 element-copy-out-after : tie.Need-element-copy-out-after
 element-copy-out-after c = search needs
 
-mul-store : tie.Need-mul-store
-mul-store c = search needs
+slot-of-requires : tie.Need-slot-of-requires
+slot-of-requires c κs = search needs
 
-store-requires : tie.Need-store-requires
-store-requires c κs = search needs
+put-requires : tie.Need-put-requires
+put-requires c κs = search needs
 
 element-write-s : tie.Need-element-write-s
 element-write-s c = search needs
 
 returns : tie.Need-returns
-returns c = let b = c .before .before .before .before .before .args in gave (b .s .now) (b .v) _ (c .before .before .before .if1 .taken) (c .store .ensures)
+returns c = let b = c .before .before .before .before .before .before .args in gave (b .s .now) (b .v) _ (c .before .before .before .before .if1 .taken) (was-put (b .s .now) _ _ (b .v) _ (c .before .before .before .before .if1 .taken) (ap (λ (x : SlotNo). x .0) (c .before .slot-of .ensures)) (c .put .ensures))
 
 returns-2 : tie.Need-returns-2
 returns-2 c = let b = c .before .before .args in gave-none (b .s .now) (b .v) (c .if1 .left)
@@ -40,8 +43,8 @@ give-spec =
     add-after
     mul-after
     element-copy-out-after
-    mul-store
-    store-requires
+    slot-of-requires
+    put-requires
     element-write-s
     returns
     returns-2)

@@ -1,10 +1,11 @@
 -- `words::vacate` meets its contract. Assumes nothing.
 use borrow.Author.Needs.{needs}
-use Rattle.words.proofs.Laws.{vacated, vacated-none}
+use Rattle.words.proofs.Laws.{put-in, vacated, vacated-none}
+use mathlib.Core.Path.{sym, _∙_}
 use Rattle.words.proofs.vacate.Statement.{statement}
 use Rattle.words.proofs.vacate.Tie as tie
 use Rattle.slot.proofs.vacant.Reads as vacant-reads
-use Rattle.words.proofs.store.Reads as store-reads
+use Rattle.words.proofs.put.Reads as put-reads
 
 cast-i : tie.Need-cast-i
 cast-i c = search needs
@@ -15,11 +16,8 @@ vacant-requires c κs = search needs
 element-copy-out-first : tie.Need-element-copy-out-first
 element-copy-out-first c = search needs
 
-mul-store : tie.Need-mul-store
-mul-store c = search needs
-
-store-requires : tie.Need-store-requires
-store-requires c κs = search needs
+put-requires : tie.Need-put-requires
+put-requires c κs = search needs
 
 add-s : tie.Need-add-s
 add-s c = search needs
@@ -34,7 +32,7 @@ element-write-s-2 : tie.Need-element-write-s-2
 element-write-s-2 c = search needs
 
 returns : tie.Need-returns
-returns c = let b = c .before .before .before .before .before .before .args in vacated (b .s .now) (b .n .0) _ _ (c .before .before .before .before .if1 .taken) (c .before .before .before .vacant .ensures) (c .store .ensures)
+returns c = let b = c .before .before .before .before .before .before .args in vacated (b .s .now) (b .n .0) _ _ (c .before .before .before .before .if1 .taken) (c .before .before .before .vacant .ensures) (c .put .ensures ∙ sym (put-in (b .s .now) (b .n .0) (c .before .before .before .vacant .result) (c .before .before .before .before .if1 .taken)))
 
 returns-2 : tie.Need-returns-2
 returns-2 c = let b = c .before .before .args in vacated-none (b .s .now) (b .n .0) (c .if1 .left)
@@ -46,8 +44,7 @@ vacate-spec =
     cast-i
     vacant-requires
     element-copy-out-first
-    mul-store
-    store-requires
+    put-requires
     add-s
     mul-s
     element-write-s

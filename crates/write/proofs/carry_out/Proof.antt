@@ -10,7 +10,6 @@ use Rattle.write.proofs.Carried.{all-behind, all-stored, counted, all-e
 use Rattle.write.proofs.carry_out.Statement.{statement}
 use Rattle.write.proofs.carry_out.Tie as tie
 use Rattle.closes.proofs.is_closing.Reads as is-closing-reads
-use Rattle.write.proofs.act_on.Reads as act-on-reads
 use Rattle.write.proofs.move_handle.Reads as move-handle-reads
 use Rattle.write.proofs.put_effect.Reads as put-effect-reads
 use Rattle.write.proofs.unmap.Reads as unmap-reads
@@ -59,9 +58,6 @@ drop-all-requires-2 c κs = search needs
 move-handle-requires : tie.Need-move-handle-requires
 move-handle-requires c κs = search needs
 
-act-on-requires : tie.Need-act-on-requires
-act-on-requires c κs = search needs
-
 add-result : tie.Need-add-result
 add-result c = search needs
 
@@ -82,17 +78,17 @@ same-length c = search needs
 
 returns : tie.Need-returns
 returns c =
-    let a = c .before .before .before .before .before .before .before .before .before .before .before .before .before .before .before .before .before .before .before .before .before .before .before .before .before .before .before .before .before .before .args in
+    let a = c .before .before .before .before .before .before .before .before .before .before .before .before .before .before .before .before .before .before .before .before .before .before .before .before .before .before .before .before .args in
     let ws : List ℕ = a .s .now in
     let p : Plan = a .p in
-    let size : length ws ≡ 2060 = c .before .before .before .before .before .before .before .before .before .before .before .before .before .before .before .before .before .before .before .before .before .before .before .before .before .before .before .sized .ensures in
-    let e = c .before .before .before .before .before .before .before .before .before .before .before .before .drop-all .ensures in
-    let g = c .before .before .before .before .before .before .drop-all2 .ensures in
+    let size : length ws ≡ 2060 = c .before .before .before .before .before .before .before .before .before .before .before .before .before .before .before .before .before .before .before .before .before .before .before .before .before .sized .ensures in
+    let e = c .before .before .before .before .before .before .before .before .before .before .drop-all .ensures in
+    let g = c .before .before .before .before .drop-all2 .ensures in
     let q = all-behind ws size p _ (e .1 .0) in
-    let x = c .before .before .before .before .before .before .before .before .before .before .before .before .before .before .before .before .before .before .before .before .before .before .before .before .put-effect .ensures in
-    let y = c .before .before .before .before .before .before .before .before .before .before .before .before .before .before .before .before .before .before .before .unmap .ensures in
-    let f = c .before .before .before .before .before .before .before .before .before .before .before .before .before .before .before .is-closing .ensures in
-    (counted ws size p (a .fx .now) (a .at) _ _ _ _ (x .0) (y .0) _ f (e .0) _ q (g .0), (omega (arith, x .1 .0, y .1 .0, e .1 .1 .1, g .1 .1 .1), (all-effects ws size p (a .fx .now) (a .at) _ _ _ _ (x .0) (y .0) _ f (e .0) _ q (g .0) _ _ _ _ (x .1 .1) (y .1 .1) (e .1 .1 .0) (g .1 .1 .0), all-stored ws size p _ (e .1 .0) _ (g .1 .0) (a .n .0) _ _ (c .before .before .move-handle .ensures) (c .act-on .ensures))))
+    let x = c .before .before .before .before .before .before .before .before .before .before .before .before .before .before .before .before .before .before .before .before .before .before .put-effect .ensures in
+    let y = c .before .before .before .before .before .before .before .before .before .before .before .before .before .before .before .before .before .unmap .ensures in
+    let f = c .before .before .before .before .before .before .before .before .before .before .before .before .before .is-closing .ensures in
+    (counted ws size p (a .fx .now) (a .at) _ _ _ _ (x .0) (y .0) _ f (e .0) _ q (g .0), (omega (arith, x .1 .0, y .1 .0, e .1 .1 .1, g .1 .1 .1), (all-effects ws size p (a .fx .now) (a .at) _ _ _ _ (x .0) (y .0) _ f (e .0) _ q (g .0) _ _ _ _ (x .1 .1) (y .1 .1) (e .1 .1 .0) (g .1 .1 .0), all-stored ws size p _ (e .1 .0) _ (g .1 .0) _ (c .move-handle .ensures))))
 
 pub carry-out-spec : {M : Type 1} → statement M
 carry-out-spec =
@@ -112,7 +108,6 @@ carry-out-spec =
     add-drop-all-5
     drop-all-requires-2
     move-handle-requires
-    act-on-requires
     add-result
     mul-result
     add-result-2

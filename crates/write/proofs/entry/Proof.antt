@@ -1,6 +1,11 @@
 -- `write::entry` meets its contract. Assumes nothing.
 use borrow.Author.Needs.{needs}
 use Rattle.write.proofs.Entries.{entered}
+use Rattle.events.specs.World.{holdsOf, handlesOf}
+use Rattle.layout.specs.Layout.{plainOf}
+use Rattle.plan.specs.Plans.{decisionBy}
+use Rattle.write.proofs.Carried.{then-acted}
+use Rattle.write.proofs.act_on.Reads as act-on-reads
 use Rattle.write.proofs.entry.Statement.{statement}
 use Rattle.write.proofs.entry.Tie as tie
 use Rattle.ids.proofs.slot_of.Reads as slot-of-reads
@@ -43,13 +48,16 @@ handle-parsed-requires c κs = search needs
 carry-out-requires : tie.Need-carry-out-requires
 carry-out-requires c κs = c .before .before .before .before .before .before .before .before .before .before .before .before .before .before .before .before .pre
 
+act-on-requires : tie.Need-act-on-requires
+act-on-requires c κs = search needs
+
 same-length : tie.Need-same-length
 same-length c = search needs
 
 returns : tie.Need-returns
 returns c =
-    let a = c .before .before .before .before .before .before .before .before .before .before .before .before .before .before .before .before .before .before .before .args in
-    (entered (a .s .now) _ (a .fx .now) _ (a .at) (a .e) (c .before .before .before .before .before .before .before .before .before .before .before .before .before .before .before .before .sized .ensures) (c .before .before .before .before .before .before .before .before .before .before .before .before .before .before .is-byte .ensures) (c .before .before .before .before .before .before .before .before .before .before .before .before .before .parse-cqe .result) (c .before .before .before .before .before .before .before .before .before .before .before .before .before .parse-cqe .ensures) (c .before .before .before .before .before .before .before .before .before .before .before .slot-of .result) (c .before .before .before .before .before .before .before .before .before .before .before .slot-of .ensures) (c .before .before .before .before .before .before .before .before .before .load .result) (c .before .before .before .before .before .before .before .before .before .load .ensures) (c .before .before .before .before .before .before .before .before .handle-in .result) (c .before .before .before .before .before .before .before .before .handle-in .ensures) (c .before .before .before .before .before .before .held-at .result) (c .before .before .before .before .before .before .held-at .ensures) (c .before .before .before .before .before .handle-parsed .result) (c .before .before .before .before .before .handle-parsed .ensures) _ (c .before .before .carry-out .ensures .0) (c .before .before .carry-out .ensures .1 .1 .0) (c .before .before .carry-out .ensures .1 .1 .1), c .before .before .carry-out .ensures .1 .0)
+    let a = c .before .before .before .before .before .before .before .before .before .before .before .before .before .before .before .before .before .before .before .before .before .args in
+    (entered (a .s .now) _ (a .fx .now) _ (a .at) (a .e) (c .before .before .before .before .before .before .before .before .before .before .before .before .before .before .before .before .before .before .sized .ensures) (c .before .before .before .before .before .before .before .before .before .before .before .before .before .before .before .before .is-byte .ensures) (c .before .before .before .before .before .before .before .before .before .before .before .before .before .before .before .parse-cqe .result) (c .before .before .before .before .before .before .before .before .before .before .before .before .before .before .before .parse-cqe .ensures) (c .before .before .before .before .before .before .before .before .before .before .before .before .before .slot-of .result) (c .before .before .before .before .before .before .before .before .before .before .before .before .before .slot-of .ensures) (c .before .before .before .before .before .before .before .before .before .before .before .load .result) (c .before .before .before .before .before .before .before .before .before .before .before .load .ensures) (c .before .before .before .before .before .before .before .before .before .before .handle-in .result) (c .before .before .before .before .before .before .before .before .before .before .handle-in .ensures) (c .before .before .before .before .before .before .before .before .held-at .result) (c .before .before .before .before .before .before .before .before .held-at .ensures) (c .before .before .before .before .before .before .before .handle-parsed .result) (c .before .before .before .before .before .before .before .handle-parsed .ensures) _ (c .before .before .before .before .carry-out .ensures .0) (c .before .before .before .before .carry-out .ensures .1 .1 .0) (then-acted (a .s .now) _ _ (decisionBy (c .before .before .before .before .before .before .before .handle-parsed .result) (holdsOf (plainOf (a .s .now))) (handlesOf (plainOf (a .s .now)))) _ (c .before .before .before .before .carry-out .ensures .1 .1 .1) (c .act-on .ensures)), c .before .before .before .before .carry-out .ensures .1 .0)
 
 pub entry-spec : {M : Type 1} → statement M
 entry-spec =
@@ -65,5 +73,6 @@ entry-spec =
     held-at-requires
     handle-parsed-requires
     carry-out-requires
+    act-on-requires
     same-length
     returns)
