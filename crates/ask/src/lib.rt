@@ -34,7 +34,7 @@ pub fn ask(s: &[u64; 2060], opcode: u64, fds: &[u64]) -> Asked
     match raw {
         RawOpcode::Unknown => refused(Answer::BadArgument),
         RawOpcode::Opcode(op) => {
-            let looked = words::look(s, fds);
+            let looked = hold_words::look(s, fds);
             let answer = looked.answer;
             match answer {
                 TakeAnswer::BadArgument => refused(Answer::BadArgument),

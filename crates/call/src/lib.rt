@@ -26,13 +26,13 @@ pub fn call(
         let no = asked.answer;
         return step::answered(no);
     }
-    if words::is_full(s) {
+    if slot_words::is_full(s) {
         return step::answered(Answer::Full);
     }
-    if words::queue_full(s) {
+    if queue_words::queue_full(s) {
         return step::answered(Answer::QueueFull);
     }
-    let n = words::head(s);
+    let n = slot_words::head(s);
     let list = asked.list;
     let v = slot::waiting(caller, list);
     let who = user_args::uid_gid_hack_merge(uid, gid);
@@ -44,6 +44,6 @@ pub fn call(
         args: a,
         caller: pid,
     };
-    words::take(s, list);
+    hold_words::take(s, list);
     step::begun(s, v, e)
 }

@@ -36,23 +36,23 @@ fn moved(s: &mut [u64; 2060], metadata: &[u64], list: List, count: usize) -> Ste
     ensures { λ r. ⌜ ((ds : Words ℕ) → Good (plainOf (now (s .entry))) ds list → count ≡ length ds → Moves (now (s .entry)) (now (s .exit)) (now (metadata .entry)) ds (said (r .answer)) (effectWords (r .effect))) ⌝ }
 {
     let n = request_slot(metadata, 1);
-    let v = words::load(s, n);
-    words::take(s, list);
+    let v = slot_words::load(s, n);
+    hold_words::take(s, list);
     let p = slot::phase_of(v);
     match p {
         Phase::Vacant => {
-            words::discard(s, list);
+            hold_words::discard(s, list);
             return step::answered(Answer::Invalid);
         }
         Phase::Waiting => {
             let old = v.fds;
             let w = slot::with_fds(v, list);
-            words::discard(s, old);
-            words::put(s, n, w);
+            hold_words::discard(s, old);
+            slot_words::put(s, n, w);
             return step::answered(Answer::Descriptions(count as u64));
         }
         _ => {
-            words::discard(s, list);
+            hold_words::discard(s, list);
             return step::answered(Answer::NotFound);
         }
     }
@@ -63,7 +63,7 @@ fn moved(s: &mut [u64; 2060], metadata: &[u64], list: List, count: usize) -> Ste
 pub fn call_fdwrite(s: &mut [u64; 2060], metadata: &[u64], fds: &[u64]) -> Step
     ensures { λ r. ⌜ Does (now (s .entry)) (now (s .exit)) (on (move (now (metadata .entry)) (now (fds .entry)))) (said (r .answer)) (effectWords (r .effect)) ⌝ }
 {
-    let looked = words::look(s, fds);
+    let looked = hold_words::look(s, fds);
     let took = looked.answer;
     match took {
         TakeAnswer::BadArgument => step::answered(Answer::BadArgument),
@@ -80,7 +80,7 @@ pub fn call_fdread(s: &mut [u64; 2060], metadata: &[u64]) -> Step
     ensures { λ r. ⌜ Does (now (s .entry)) (now (s .exit)) (on (obtain (now (metadata .entry)))) (said (r .answer)) (effectWords (r .effect)) ⌝ }
 {
     let n = request_slot(metadata, 0);
-    let v = words::load(s, n);
+    let v = slot_words::load(s, n);
     let p = slot::phase_of(v);
     match p {
         Phase::Vacant => step::answered(Answer::Invalid),
@@ -89,8 +89,8 @@ pub fn call_fdread(s: &mut [u64; 2060], metadata: &[u64]) -> Step
             let count = fd_list::size(old);
             let none = fd_list::empty();
             let w = slot::with_fds(v, none);
-            words::to_outside(s, old);
-            words::put(s, n, w);
+            hold_words::to_outside(s, old);
+            slot_words::put(s, n, w);
             return step::answered(Answer::Descriptions(count as u64));
         }
         _ => step::answered(Answer::NotFound),

@@ -49,8 +49,8 @@ pub fn wake(s: &mut [u64; 2060], tag: Tag, caller: u32, killed: u64, base: u64, 
         return without_reply(Answer::BadArgument, none);
     }
     let n = ids::slot_of(tag);
-    let v = words::load(s, n);
-    let unread = words::unread(s);
+    let v = slot_words::load(s, n);
+    let unread = queue_words::unread(s);
     let decided = wake_decision::decide(v, caller, killed, unread);
     let answer = decided.answer;
     let turn = decided.turn;
@@ -62,7 +62,7 @@ pub fn wake(s: &mut [u64; 2060], tag: Tag, caller: u32, killed: u64, base: u64, 
                 count: count,
             };
             let w = slot::interrupted(v, span);
-            words::put(s, n, w);
+            slot_words::put(s, n, w);
             return without_reply(Answer::Interrupted, none);
         }
         Turn::Cancel => {
@@ -76,9 +76,9 @@ pub fn wake(s: &mut [u64; 2060], tag: Tag, caller: u32, killed: u64, base: u64, 
             let reply = v.reply;
             let fds = v.fds;
             let out = wake_decision::holds_in(reply, fds);
-            words::sized(s);
-            words::to_outside(s, out);
-            words::vacate(s, n);
+            layout::sized(s);
+            hold_words::to_outside(s, out);
+            slot_words::vacate(s, n);
             return Woken {
                 answer: Answer::Replied,
                 reply: reply,

@@ -12,7 +12,7 @@ ghost use Rattle.events.specs.Event.{on, close as closeEvent, detach as detachE
 pub fn close(s: &mut [u64; 2060], id: u64) -> Step
     ensures { λ r. ⌜ Does (now (s .entry)) (now (s .exit)) (on (closeEvent id)) (said (r .answer)) (effectWords (r .effect)) ⌝ }
 {
-    if words::queue_full(s) {
+    if queue_words::queue_full(s) {
         return step::answered(Answer::QueueFull);
     }
     let a = Args(id, 0, 0, 0, 0, 0);
@@ -32,7 +32,7 @@ pub fn close(s: &mut [u64; 2060], id: u64) -> Step
 pub fn detach(s: &mut [u64; 2060], id: u64, pid: u64) -> Step
     ensures { λ r. ⌜ Does (now (s .entry)) (now (s .exit)) (on (detachEvent id pid)) (said (r .answer)) (effectWords (r .effect)) ⌝ }
 {
-    if words::queue_full(s) {
+    if queue_words::queue_full(s) {
         return step::answered(Answer::QueueFull);
     }
     let a = Args(id, 0, 0, 0, 0, 0);

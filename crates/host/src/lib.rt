@@ -18,16 +18,16 @@ ghost use Rattle.step.specs.Does.{Does};
 pub fn open(s: &mut [u64; 2060], description: u64) -> Step
     ensures { λ r. ⌜ Does (now (s .entry)) (now (s .exit)) (hostOpen description) (said (r .answer)) (effectWords (r .effect)) ⌝ }
 {
-    words::sized(s);
+    layout::sized(s);
     let found = ids::description_of(description);
     match found {
         DescriptionFound::Outside => step::answered(Answer::BadArgument),
         DescriptionFound::At(d) => {
-            if words::holds_of(s, d) != 0 {
+            if hold_words::holds_of(s, d) != 0 {
                 return step::answered(Answer::BadArgument);
             }
-            words::raise_outside(s, d);
-            words::raise(s, d);
+            hold_words::raise_outside(s, d);
+            hold_words::raise(s, d);
             return step::answered(Answer::Done);
         }
     }
@@ -37,16 +37,16 @@ pub fn open(s: &mut [u64; 2060], description: u64) -> Step
 pub fn copy(s: &mut [u64; 2060], description: u64) -> Step
     ensures { λ r. ⌜ Does (now (s .entry)) (now (s .exit)) (hostCopy description) (said (r .answer)) (effectWords (r .effect)) ⌝ }
 {
-    words::sized(s);
-    let found = words::held(s, description);
+    layout::sized(s);
+    let found = hold_words::held(s, description);
     match found {
         DescriptionFound::Outside => step::answered(Answer::BadArgument),
         DescriptionFound::At(d) => {
-            if words::holds_of(s, d) == 65535 {
+            if hold_words::holds_of(s, d) == 65535 {
                 return step::answered(Answer::TooManyHolds);
             }
-            words::raise_outside(s, d);
-            words::raise(s, d);
+            hold_words::raise_outside(s, d);
+            hold_words::raise(s, d);
             return step::answered(Answer::Done);
         }
     }
@@ -56,13 +56,13 @@ pub fn copy(s: &mut [u64; 2060], description: u64) -> Step
 pub fn drop(s: &mut [u64; 2060], description: u64) -> Step
     ensures { λ r. ⌜ Does (now (s .entry)) (now (s .exit)) (hostDrop description) (said (r .answer)) (effectWords (r .effect)) ⌝ }
 {
-    words::sized(s);
-    let found = words::held(s, description);
+    layout::sized(s);
+    let found = hold_words::held(s, description);
     match found {
         DescriptionFound::Outside => step::answered(Answer::BadArgument),
         DescriptionFound::At(d) => {
-            words::lower_outside(s, d);
-            words::lower(s, d);
+            hold_words::lower_outside(s, d);
+            hold_words::lower(s, d);
             return step::answered(Answer::Done);
         }
     }
@@ -72,8 +72,8 @@ pub fn drop(s: &mut [u64; 2060], description: u64) -> Step
 pub fn put(s: &mut [u64; 2060], description: u64, handle: u64) -> Step
     ensures { λ r. ⌜ Does (now (s .entry)) (now (s .exit)) (on (hostPut description handle)) (said (r .answer)) (effectWords (r .effect)) ⌝ }
 {
-    words::sized(s);
-    let found = words::held(s, description);
+    layout::sized(s);
+    let found = hold_words::held(s, description);
     match found {
         DescriptionFound::Outside => step::answered(Answer::BadArgument),
         DescriptionFound::At(d) => {
@@ -81,11 +81,11 @@ pub fn put(s: &mut [u64; 2060], description: u64, handle: u64) -> Step
                 return step::answered(Answer::BadArgument);
             }
             let k = ids::handle_of(handle);
-            if words::held_at(s, k) != 0 {
+            if handle_words::held_at(s, k) != 0 {
                 return step::answered(Answer::BadArgument);
             }
-            words::lower_outside(s, d);
-            words::put_into(s, k, d);
+            hold_words::lower_outside(s, d);
+            handle_words::put_into(s, k, d);
             return step::answered(Answer::Done);
         }
     }
@@ -113,10 +113,10 @@ fn mark(s: &mut [u64; 2060], i: u64, caller: u32)
     ensures { λ r. ⌜ now (s .exit) ≡ storedAll (now (s .entry)) (marks 1 i (plainOf (now (s .entry))) caller) ⌝ }
 {
     let n = ids::slot_of(Tag(i));
-    let v = words::load(s, n);
+    let v = slot_words::load(s, n);
     if has(v, caller) {
         let w = slot::caller_ended(v);
-        words::put(s, n, w);
+        slot_words::put(s, n, w);
     }
 }
 

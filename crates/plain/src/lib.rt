@@ -21,7 +21,7 @@ fn slots(s: &[u64; 2060]) -> [Slot; 64]
     let mut a = [none; 64];
     let mut i = 0;
     while i < 64 {
-        let v = words::load(s, ids::slot_of(Tag(i as u64)));
+        let v = slot_words::load(s, ids::slot_of(Tag(i as u64)));
         a[i] = v;
         i += 1;
     }
@@ -32,25 +32,25 @@ fn slots(s: &[u64; 2060]) -> [Slot; 64]
 pub fn plain(s: &[u64; 2060], queue: &mut [u64; 1024]) -> State
     ensures { λ r. ⌜ world r (now (queue .exit)) ≡ plainOf (now (s .entry)) ⌝ }
 {
-    words::queue(s, queue);
-    let at = words::handles(s);
-    let holds = words::all(s);
-    let outside = words::outside(s);
-    let next = words::chain(s);
+    part_words::queue(s, queue);
+    let at = part_words::handles(s);
+    let holds = part_words::all(s);
+    let outside = part_words::outside(s);
+    let next = part_words::chain(s);
     let slots = slots(s);
     State {
         driver: Driver {
-            scheme: words::scheme(s),
+            scheme: queue_words::scheme(s),
             handles: Handles { at: at },
             queue: WaitQueue {
-                first: words::first(s),
-                len: words::unread(s),
+                first: queue_words::first(s),
+                len: queue_words::unread(s),
             },
         },
         table: Table {
             slots: slots,
             next: next,
-            head: words::head_word(s),
+            head: slot_words::head_word(s),
             holds: Holds {
                 holds: holds,
                 outside: outside,
@@ -65,7 +65,7 @@ fn put_slots(s: &mut [u64; 2060], slots: [Slot; 64])
     let mut i = 0;
     while i < 64 {
         let v = slots[i];
-        words::put(s, ids::slot_of(Tag(i as u64)), v);
+        slot_words::put(s, ids::slot_of(Tag(i as u64)), v);
         i += 1;
     }
 }
@@ -91,13 +91,13 @@ pub fn packed(st: State, queue: &[u64; 1024], s: &mut [u64; 2060])
     let k = d.handles;
     let at = k.at;
     put_slots(s, slots);
-    words::put_chain(s, &next);
-    words::put_head(s, t.head);
-    words::put_all(s, &holds);
-    words::put_outside(s, &outside);
-    words::put_driver(s, d.scheme, q.first, q.len);
-    words::put_handles(s, &at);
-    words::put_queue(s, queue);
+    part_words::put_chain(s, &next);
+    part_words::put_head(s, t.head);
+    part_words::put_all(s, &holds);
+    part_words::put_outside(s, &outside);
+    part_words::put_driver(s, d.scheme, q.first, q.len);
+    part_words::put_handles(s, &at);
+    part_words::put_queue(s, queue);
 }
 
 // The words of a fresh state, its queue's words 0.

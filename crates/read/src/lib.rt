@@ -14,8 +14,8 @@ pub fn read(s: &mut [u64; 2060], out: &mut [u8], flags: u32) -> Answer
     ensures { λ r. ⌜ Does (now (s .entry)) (now (s .exit)) (on (readEvent (length (now (out .entry))) flags)) (said r) [] ⌝ }
     ensures { λ r. ⌜ now (out .exit) ≡ sets (now (out .entry)) 0 (step (plainOf (now (s .entry))) (on (readEvent (length (now (out .entry))) flags)) .bytes) ⌝ }
 {
-    let done = words::receive(s, out, flags);
+    let done = queue_words::receive(s, out, flags);
     let left = done.queue;
-    words::put_unread(s, left);
+    queue_words::put_unread(s, left);
     done.answer
 }

@@ -91,7 +91,7 @@ fn event_turn(
     ensures { λ o. ⌜ ((bs : List ℕ) (lent : ℕ) → Told (plainOf (now (s .entry))) (plainOf (now (s .exit))) (eventNamed (r .kind) r (wordsAt (now (rec .entry)) (firstAt r) (r .first)) (wordsAt (now (rec .entry)) (secondAt r) (r .second)) bs lent) (now (out .entry)) (now (out .exit)) o) ⌝ }
     ensures { λ o. ⌜ o ≤ 192 ⌝ }
 {
-    words::sized(s);
+    layout::sized(s);
     is_half(r.number);
     record::first_list(rec, r, first);
     record::second_list(rec, r, second);
@@ -105,7 +105,7 @@ fn wake_turn(s: &mut [u64; 2060], r: Record, out: &mut [u8]) -> usize
     ensures { λ o. ⌜ Told (plainOf (now (s .entry))) (plainOf (now (s .exit))) (wakeIn r) (now (out .entry)) (now (out .exit)) o ⌝ }
     ensures { λ o. ⌜ o ≤ 192 ⌝ }
 {
-    words::sized(s);
+    layout::sized(s);
     let a = r.words;
     let done = call_inner::wake(s, Tag(a.0), r.number, a.1, a.2, a.3);
     let answer = done.answer;
@@ -121,10 +121,10 @@ fn read_turn(s: &mut [u64; 2060], r: Record, buf: &mut [u8], out: &mut [u8]) -> 
     ensures { λ o. ⌜ Told (plainOf (now (s .entry))) (plainOf (now (s .exit))) (readIn r) (now (out .entry)) (now (out .exit)) o ⌝ }
     ensures { λ o. ⌜ o ≤ 192 + min (r .words .0) 8192 ⌝ }
 {
-    words::sized(s);
+    layout::sized(s);
     let a = r.words;
     let n = run_room::least(a.0, 8192);
-    let k = wait_queue_receive::copied(n, words::unread(s));
+    let k = wait_queue_receive::copied(n, queue_words::unread(s));
     let answer = read::read(s, &mut buf[..n], r.number);
     lent_bytes::put_received(out, answer, &buf[..k])
 }

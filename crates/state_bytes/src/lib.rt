@@ -45,7 +45,7 @@ fn status_word(s: &[u64; 2060], which: Status) -> u64
     while 0 < i {
         i -= 1;
         let n = ids::slot_of(Tag(i));
-        let v = words::load(s, n);
+        let v = slot_words::load(s, n);
         w = w * 2 + status::is_in(v, which);
     }
     w
@@ -82,11 +82,11 @@ pub fn put_state(out: &mut [u8], s: &[u64; 2060])
     ensures { λ r. ⌜ now (out .exit) ≡ sets (now (out .entry)) 0 (stateBytes (plainOf (now (s .entry)))) ⌝ }
     ensures { λ r. ⌜ length (stateBytes (plainOf (now (s .entry)))) ≡ stateSize ⌝ }
 {
-    let all = words::all(s);
-    let outside = words::outside(s);
-    let handles = words::handles(s);
+    let all = part_words::all(s);
+    let outside = part_words::outside(s);
+    let handles = part_words::handles(s);
     let statuses = statuses(s);
-    le_put::put8(out, 0, words::unread(s));
+    le_put::put8(out, 0, queue_words::unread(s));
     put_part(out, 8, all);
     put_part(out, 520, outside);
     put_part(out, 1032, handles);

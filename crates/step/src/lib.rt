@@ -38,8 +38,8 @@ pub fn notified(s: &mut [u64; 2060], e: Sqe, flags: u64) -> Step
     ensures { λ r. ⌜ effectWords (r .effect) ≡ rootEffect (plainOf (now (s .entry))) flags ⌝ }
     ensures { λ r. ⌜ now (s .exit) ≡ storedAll (now (s .entry)) (sendStore e ∷ []) ⌝ }
 {
-    let scheme = words::scheme(s);
-    words::send(s, e);
+    let scheme = queue_words::scheme(s);
+    queue_words::send(s, e);
     let fx = effect::root(scheme, flags);
     Step {
         answer: Answer::Done,
@@ -53,10 +53,10 @@ pub fn begun(s: &mut [u64; 2060], v: Slot, e: Sqe) -> Step
     ensures { λ r. ⌜ effectWords (r .effect) ≡ readable (plainOf (now (s .entry))) ⌝ }
     ensures { λ r. ⌜ now (s .exit) ≡ storedAll (now (s .entry)) (giveStore v ∷ sendStore e ∷ []) ⌝ }
 {
-    let n = words::head(s);
-    let scheme = words::scheme(s);
-    words::give(s, v);
-    words::send(s, e);
+    let n = slot_words::head(s);
+    let scheme = queue_words::scheme(s);
+    slot_words::give(s, v);
+    queue_words::send(s, e);
     let bits = flag::event_read();
     let fx = effect::root(scheme, bits);
     Step {
@@ -71,9 +71,9 @@ pub fn went_on(s: &mut [u64; 2060], n: SlotNo, v: Slot, e: Sqe, answer: Answer) 
     ensures { λ r. ⌜ effectWords (r .effect) ≡ readable (plainOf (now (s .entry))) ⌝ }
     ensures { λ r. ⌜ now (s .exit) ≡ storedAll (now (s .entry)) (putStore (n .0) v ∷ sendStore e ∷ []) ⌝ }
 {
-    let scheme = words::scheme(s);
-    words::put(s, n, v);
-    words::send(s, e);
+    let scheme = queue_words::scheme(s);
+    slot_words::put(s, n, v);
+    queue_words::send(s, e);
     let bits = flag::event_read();
     let fx = effect::root(scheme, bits);
     Step {

@@ -51,11 +51,11 @@ pub fn submit(
         return step::answered(no);
     }
     let n = ids::slot_of(tag);
-    let v = words::load(s, n);
+    let v = slot_words::load(s, n);
     if !is_submittable(v, caller) {
         return step::answered(Answer::NotYours);
     }
-    if words::queue_full(s) {
+    if queue_words::queue_full(s) {
         return step::answered(Answer::QueueFull);
     }
     let list = asked.list;
@@ -67,6 +67,6 @@ pub fn submit(
         args: args,
         caller: pid,
     };
-    words::take(s, list);
+    hold_words::take(s, list);
     step::went_on(s, n, w, e, Answer::Submitted(tag))
 }

@@ -58,10 +58,10 @@ fn unmap(span: PageSpan, fx: &mut [u64], at: usize) -> usize
 fn move_handle(s: &mut [u64; 2060], p: Plan)
     ensures { λ r. ⌜ now (s .exit) ≡ stored (now (s .entry)) (handlesStore (handlesBy p (handlesOf (plainOf (now (s .entry)))) .at)) ⌝ }
 {
-    words::sized(s);
+    layout::sized(s);
     if p.moves {
         let k = p.handle;
-        words::set_handle(s, k, p.held);
+        handle_words::set_handle(s, k, p.held);
     }
 }
 
@@ -73,8 +73,8 @@ fn act_on(s: &mut [u64; 2060], n: SlotNo, p: Plan)
     let v = p.slot;
     match act {
         Act::Leave => {}
-        Act::Store => words::put(s, n, v),
-        Act::Vacate => words::vacate(s, n),
+        Act::Store => slot_words::put(s, n, v),
+        Act::Vacate => slot_words::vacate(s, n),
     }
 }
 
@@ -86,16 +86,16 @@ fn carry_out(s: &mut [u64; 2060], p: Plan, fx: &mut [u64], at: usize) -> usize
     ensures { λ r. ⌜ now (fx .exit) ≡ sets (now (fx .entry)) at (effectsBy p (holdsOf (plainOf (now (s .entry))))) ⌝ }
     ensures { λ r. ⌜ now (s .exit) ≡ storedAll (now (s .entry)) (heldStores (decisionBy p (holdsOf (plainOf (now (s .entry)))) (handlesOf (plainOf (now (s .entry)))))) ⌝ }
 {
-    words::sized(s);
+    layout::sized(s);
     let first = p.first;
     let a = put_effect(first, fx, at);
     let span = p.span;
     let b = unmap(span, fx, at + a);
     let gone = p.gone;
     let follows = closes::is_closing(Reason::Replied);
-    let c = words::drop_all(s, gone, follows, fx, at + a + b);
+    let c = hold_words::drop_all(s, gone, follows, fx, at + a + b);
     let own = p.own;
-    let d = words::drop_all(s, own, p.closing, fx, at + a + b + 3 * c);
+    let d = hold_words::drop_all(s, own, p.closing, fx, at + a + b + 3 * c);
     move_handle(s, p);
     a + b + 3 * c + 3 * d
 }
@@ -117,14 +117,14 @@ fn entry(s: &mut [u64; 2060], e: Cqe, fx: &mut [u64], at: usize) -> Entered
     ensures { λ r. ⌜ Enters (now (s .entry)) (now (s .exit)) (now (fx .entry)) (now (fx .exit)) at e (r .number) (r .words) ⌝ }
     ensures { λ r. ⌜ r .words ≤ 102 ⌝ }
 {
-    words::sized(s);
+    layout::sized(s);
     let extra = e.extra_raw;
     is_byte(extra.0);
     let asked = parse_cqe::parse_cqe(e);
     let n = ids::slot_of(Tag(e.tag as u64));
-    let v = words::load(s, n);
+    let v = slot_words::load(s, n);
     let k = plan::handle_in(asked);
-    let held = words::held_at(s, k);
+    let held = handle_words::held_at(s, k);
     let p = plan::handle_parsed(asked, v, held);
     let j = carry_out(s, p, fx, at);
     act_on(s, n, p);

@@ -10,7 +10,7 @@ use Rattle.ask.proofs.ask.Statement.{statement}
 use Rattle.ask.proofs.ask.Tie as tie
 use Rattle.ask.proofs.refused.Reads as refused-reads
 use Rattle.opcode.proofs.try_from_raw.Reads as try-from-raw-reads
-use Rattle.words.proofs.look.Reads as look-reads
+use Rattle.hold_words.proofs.look.Reads as look-reads
 
 try-from-raw-requires : tie.Need-try-from-raw-requires
 try-from-raw-requires c κs = search needs

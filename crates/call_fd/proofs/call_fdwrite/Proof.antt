@@ -10,7 +10,7 @@ use Rattle.call_fd.proofs.call_fdwrite.Statement.{statement}
 use Rattle.call_fd.proofs.call_fdwrite.Tie as tie
 use Rattle.step.proofs.answered.Reads as answered-reads
 use Rattle.call_fd.proofs.moved.Reads as moved-reads
-use Rattle.words.proofs.look.Reads as look-reads
+use Rattle.hold_words.proofs.look.Reads as look-reads
 
 look-requires : tie.Need-look-requires
 look-requires c κs = search needs

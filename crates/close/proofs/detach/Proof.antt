@@ -13,7 +13,7 @@ use Rattle.flag.proofs.event_read.Reads as event-read-reads
 use Rattle.opcode.proofs.detach.Reads as detach-reads
 use Rattle.step.proofs.notified.Reads as notified-reads
 use Rattle.step.proofs.answered.Reads as answered-reads
-use Rattle.words.proofs.queue_full.Reads as queue-full-reads
+use Rattle.queue_words.proofs.queue_full.Reads as queue-full-reads
 
 queue-full-requires : tie.Need-queue-full-requires
 queue-full-requires c κs = search needs

@@ -6,10 +6,10 @@ use Rattle.host.proofs.Cases.{drops-none, drops}
 use Rattle.host.proofs.drop.Statement.{statement}
 use Rattle.host.proofs.drop.Tie as tie
 use Rattle.step.proofs.answered.Reads as answered-reads
-use Rattle.words.proofs.held.Reads as held-reads
-use Rattle.words.proofs.lower.Reads as lower-reads
-use Rattle.words.proofs.lower_outside.Reads as lower-outside-reads
-use Rattle.words.proofs.sized.Reads as sized-reads
+use Rattle.hold_words.proofs.held.Reads as held-reads
+use Rattle.hold_words.proofs.lower.Reads as lower-reads
+use Rattle.hold_words.proofs.lower_outside.Reads as lower-outside-reads
+use Rattle.layout.proofs.sized.Reads as sized-reads
 
 sized-requires : tie.Need-sized-requires
 sized-requires c κs = search needs

@@ -7,10 +7,10 @@ use Rattle.host.proofs.open.Statement.{statement}
 use Rattle.host.proofs.open.Tie as tie
 use Rattle.ids.proofs.description_of.Reads as description-of-reads
 use Rattle.step.proofs.answered.Reads as answered-reads
-use Rattle.words.proofs.holds_of.Reads as holds-of-reads
-use Rattle.words.proofs.raise.Reads as raise-reads
-use Rattle.words.proofs.raise_outside.Reads as raise-outside-reads
-use Rattle.words.proofs.sized.Reads as sized-reads
+use Rattle.hold_words.proofs.holds_of.Reads as holds-of-reads
+use Rattle.hold_words.proofs.raise.Reads as raise-reads
+use Rattle.hold_words.proofs.raise_outside.Reads as raise-outside-reads
+use Rattle.layout.proofs.sized.Reads as sized-reads
 
 sized-requires : tie.Need-sized-requires
 sized-requires c κs = search needs

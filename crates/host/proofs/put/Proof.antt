@@ -7,11 +7,11 @@ use Rattle.host.proofs.put.Statement.{statement}
 use Rattle.host.proofs.put.Tie as tie
 use Rattle.ids.proofs.handle_of.Reads as handle-of-reads
 use Rattle.step.proofs.answered.Reads as answered-reads
-use Rattle.words.proofs.held.Reads as held-reads
-use Rattle.words.proofs.held_at.Reads as held-at-reads
-use Rattle.words.proofs.lower_outside.Reads as lower-outside-reads
-use Rattle.words.proofs.put_into.Reads as put-into-reads
-use Rattle.words.proofs.sized.Reads as sized-reads
+use Rattle.hold_words.proofs.held.Reads as held-reads
+use Rattle.handle_words.proofs.held_at.Reads as held-at-reads
+use Rattle.hold_words.proofs.lower_outside.Reads as lower-outside-reads
+use Rattle.handle_words.proofs.put_into.Reads as put-into-reads
+use Rattle.layout.proofs.sized.Reads as sized-reads
 
 sized-requires : tie.Need-sized-requires
 sized-requires c κs = search needs

@@ -6,13 +6,13 @@ use Rattle.plain.proofs.packed.Statement.{statement}
 use Rattle.plain.proofs.packed.Tie as tie
 use Rattle.plain.proofs.known.Reads as known-reads
 use Rattle.plain.proofs.put_slots.Reads as put-slots-reads
-use Rattle.words.proofs.put_all.Reads as put-all-reads
-use Rattle.words.proofs.put_chain.Reads as put-chain-reads
-use Rattle.words.proofs.put_driver.Reads as put-driver-reads
-use Rattle.words.proofs.put_handles.Reads as put-handles-reads
-use Rattle.words.proofs.put_head.Reads as put-head-reads
-use Rattle.words.proofs.put_outside.Reads as put-outside-reads
-use Rattle.words.proofs.put_queue.Reads as put-queue-reads
+use Rattle.part_words.proofs.put_all.Reads as put-all-reads
+use Rattle.part_words.proofs.put_chain.Reads as put-chain-reads
+use Rattle.part_words.proofs.put_driver.Reads as put-driver-reads
+use Rattle.part_words.proofs.put_handles.Reads as put-handles-reads
+use Rattle.part_words.proofs.put_head.Reads as put-head-reads
+use Rattle.part_words.proofs.put_outside.Reads as put-outside-reads
+use Rattle.part_words.proofs.put_queue.Reads as put-queue-reads
 
 known-requires : tie.Need-known-requires
 known-requires c κs = search needs

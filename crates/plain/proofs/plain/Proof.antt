@@ -5,15 +5,15 @@ use Rattle.layout.specs.Layout.{plainOf}
 use Rattle.plain.proofs.plain.Statement.{statement}
 use Rattle.plain.proofs.plain.Tie as tie
 use Rattle.plain.proofs.slots.Reads as slots-reads
-use Rattle.words.proofs.all.Reads as all-reads
-use Rattle.words.proofs.chain.Reads as chain-reads
-use Rattle.words.proofs.first.Reads as first-reads
-use Rattle.words.proofs.handles.Reads as handles-reads
-use Rattle.words.proofs.head_word.Reads as head-word-reads
-use Rattle.words.proofs.outside.Reads as outside-reads
-use Rattle.words.proofs.queue.Reads as queue-reads
-use Rattle.words.proofs.scheme.Reads as scheme-reads
-use Rattle.words.proofs.unread.Reads as unread-reads
+use Rattle.part_words.proofs.all.Reads as all-reads
+use Rattle.part_words.proofs.chain.Reads as chain-reads
+use Rattle.queue_words.proofs.first.Reads as first-reads
+use Rattle.part_words.proofs.handles.Reads as handles-reads
+use Rattle.slot_words.proofs.head_word.Reads as head-word-reads
+use Rattle.part_words.proofs.outside.Reads as outside-reads
+use Rattle.part_words.proofs.queue.Reads as queue-reads
+use Rattle.queue_words.proofs.scheme.Reads as scheme-reads
+use Rattle.queue_words.proofs.unread.Reads as unread-reads
 
 queue-requires : tie.Need-queue-requires
 queue-requires c κs = search needs

@@ -3,8 +3,8 @@ use borrow.Author.Needs.{needs}
 use Rattle.read.proofs.Cases.{received}
 use Rattle.read.proofs.read.Statement.{statement}
 use Rattle.read.proofs.read.Tie as tie
-use Rattle.words.proofs.put_unread.Reads as put-unread-reads
-use Rattle.words.proofs.receive.Reads as receive-reads
+use Rattle.queue_words.proofs.put_unread.Reads as put-unread-reads
+use Rattle.queue_words.proofs.receive.Reads as receive-reads
 
 receive-requires : tie.Need-receive-requires
 receive-requires c κs = search needs

@@ -10,7 +10,7 @@ use Rattle.record.proofs.first_list.Reads as first-list-reads
 use Rattle.record.proofs.second_list.Reads as second-list-reads
 use Rattle.run.proofs.event.Reads as event-reads
 use Rattle.run.proofs.is_half.Reads as is-half-reads
-use Rattle.words.proofs.sized.Reads as sized-reads
+use Rattle.layout.proofs.sized.Reads as sized-reads
 
 sized-requires : tie.Need-sized-requires
 sized-requires c κs = search needs

@@ -10,8 +10,8 @@ use Rattle.lent_bytes.proofs.put_received.Reads as put-received-reads
 use Rattle.run_room.proofs.least.Reads as least-reads
 use Rattle.read.proofs.read.Reads as read-reads
 use Rattle.wait_queue_receive.proofs.copied.Reads as copied-reads
-use Rattle.words.proofs.sized.Reads as sized-reads
-use Rattle.words.proofs.unread.Reads as unread-reads
+use Rattle.layout.proofs.sized.Reads as sized-reads
+use Rattle.queue_words.proofs.unread.Reads as unread-reads
 
 sized-requires : tie.Need-sized-requires
 sized-requires c κs = search needs

@@ -5,7 +5,7 @@ use Rattle.run.proofs.wake_turn.Statement.{statement}
 use Rattle.run.proofs.wake_turn.Tie as tie
 use Rattle.outcome_bytes.proofs.put_woken.Reads as put-woken-reads
 use Rattle.call_inner.proofs.wake.Reads as wake-reads
-use Rattle.words.proofs.sized.Reads as sized-reads
+use Rattle.layout.proofs.sized.Reads as sized-reads
 
 sized-requires : tie.Need-sized-requires
 sized-requires c κs = search needs

@@ -16,10 +16,10 @@ use Rattle.le_put.proofs.put8.Reads as put8-reads
 use Rattle.state_bytes.proofs.put_counts.Reads as put-counts-reads
 use Rattle.state_bytes.proofs.put_part.Reads as put-part-reads
 use Rattle.state_bytes.proofs.statuses.Reads as statuses-reads
-use Rattle.words.proofs.all.Reads as all-reads
-use Rattle.words.proofs.handles.Reads as handles-reads
-use Rattle.words.proofs.outside.Reads as outside-reads
-use Rattle.words.proofs.unread.Reads as unread-reads
+use Rattle.part_words.proofs.all.Reads as all-reads
+use Rattle.part_words.proofs.handles.Reads as handles-reads
+use Rattle.part_words.proofs.outside.Reads as outside-reads
+use Rattle.queue_words.proofs.unread.Reads as unread-reads
 
 all-requires : tie.Need-all-requires
 all-requires c κs = search needs

@@ -9,10 +9,10 @@ use Rattle.step.proofs.begun.Statement.{statement}
 use Rattle.step.proofs.begun.Tie as tie
 use Rattle.effect.proofs.root.Reads as root-reads
 use Rattle.flag.proofs.event_read.Reads as event-read-reads
-use Rattle.words.proofs.give.Reads as give-reads
-use Rattle.words.proofs.head.Reads as head-reads
-use Rattle.words.proofs.scheme.Reads as scheme-reads
-use Rattle.words.proofs.send.Reads as send-reads
+use Rattle.slot_words.proofs.give.Reads as give-reads
+use Rattle.slot_words.proofs.head.Reads as head-reads
+use Rattle.queue_words.proofs.scheme.Reads as scheme-reads
+use Rattle.queue_words.proofs.send.Reads as send-reads
 
 head-requires : tie.Need-head-requires
 head-requires c κs = search needs

@@ -6,8 +6,8 @@ use Prim.Native.Nat.{ℕ}
 use Rattle.step.proofs.notified.Statement.{statement}
 use Rattle.step.proofs.notified.Tie as tie
 use Rattle.effect.proofs.root.Reads as root-reads
-use Rattle.words.proofs.scheme.Reads as scheme-reads
-use Rattle.words.proofs.send.Reads as send-reads
+use Rattle.queue_words.proofs.scheme.Reads as scheme-reads
+use Rattle.queue_words.proofs.send.Reads as send-reads
 
 scheme-requires : tie.Need-scheme-requires
 scheme-requires c κs = search needs

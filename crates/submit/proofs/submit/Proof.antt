@@ -15,9 +15,9 @@ use Rattle.slot.proofs.waiting.Reads as waiting-reads
 use Rattle.step.proofs.answered.Reads as answered-reads
 use Rattle.step.proofs.went_on.Reads as went-on-reads
 use Rattle.submit.proofs.is_submittable.Reads as is-submittable-reads
-use Rattle.words.proofs.load.Reads as load-reads
-use Rattle.words.proofs.queue_full.Reads as queue-full-reads
-use Rattle.words.proofs.take.Reads as take-reads
+use Rattle.slot_words.proofs.load.Reads as load-reads
+use Rattle.queue_words.proofs.queue_full.Reads as queue-full-reads
+use Rattle.hold_words.proofs.take.Reads as take-reads
 
 ask-requires : tie.Need-ask-requires
 ask-requires c κs = search needs

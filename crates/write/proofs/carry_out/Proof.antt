@@ -13,8 +13,8 @@ use Rattle.closes.proofs.is_closing.Reads as is-closing-reads
 use Rattle.write.proofs.move_handle.Reads as move-handle-reads
 use Rattle.write.proofs.put_effect.Reads as put-effect-reads
 use Rattle.write.proofs.unmap.Reads as unmap-reads
-use Rattle.words.proofs.drop_all.Reads as drop-all-reads
-use Rattle.words.proofs.sized.Reads as sized-reads
+use Rattle.hold_words.proofs.drop_all.Reads as drop-all-reads
+use Rattle.layout.proofs.sized.Reads as sized-reads
 
 sized-requires : tie.Need-sized-requires
 sized-requires c κs = search needs

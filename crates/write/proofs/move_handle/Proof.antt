@@ -3,8 +3,8 @@ use borrow.Author.Needs.{needs}
 use Rattle.write.proofs.Carried.{handle-moved, handle-stays}
 use Rattle.write.proofs.move_handle.Statement.{statement}
 use Rattle.write.proofs.move_handle.Tie as tie
-use Rattle.words.proofs.set_handle.Reads as set-handle-reads
-use Rattle.words.proofs.sized.Reads as sized-reads
+use Rattle.handle_words.proofs.set_handle.Reads as set-handle-reads
+use Rattle.layout.proofs.sized.Reads as sized-reads
 
 sized-requires : tie.Need-sized-requires
 sized-requires c κs = search needs

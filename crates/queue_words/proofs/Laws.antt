@@ -1,0 +1,53 @@
+-- An entry's eight words, a send by its test, and a read of the ring that was lent. Assumes nothing.
+use Prim.Native.Nat.{ℕ, _+_, _*_, _%_, _<_, _≤_}
+use mathlib.Core.Path.{_≡_, sym, ap, _∙_}
+use mathlib.Core.Bool.{Bool, cond}
+use mathlib.Core.List.{List, [], _∷_}
+use native.Mathlib.Omega.{arith}
+use lib.ListN.{getD, set}
+use lib.Seq.{sets}
+use borrow.Author.Tests.{lt-leb, le-leb}
+use Rattle.schemev2.specs.declared.Sqe.{Sqe}
+use Rattle.schemev2.specs.Entry.{sqeWords}
+use Rattle.layout.specs.Layout.{plainOf}
+use Rattle.layout.specs.Store.{sendWords, stored, send}
+use Rattle.layout.proofs.Regions.{plus}
+use Prim.Native.Nat.{ℕ, _+_, _-_, _<_, _≤_}
+use mathlib.Core.Path.{_≡_, sym, ap, _∙_}
+use mathlib.Core.Bool.{Bool, cond}
+use mathlib.Core.List.{List, [], _∷_}
+use lib.ListN.{getD, set, take, drop, length}
+use lib.Seq.{sets}
+use Rattle.wait_queue.specs.declared.WaitQueue.{WaitQueue}
+use Rattle.wait_queue_receive.specs.declared.Received.{Received}
+use Rattle.wait_queue_receive.specs.Receive.{receivedOf, copiedOf}
+use Rattle.events.specs.World.{queueOf}
+use Rattle.layout.specs.Layout.{part, plainOf}
+use Rattle.layout.specs.Store.{stored}
+
+pub eight :
+    (l : List ℕ) (k a b c d e f g h a′ : ℕ) → a′ ≡ a
+    → set (set (set (set (set (set (set (set l k a′) (k + 1) b) (k + 2) c) (k + 3) d) (k + 4) e) (k + 5) f) (k + 6) g) (k + 7) h
+    ≡ sets l k (a ∷ b ∷ c ∷ d ∷ e ∷ f ∷ g ∷ h ∷ [])
+eight l k a b c d e f g h a′ ea =
+    λ i. set (set (set (set (set (set (set (set l k (ea i)) (plus 1 k i) b) (plus 2 k i) c) (plus 3 k i) d) (plus 4 k i) e) (plus 5 k i) f) (plus 6 k i) g) (plus 7 k i) h
+
+module _ (ws : List ℕ) where
+  turned : (x y : ℕ) → (x % 128 + y) % 128 ≡ (x + y) % 128
+  turned x y = omega arith
+
+  pub sent : (e : Sqe) (xs : List ℕ) → getD ws 970 0 < 128 → xs ≡ sets ws (1036 + (getD ws 969 0 % 128 + getD ws 970 0) % 128 * 8) (sqeWords e) → set xs 970 (getD ws 970 0 + 1) ≡ stored ws (send e)
+  sent e xs b q =
+      ap (λ (l : List ℕ). set l 970 (getD ws 970 0 + 1)) (q ∙ ap (λ (p : ℕ). sets ws (1036 + p * 8) (sqeWords e)) (turned (getD ws 969 0) (getD ws 970 0)))
+      ∙ sym (ap (λ (x : Bool). cond x ws (sendWords ws e)) (lt-leb 128 (getD ws 970 0) b))
+
+  pub sent-none : (e : Sqe) → 128 ≤ getD ws 970 0 → ws ≡ stored ws (send e)
+  sent-none e b = sym (ap (λ (x : Bool). cond x ws (sendWords ws e)) (le-leb 128 (getD ws 970 0) b))
+
+  -- a read, of the ring that was lent
+  pub received :
+      (out : List ℕ) (flags : ℕ) (o : Received) (new : List ℕ)
+      → let q : WaitQueue = record { first = getD ws 969 0; len = getD ws 970 0 } in (o ≡ receivedOf q (length out) flags) × (new ≡ copiedOf q (take 1024 (drop 1036 ws)) out)
+      → (o ≡ receivedOf (queueOf (plainOf ws)) (length out) flags) × (new ≡ copiedOf (queueOf (plainOf ws)) (plainOf ws .words) out)
+  unfolding plainOf part
+  received out flags o new e = e
