@@ -26,13 +26,13 @@ pub fn call(
         let no = asked.answer;
         return step::answered(no);
     }
-    if slot_words::is_full(s) {
+    if slot_load::is_full(s) {
         return step::answered(Answer::Full);
     }
     if queue_words::queue_full(s) {
         return step::answered(Answer::QueueFull);
     }
-    let n = slot_words::head(s);
+    let n = slot_load::head(s);
     let list = asked.list;
     let v = slot::waiting(caller, list);
     let who = user_args::uid_gid_hack_merge(uid, gid);

@@ -36,7 +36,7 @@ fn moved(s: &mut [u64; 2060], metadata: &[u64], list: List, count: usize) -> Ste
     ensures { λ r. ⌜ ((ds : Words ℕ) → Good (plainOf (now (s .entry))) ds list → count ≡ length ds → Moves (now (s .entry)) (now (s .exit)) (now (metadata .entry)) ds (said (r .answer)) (effectWords (r .effect))) ⌝ }
 {
     let n = request_slot(metadata, 1);
-    let v = slot_words::load(s, n);
+    let v = slot_load::load(s, n);
     hold_words::take(s, list);
     let p = slot::phase_of(v);
     match p {
@@ -48,7 +48,7 @@ fn moved(s: &mut [u64; 2060], metadata: &[u64], list: List, count: usize) -> Ste
             let old = v.fds;
             let w = slot::with_fds(v, list);
             hold_words::discard(s, old);
-            slot_words::put(s, n, w);
+            slot_store::put(s, n, w);
             return step::answered(Answer::Descriptions(count as u64));
         }
         _ => {
@@ -80,7 +80,7 @@ pub fn call_fdread(s: &mut [u64; 2060], metadata: &[u64]) -> Step
     ensures { λ r. ⌜ Does (now (s .entry)) (now (s .exit)) (on (obtain (now (metadata .entry)))) (said (r .answer)) (effectWords (r .effect)) ⌝ }
 {
     let n = request_slot(metadata, 0);
-    let v = slot_words::load(s, n);
+    let v = slot_load::load(s, n);
     let p = slot::phase_of(v);
     match p {
         Phase::Vacant => step::answered(Answer::Invalid),
@@ -90,7 +90,7 @@ pub fn call_fdread(s: &mut [u64; 2060], metadata: &[u64]) -> Step
             let none = fd_list::empty();
             let w = slot::with_fds(v, none);
             hold_words::to_outside(s, old);
-            slot_words::put(s, n, w);
+            slot_store::put(s, n, w);
             return step::answered(Answer::Descriptions(count as u64));
         }
         _ => step::answered(Answer::NotFound),

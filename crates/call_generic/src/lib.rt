@@ -26,13 +26,13 @@ fn call_with(
     if 2 < fds.len() {
         return step::answered(Answer::Invalid);
     }
-    if slot_words::is_full(s) {
+    if slot_load::is_full(s) {
         return step::answered(Answer::Full);
     }
     if queue_words::queue_full(s) {
         return step::answered(Answer::QueueFull);
     }
-    let n = slot_words::head(s);
+    let n = slot_load::head(s);
     let none = fd_list::empty();
     let v = slot::waiting(caller, none);
     let e = generic_entry::entry(op, n.0 as u32, pid, fds, base, len, metadata);

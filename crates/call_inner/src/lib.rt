@@ -49,7 +49,7 @@ pub fn wake(s: &mut [u64; 2060], tag: Tag, caller: u32, killed: u64, base: u64, 
         return without_reply(Answer::BadArgument, none);
     }
     let n = ids::slot_of(tag);
-    let v = slot_words::load(s, n);
+    let v = slot_load::load(s, n);
     let unread = queue_words::unread(s);
     let decided = wake_decision::decide(v, caller, killed, unread);
     let answer = decided.answer;
@@ -62,7 +62,7 @@ pub fn wake(s: &mut [u64; 2060], tag: Tag, caller: u32, killed: u64, base: u64, 
                 count: count,
             };
             let w = slot::interrupted(v, span);
-            slot_words::put(s, n, w);
+            slot_store::put(s, n, w);
             return without_reply(Answer::Interrupted, none);
         }
         Turn::Cancel => {
@@ -78,7 +78,7 @@ pub fn wake(s: &mut [u64; 2060], tag: Tag, caller: u32, killed: u64, base: u64, 
             let out = wake_decision::holds_in(reply, fds);
             layout::sized(s);
             hold_words::to_outside(s, out);
-            slot_words::vacate(s, n);
+            slot_store::vacate(s, n);
             return Woken {
                 answer: Answer::Replied,
                 reply: reply,

@@ -113,10 +113,10 @@ fn mark(s: &mut [u64; 2060], i: u64, caller: u32)
     ensures { λ r. ⌜ now (s .exit) ≡ storedAll (now (s .entry)) (marks 1 i (plainOf (now (s .entry))) caller) ⌝ }
 {
     let n = ids::slot_of(Tag(i));
-    let v = slot_words::load(s, n);
+    let v = slot_load::load(s, n);
     if has(v, caller) {
         let w = slot::caller_ended(v);
-        slot_words::put(s, n, w);
+        slot_store::put(s, n, w);
     }
 }
 

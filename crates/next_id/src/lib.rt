@@ -10,12 +10,12 @@ ghost use Rattle.events.specs.Event.{on, reserve};
 pub fn next_id(s: &mut [u64; 2060], caller: u32) -> Step
     ensures { λ r. ⌜ Does (now (s .entry)) (now (s .exit)) (on (reserve caller)) (said (r .answer)) (effectWords (r .effect)) ⌝ }
 {
-    if slot_words::is_full(s) {
+    if slot_load::is_full(s) {
         return step::answered(Answer::Full);
     }
-    let n = slot_words::head(s);
+    let n = slot_load::head(s);
     let v = slot::placeholder(caller);
-    slot_words::give(s, v);
+    slot_store::give(s, v);
     let none = effect::none();
     Step {
         answer: Answer::Given(Tag(n.0 as u64)),

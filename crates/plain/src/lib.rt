@@ -21,7 +21,7 @@ fn slots(s: &[u64; 2060]) -> [Slot; 64]
     let mut a = [none; 64];
     let mut i = 0;
     while i < 64 {
-        let v = slot_words::load(s, ids::slot_of(Tag(i as u64)));
+        let v = slot_load::load(s, ids::slot_of(Tag(i as u64)));
         a[i] = v;
         i += 1;
     }
@@ -50,7 +50,7 @@ pub fn plain(s: &[u64; 2060], queue: &mut [u64; 1024]) -> State
         table: Table {
             slots: slots,
             next: next,
-            head: slot_words::head_word(s),
+            head: slot_load::head_word(s),
             holds: Holds {
                 holds: holds,
                 outside: outside,
@@ -65,7 +65,7 @@ fn put_slots(s: &mut [u64; 2060], slots: [Slot; 64])
     let mut i = 0;
     while i < 64 {
         let v = slots[i];
-        slot_words::put(s, ids::slot_of(Tag(i as u64)), v);
+        slot_store::put(s, ids::slot_of(Tag(i as u64)), v);
         i += 1;
     }
 }

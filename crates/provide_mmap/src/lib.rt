@@ -23,7 +23,7 @@ pub fn provide_mmap(s: &mut [u64; 2060], tag: Tag, offset: u64, base: u64, count
         return step::answered(Answer::Invalid);
     }
     let n = ids::slot_of(tag);
-    let v = slot_words::load(s, n);
+    let v = slot_load::load(s, n);
     let phase = slot::phase_of(v);
     match phase {
         Phase::Vacant => step::answered(Answer::Invalid),
@@ -31,7 +31,7 @@ pub fn provide_mmap(s: &mut [u64; 2060], tag: Tag, offset: u64, base: u64, count
         Phase::Waiting => step::answered(Answer::Invalid),
         Phase::Responded => step::answered(Answer::Invalid),
         Phase::Fmap => {
-            slot_words::vacate(s, n);
+            slot_store::vacate(s, n);
             let none = effect::none();
             if v.ended {
                 return Step {

@@ -25,12 +25,12 @@ use Rattle.events.specs.World.{queueOf}
 use Rattle.layout.specs.Layout.{part, plainOf}
 use Rattle.layout.specs.Store.{stored}
 
+-- an entry's eight words, stored four by four
 pub eight :
-    (l : List ℕ) (k a b c d e f g h a′ : ℕ) → a′ ≡ a
-    → set (set (set (set (set (set (set (set l k a′) (k + 1) b) (k + 2) c) (k + 3) d) (k + 4) e) (k + 5) f) (k + 6) g) (k + 7) h
-    ≡ sets l k (a ∷ b ∷ c ∷ d ∷ e ∷ f ∷ g ∷ h ∷ [])
-eight l k a b c d e f g h a′ ea =
-    λ i. set (set (set (set (set (set (set (set l k (ea i)) (plus 1 k i) b) (plus 2 k i) c) (plus 3 k i) d) (plus 4 k i) e) (plus 5 k i) f) (plus 6 k i) g) (plus 7 k i) h
+    (l m n : List ℕ) (k a b c d e f g h a′ : ℕ) → a′ ≡ a → m ≡ sets l k (a′ ∷ b ∷ c ∷ d ∷ []) → n ≡ sets m (k + 4) (e ∷ f ∷ g ∷ h ∷ [])
+    → n ≡ sets l k (a ∷ b ∷ c ∷ d ∷ e ∷ f ∷ g ∷ h ∷ [])
+eight l m n k a b c d e f g h a′ ea em en =
+    en ∙ ap (λ (s : List ℕ). sets s (k + 4) (e ∷ f ∷ g ∷ h ∷ [])) em ∙ λ i. sets (sets l k (ea i ∷ b ∷ c ∷ d ∷ [])) (plus 4 k i) (e ∷ f ∷ g ∷ h ∷ [])
 
 module _ (ws : List ℕ) where
   turned : (x y : ℕ) → (x % 128 + y) % 128 ≡ (x + y) % 128

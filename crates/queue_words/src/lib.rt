@@ -53,14 +53,8 @@ fn store_entry(s: &mut [u64; 2060], at: usize, e: Sqe)
 {
     let args = e.args;
     let first = start(e);
-    s[at] = first;
-    s[at + 1] = args.0;
-    s[at + 2] = args.1;
-    s[at + 3] = args.2;
-    s[at + 4] = args.3;
-    s[at + 5] = args.4;
-    s[at + 6] = args.5;
-    s[at + 7] = e.caller;
+    word_put::put4(s, at, first, args.0, args.1, args.2);
+    word_put::put4(s, at + 4, args.3, args.4, args.5, e.caller);
 }
 
 // One entry more in the queue, where there is room.

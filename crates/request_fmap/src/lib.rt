@@ -20,13 +20,13 @@ pub fn request_fmap(
 ) -> Step
     ensures { λ r. ⌜ Does (now (s .entry)) (now (s .exit)) (on (fmap caller id pages flags uid gid pid)) (said (r .answer)) (effectWords (r .effect)) ⌝ }
 {
-    if slot_words::is_full(s) {
+    if slot_load::is_full(s) {
         return step::answered(Answer::Full);
     }
     if queue_words::queue_full(s) {
         return step::answered(Answer::QueueFull);
     }
-    let n = slot_words::head(s);
+    let n = slot_load::head(s);
     let v = slot::map_request(caller);
     let who = user_args::uid_gid_hack_merge(uid, gid);
     let a = Args(id, flags, pages, 0, 0, who);

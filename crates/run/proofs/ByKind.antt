@@ -22,18 +22,10 @@ use Rattle.record.specs.Record.{recordOf, firstAt, secondAt, tailAt, tailOf, ne
 use Rattle.record.proofs.Laws.{all-there}
 use Rattle.run_room.specs.Room.{roomOf}
 use Rattle.step.specs.Does.{Does}
+use Rattle.dispatch.specs.Dispatch.{tellsMore, Dispatched}
+use Rattle.dispatch.proofs.ByKind.{_&_, Each, looked-up}
 use Rattle.run.proofs.Silent.{silent}
-use Rattle.run.specs.Run.{isOther, Told, wakeIn, readIn, writeIn, Turned, storedBy}
-
--- what holds of each of a list and of the event beyond it, holds of the event that is looked up
-abbrev Each : (ℕ → Event → Type 0) → List Event → Type 0
-Each P [] = Unit {0}
-Each P (e ∷ es) = P 0 e × Each (λ n. P (suc n)) es
-
-looked-up : (P : ℕ → Event → Type 0) (es : List Event) (d : Event) → Each P es → ((n : ℕ) → P n d) → (n : ℕ) → P n (getD es n d)
-looked-up P [] d p f n = f n
-looked-up P (e ∷ es) d p f zero = p .0
-looked-up P (e ∷ es) d p f (suc n) = looked-up (λ k. P (suc k)) es d (p .1) (λ k. f (suc k)) n
+use Rattle.run.specs.Run.{Told, wakeIn, readIn, writeIn, Turned, storedBy}
 
 module _ (r : Record) (xs ys bs : List ℕ) (lent : ℕ) where
   abbrev named : ℕ → Event
@@ -41,100 +33,35 @@ module _ (r : Record) (xs ys bs : List ℕ) (lent : ℕ) where
 
   -- the event of another kind than wake, read and write fits where its caller has 32 bits, stores no effects and no bytes
   abbrev Plain : World → ℕ → Event → Type 0
-  Plain w k e = isOther k → (r .number < 4294967296 → EventFits e) × (isWrite (viewOf e) ≡ false) × ([] ≡ step w e .bytes)
+  Plain w k e = tellsMore k ≡ false → (r .number < 4294967296 → EventFits e) × (isWrite (viewOf e) ≡ false) × ([] ≡ step w e .bytes)
 
   pub others : (w : World) (k : ℕ) → Plain w k (named k)
   others w k =
       let a = r .words in
       let c = r .number in
       looked-up (Plain w) (eventTable r xs ys bs lent) (supplyOf a) (
-        λ o. (λ h. tt, refl, silent w (supply (a .0) (a .1) (a .2) (a .3)) refl),
-        (
-          λ o. (λ h. tt, refl, refl),
-          (
-            λ o. (λ h. tt, refl, refl),
-            (
-              λ o. (λ h. tt, refl, refl),
-              (
-                λ o. (λ h. tt, refl, refl),
-                (
-                  λ o. (λ h. tt, refl, refl),
-                  (
-                    λ o. (λ h. h, refl, silent w (reserve c) refl),
-                    (
-                      λ o. (λ h. h, refl, silent w (submit (a .0) c (a .1) (r .flags) (record { 0 = a .2; 1 = a .3; 2 = a .4; 3 = a .5; 4 = a .6; 5 = a .7 }) (a .8) xs) refl),
-                      (
-                        λ o. (λ h. h, refl, silent w (call c (a .0) (record { 0 = a .1; 1 = a .2; 2 = a .3; 3 = a .4; 4 = a .5; 5 = a .6 }) (r .uid) (r .gid) (a .7) xs) refl),
-                        (
-                          λ o. (λ h. h, refl, silent w (generic c (a .0) xs (a .1) (a .2) ys) refl),
-                          (
-                            λ o. (λ h. h, refl, silent w (stdfs c (a .0) xs (a .1) (a .2) ys) refl),
-                            (
-                              λ o. (λ h. h, refl, silent w (fmap c (a .0) (a .1) (a .2) (r .uid) (r .gid) (a .3)) refl),
-                              (
-                                λ o. (λ h. tt, refl, silent w (close (a .0)) refl),
-                                (
-                                  λ o. (λ h. tt, refl, silent w (detach (a .0) (a .1)) refl),
-                                  (
-                                    λ o. absurd (o .0 refl),
-                                    (
-                                      λ o. absurd (o .1 refl),
-                                      (
-                                        λ o. absurd (o .2 refl),
-                                        (
-                                          λ o. (λ h. tt, refl, silent w (move xs ys) refl),
-                                          (
-                                            λ o. (λ h. tt, refl, silent w (obtain xs) refl),
-                                            (tt),
-                                          ),
-                                        ),
-                                      ),
-                                    ),
-                                  ),
-                                ),
-                              ),
-                            ),
-                          ),
-                        ),
-                      ),
-                    ),
-                  ),
-                ),
-              ),
-            ),
-          ),
-        ),
+        (λ o. (λ h. tt, refl, silent w (supply (a .0) (a .1) (a .2) (a .3)) refl))
+        & (λ o. (λ h. tt, refl, refl))
+        & (λ o. (λ h. tt, refl, refl))
+        & (λ o. (λ h. tt, refl, refl))
+        & (λ o. (λ h. tt, refl, refl))
+        & (λ o. (λ h. tt, refl, refl))
+        & (λ o. (λ h. h, refl, silent w (reserve c) refl))
+        & (λ o. (λ h. h, refl, silent w (submit (a .0) c (a .1) (r .flags) (record { 0 = a .2; 1 = a .3; 2 = a .4; 3 = a .5; 4 = a .6; 5 = a .7 }) (a .8) xs) refl))
+        & (λ o. (λ h. h, refl, silent w (call c (a .0) (record { 0 = a .1; 1 = a .2; 2 = a .3; 3 = a .4; 4 = a .5; 5 = a .6 }) (r .uid) (r .gid) (a .7) xs) refl))
+        & (λ o. (λ h. h, refl, silent w (generic c (a .0) xs (a .1) (a .2) ys) refl))
+        & (λ o. (λ h. h, refl, silent w (stdfs c (a .0) xs (a .1) (a .2) ys) refl))
+        & (λ o. (λ h. h, refl, silent w (fmap c (a .0) (a .1) (a .2) (r .uid) (r .gid) (a .3)) refl))
+        & (λ o. (λ h. tt, refl, silent w (close (a .0)) refl))
+        & (λ o. (λ h. tt, refl, silent w (detach (a .0) (a .1)) refl))
+        & (λ o. absurd (true≢false o))
+        & (λ o. absurd (true≢false o))
+        & (λ o. absurd (true≢false o))
+        & (λ o. (λ h. tt, refl, silent w (move xs ys) refl))
+        & (λ o. (λ h. tt, refl, silent w (obtain xs) refl))
+        & tt
       )
       (λ k o. (λ h. tt, refl, silent w (supply (a .0) (a .1) (a .2) (a .3)) refl)) k
-
-  -- a kind that is none of the others: a supply
-  abbrev Last : ℕ → Event → Type 0
-  Last k e = (eqb k 0 ≡ false → ltb k 19 ≡ false) → e ≡ supplyOf (r .words)
-
-  no : {e : Event} → (false ≡ false → true ≡ false) → e ≡ supplyOf (r .words)
-  no z = absurd (true≢false (z refl))
-
-  last : (k : ℕ) → Last k (named k)
-  last k = looked-up Last (eventTable r xs ys bs lent) (supplyOf (r .words)) (λ z. refl, (no, (no, (no, (no, (no, (no, (no, (no, (no, (no, (no, (no, (no, (no, (no, (no, (no, (no, (tt)))))))))))))))))))) (λ k z. refl) k
-
-  module _ (ws vs : List ℕ) (a : Answer) (fx : List ℕ) where
-    pub as-kind : (n k : ℕ) → n ≡ k → Does ws vs (named k) a fx → Does ws vs (named n) a fx
-    as-kind n k e d = subst (λ (j : ℕ). Does ws vs (named j) a fx) (sym e) d
-
-    pub as-supply : (n : ℕ) → (eqb n 0 ≡ false → 19 ≤ n) → Does ws vs (supplyOf (r .words)) a fx → Does ws vs (named n) a fx
-    as-supply n h d = subst (λ (e : Event). Does ws vs e a fx) (sym (last n (λ z. le-ltb n 19 (h z)))) d
-
--- none of the kinds below
-past : (n k : ℕ) → k ≤ n → (n ≡ k → ⊥) → suc k ≤ n
-past n k h z = omega (arith, h, z)
-
-pub over :
-    (n : ℕ) → isOther n
-    → (n ≡ 1 → ⊥) → (n ≡ 2 → ⊥) → (n ≡ 3 → ⊥) → (n ≡ 4 → ⊥) → (n ≡ 5 → ⊥) → (n ≡ 6 → ⊥) → (n ≡ 7 → ⊥) → (n ≡ 8 → ⊥) → (n ≡ 9 → ⊥) → (n ≡ 10 → ⊥) → (n ≡ 11 → ⊥) → (n ≡ 12 → ⊥) → (n ≡ 13 → ⊥) → (n ≡ 17 → ⊥) → (n ≡ 18 → ⊥)
-    → eqb n 0 ≡ false → 19 ≤ n
-over n o a b c d e f g h i j k l m p q y =
-    let z : 1 ≤ n = past n 0 (omega arith) (λ x. true≢false (sym (eq-eqb n 0 x) ∙ y)) in
-    past n 18 (past n 17 (past n 16 (past n 15 (past n 14 (past n 13 (past n 12 (past n 11 (past n 10 (past n 9 (past n 8 (past n 7 (past n 6 (past n 5 (past n 4 (past n 3 (past n 2 (past n 1 z a) b) c) d) e) f) g) h) i) j) k) l) m) (o .0)) (o .1)) (o .2)) p) q
 
 -- what is told of an event, from the promise of its function
 pub does-told :
@@ -153,14 +80,14 @@ wake-told ws xs r a fx out out' used size d eo eu =
 
 -- of an event with its lists, which stand in the words lent for them
 pub listed-told :
-    (ws xs : List ℕ) (r : Record) (bs : List ℕ) (lent : ℕ) (xs₁ ys₁ xs₂ ys₂ : List ℕ) → xs₁ ≡ xs₂ → ys₁ ≡ ys₂ → length ws ≡ 2060 → r .number < 4294967296 → isOther (r .kind)
-    → (a : Answer) (fx : List ℕ) → Does ws xs (eventNamed (r .kind) r xs₁ ys₁ bs lent) a fx
+    (ws xs : List ℕ) (r : Record) (bs : List ℕ) (lent : ℕ) (xs₁ ys₁ xs₂ ys₂ : List ℕ) → xs₁ ≡ xs₂ → ys₁ ≡ ys₂ → length ws ≡ 2060 → r .number < 4294967296 → tellsMore (r .kind) ≡ false
+    → (a : Answer) (fx : List ℕ) → Dispatched (tellsMore (r .kind)) ws xs (eventNamed (r .kind) r xs₁ ys₁ bs lent) a fx
     → (out out' : List ℕ) (used : ℕ) → out' ≡ sets out 0 (told a fx []) → used ≡ length (told a fx [])
     → Told (plainOf ws) (plainOf xs) (eventNamed (r .kind) r xs₂ ys₂ bs lent) out out' used
 listed-told ws xs r bs lent xs₁ ys₁ xs₂ ys₂ ex ey size few o a fx d out out' used eo eu =
     let p = others r xs₂ ys₂ bs lent (plainOf ws) (r .kind) o in
     does-told ws xs (eventNamed (r .kind) r xs₂ ys₂ bs lent) a fx out out' used size (p .0 few) (p .2)
-    (subst (λ (v : List ℕ). Does ws xs (eventNamed (r .kind) r xs₂ v bs lent) a fx) ey (subst (λ (v : List ℕ). Does ws xs (eventNamed (r .kind) r v ys₁ bs lent) a fx) ex d))
+    (subst (λ (v : List ℕ). Does ws xs (eventNamed (r .kind) r xs₂ v bs lent) a fx) ey (subst (λ (v : List ℕ). Does ws xs (eventNamed (r .kind) r v ys₁ bs lent) a fx) ex (subst (λ (b : Bool). Dispatched b ws xs (eventNamed (r .kind) r xs₁ ys₁ bs lent) a fx) o d)))
     eo eu
 
 -- the event of a record at the start of bytes
@@ -203,7 +130,7 @@ module _ (rec fx : List ℕ) (r : Record) (is : r ≡ recordOf rec) where
         → used ≤ 192 + 27 * tailOf r → Turned ws xs rec fx fx' out out' used
     turned-write fx' e t l few = turned 16 fx' e t l (omega (arith, few))
 
-    pub turned-other : isOther (r .kind) → Told (plainOf ws) (plainOf xs) (here (r .kind)) out out' used → used ≤ 192 → Turned ws xs rec fx fx out out' used
+    pub turned-other : tellsMore (r .kind) ≡ false → Told (plainOf ws) (plainOf xs) (here (r .kind)) out out' used → used ≤ 192 → Turned ws xs rec fx fx out out' used
     turned-other o t few =
         turned (r .kind) fx refl t
         (ap (λ (b : Bool). sets fx 0 (cond b (step (plainOf ws) (here (r .kind)) .effects) []))

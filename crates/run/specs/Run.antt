@@ -37,10 +37,6 @@ readIn r = on (read (r .words .0) (r .number))
 abbrev pub writeIn : Record → List ℕ → ℕ → Event
 writeIn r bs lent = on (write (min (r .words .0) lent) (take (tailOf r) (drop (tailAt r) bs)))
 
--- an event of another kind: at most one effect, and no reply
-abbrev pub isOther : ℕ → Type 0
-isOther kind = (kind ≡ 14 → ⊥) × (kind ≡ 15 → ⊥) × (kind ≡ 16 → ⊥)
-
 -- what a turn leaves, told of the world that it found: the world, the output from its start on, and how much of it was used
 abbrev pub Told : World → World → Event → List ℕ → List ℕ → ℕ → Type 0
 Told w u e out out' used = (u ≡ step w e .world) × ((out' ≡ sets out 0 (outcomeBytes (step w e))) × (used ≡ length (outcomeBytes (step w e))))

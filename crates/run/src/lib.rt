@@ -2,22 +2,20 @@
 // words, which each event changes in place.
 use ids::Tag;
 use record::Record;
-use schemev2::Args;
 use state_bytes::STATE_SIZE;
-use step::Step;
 ghost use mathlib.Core.Path.{_≡_};
+ghost use mathlib.Core.Bool.{false};
 ghost use mathlib.Core.List.{List};
 ghost use Prim.Native.Nat.{ℕ, _+_, _-_, _*_, _≤_, _<_, min};
 ghost use lib.ListN.{length, take, drop};
 ghost use lib.Seq.{sets};
-ghost use Rattle.effect.specs.Effect.{effectWords};
 ghost use Rattle.record.specs.Record.{recordOf, firstAt, secondAt, tailAt, tailOf, wordsAt, nextOf, eventNamed, eventAt};
-ghost use Rattle.events.specs.Outcome.{said};
 ghost use Rattle.events.specs.WellFormed.{WellFormed};
 ghost use Rattle.layout.specs.Layout.{plainOf};
 ghost use Rattle.step.specs.Does.{Does};
 ghost use Rattle.run_room.specs.Room.{roomOf, needed, leftOf};
-ghost use Rattle.run.specs.Run.{Told, isOther, wakeIn, readIn, writeIn, Turned, storedBy, runOf, outputOf, lentAfter, wholeEnd, endOf, outAfter, fxAfter};
+ghost use Rattle.dispatch.specs.Dispatch.{tellsMore};
+ghost use Rattle.run.specs.Run.{Told, wakeIn, readIn, writeIn, Turned, storedBy, runOf, outputOf, lentAfter, wholeEnd, endOf, outAfter, fxAfter};
 
 // The run's own answer: 0, 204 or 205, where it ended or the record begins that is no event, and how many bytes were written.
 #[repr(C)]
@@ -32,53 +30,7 @@ fn is_half(x: u32)
     ensures { λ r. ⌜ x < 0x1_0000_0000 ⌝ }
 {}
 
-// An event with at most one effect and no reply, by its kind, with its lists.
-fn event(s: &mut [u64; 2060], r: Record, first: &[u64], second: &[u64]) -> Step
-    requires { ⌜ isOther (r .kind) ⌝ }
-    ensures { λ o. ⌜ ((bs : List ℕ) (lent : ℕ) → Does (now (s .entry)) (now (s .exit)) (eventNamed (r .kind) r (now (first .entry)) (now (second .entry)) bs lent) (said (o .answer)) (effectWords (o .effect))) ⌝ }
-{
-    let a = r.words;
-    let c = r.number;
-    let kind = r.kind;
-    match kind {
-        1 => host::open(s, a.0),
-        2 => host::copy(s, a.0),
-        3 => host::drop(s, a.0),
-        4 => host::put(s, a.0, a.1),
-        5 => host::ended(s, c),
-        6 => next_id::next_id(s, c),
-        7 => submit::submit(
-            s,
-            Tag(a.0),
-            c,
-            a.1,
-            r.flags,
-            Args(a.2, a.3, a.4, a.5, a.6, a.7),
-            a.8,
-            first,
-        ),
-        8 => call::call(
-            s,
-            c,
-            a.0,
-            Args(a.1, a.2, a.3, a.4, a.5, a.6),
-            r.uid,
-            r.gid,
-            a.7,
-            first,
-        ),
-        9 => call_generic::call_generic(s, c, a.0, first, a.1, a.2, second),
-        10 => call_generic::translate_std_fs_call(s, c, a.0, first, a.1, a.2, second),
-        11 => request_fmap::request_fmap(s, c, a.0, a.1, a.2, r.uid, r.gid, a.3),
-        12 => close::close(s, a.0),
-        13 => close::detach(s, a.0, a.1),
-        17 => call_fd::call_fdwrite(s, first, second),
-        18 => call_fd::call_fdread(s, first),
-        _ => provide_mmap::provide_mmap(s, Tag(a.0), a.1, a.2, a.3),
-    }
-}
-
-// Its lists stand in the first of the words lent for them.
+// An event with at most one effect and no reply. Its lists stand in the first of the words lent for them.
 fn event_turn(
     s: &mut [u64; 2060],
     rec: &[u8],
@@ -87,7 +39,7 @@ fn event_turn(
     second: &mut [u64],
     out: &mut [u8],
 ) -> usize
-    requires { ⌜ isOther (r .kind) × (255 ≤ length (now first)) × (255 ≤ length (now second)) ⌝ }
+    requires { ⌜ (tellsMore (r .kind) ≡ false) × (255 ≤ length (now first)) × (255 ≤ length (now second)) ⌝ }
     ensures { λ o. ⌜ ((bs : List ℕ) (lent : ℕ) → Told (plainOf (now (s .entry))) (plainOf (now (s .exit))) (eventNamed (r .kind) r (wordsAt (now (rec .entry)) (firstAt r) (r .first)) (wordsAt (now (rec .entry)) (secondAt r) (r .second)) bs lent) (now (out .entry)) (now (out .exit)) o) ⌝ }
     ensures { λ o. ⌜ o ≤ 192 ⌝ }
 {
@@ -97,7 +49,7 @@ fn event_turn(
     record::second_list(rec, r, second);
     let n = r.first as usize;
     let m = r.second as usize;
-    let done = event(s, r, &first[..n], &second[..m]);
+    let done = dispatch::event(s, r, &first[..n], &second[..m]);
     outcome_bytes::put_step(out, done)
 }
 

@@ -45,7 +45,7 @@ fn status_word(s: &[u64; 2060], which: Status) -> u64
     while 0 < i {
         i -= 1;
         let n = ids::slot_of(Tag(i));
-        let v = slot_words::load(s, n);
+        let v = slot_load::load(s, n);
         w = w * 2 + status::is_in(v, which);
     }
     w

@@ -53,9 +53,9 @@ pub fn begun(s: &mut [u64; 2060], v: Slot, e: Sqe) -> Step
     ensures { λ r. ⌜ effectWords (r .effect) ≡ readable (plainOf (now (s .entry))) ⌝ }
     ensures { λ r. ⌜ now (s .exit) ≡ storedAll (now (s .entry)) (giveStore v ∷ sendStore e ∷ []) ⌝ }
 {
-    let n = slot_words::head(s);
+    let n = slot_load::head(s);
     let scheme = queue_words::scheme(s);
-    slot_words::give(s, v);
+    slot_store::give(s, v);
     queue_words::send(s, e);
     let bits = flag::event_read();
     let fx = effect::root(scheme, bits);
@@ -72,7 +72,7 @@ pub fn went_on(s: &mut [u64; 2060], n: SlotNo, v: Slot, e: Sqe, answer: Answer) 
     ensures { λ r. ⌜ now (s .exit) ≡ storedAll (now (s .entry)) (putStore (n .0) v ∷ sendStore e ∷ []) ⌝ }
 {
     let scheme = queue_words::scheme(s);
-    slot_words::put(s, n, v);
+    slot_store::put(s, n, v);
     queue_words::send(s, e);
     let bits = flag::event_read();
     let fx = effect::root(scheme, bits);

@@ -51,7 +51,7 @@ pub fn submit(
         return step::answered(no);
     }
     let n = ids::slot_of(tag);
-    let v = slot_words::load(s, n);
+    let v = slot_load::load(s, n);
     if !is_submittable(v, caller) {
         return step::answered(Answer::NotYours);
     }

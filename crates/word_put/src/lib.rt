@@ -24,3 +24,14 @@ pub fn put3(words: &mut [u64], at: usize, a: u64, b: u64, c: u64)
     put(words, at + 1, b);
     put(words, at + 2, c);
 }
+
+// Four words.
+pub fn put4(words: &mut [u64], at: usize, a: u64, b: u64, c: u64, d: u64)
+    ensures { λ r. ⌜ now (words .exit) ≡ sets (now (words .entry)) at (a ∷ b ∷ c ∷ d ∷ []) ⌝ }
+{
+    if words.len() <= at {
+        return;
+    }
+    put3(words, at, a, b, c);
+    put(words, at + 3, d);
+}

@@ -73,8 +73,8 @@ fn act_on(s: &mut [u64; 2060], n: SlotNo, p: Plan)
     let v = p.slot;
     match act {
         Act::Leave => {}
-        Act::Store => slot_words::put(s, n, v),
-        Act::Vacate => slot_words::vacate(s, n),
+        Act::Store => slot_store::put(s, n, v),
+        Act::Vacate => slot_store::vacate(s, n),
     }
 }
 
@@ -122,7 +122,7 @@ fn entry(s: &mut [u64; 2060], e: Cqe, fx: &mut [u64], at: usize) -> Entered
     is_byte(extra.0);
     let asked = parse_cqe::parse_cqe(e);
     let n = ids::slot_of(Tag(e.tag as u64));
-    let v = slot_words::load(s, n);
+    let v = slot_load::load(s, n);
     let k = plan::handle_in(asked);
     let held = handle_words::held_at(s, k);
     let p = plan::handle_parsed(asked, v, held);

@@ -19,12 +19,12 @@ use Rattle.call_inner.proofs.without_reply.Reads as without-reply-reads
 use Rattle.wake_decision.proofs.cancel_entry.Reads as cancel-entry-reads
 use Rattle.wake_decision.proofs.decide.Reads as decide-reads
 use Rattle.wake_decision.proofs.holds_in.Reads as holds-in-reads
-use Rattle.slot_words.proofs.load.Reads as load-reads
-use Rattle.slot_words.proofs.put.Reads as put-reads
+use Rattle.slot_load.proofs.load.Reads as load-reads
+use Rattle.slot_store.proofs.put.Reads as put-reads
 use Rattle.layout.proofs.sized.Reads as sized-reads
 use Rattle.hold_words.proofs.to_outside.Reads as to-outside-reads
 use Rattle.queue_words.proofs.unread.Reads as unread-reads
-use Rattle.slot_words.proofs.vacate.Reads as vacate-reads
+use Rattle.slot_store.proofs.vacate.Reads as vacate-reads
 
 none-requires : tie.Need-none-requires
 none-requires c κs = search needs

@@ -8,8 +8,8 @@ use Rattle.host.proofs.mark.Tie as tie
 use Rattle.ids.proofs.slot_of.Reads as slot-of-reads
 use Rattle.slot.proofs.caller_ended.Reads as caller-ended-reads
 use Rattle.host.proofs.has.Reads as has-reads
-use Rattle.slot_words.proofs.load.Reads as load-reads
-use Rattle.slot_words.proofs.put.Reads as put-reads
+use Rattle.slot_load.proofs.load.Reads as load-reads
+use Rattle.slot_store.proofs.put.Reads as put-reads
 
 slot-of-requires : tie.Need-slot-of-requires
 slot-of-requires c κs = search needs

@@ -9,9 +9,9 @@ use Rattle.next_id.proofs.next_id.Tie as tie
 use Rattle.effect.proofs.none.Reads as none-reads
 use Rattle.slot.proofs.placeholder.Reads as placeholder-reads
 use Rattle.step.proofs.answered.Reads as answered-reads
-use Rattle.slot_words.proofs.give.Reads as give-reads
-use Rattle.slot_words.proofs.head.Reads as head-reads
-use Rattle.slot_words.proofs.is_full.Reads as is-full-reads
+use Rattle.slot_store.proofs.give.Reads as give-reads
+use Rattle.slot_load.proofs.head.Reads as head-reads
+use Rattle.slot_load.proofs.is_full.Reads as is-full-reads
 
 is-full-requires : tie.Need-is-full-requires
 is-full-requires c κs = search needs

@@ -9,7 +9,7 @@ use Rattle.part_words.proofs.all.Reads as all-reads
 use Rattle.part_words.proofs.chain.Reads as chain-reads
 use Rattle.queue_words.proofs.first.Reads as first-reads
 use Rattle.part_words.proofs.handles.Reads as handles-reads
-use Rattle.slot_words.proofs.head_word.Reads as head-word-reads
+use Rattle.slot_load.proofs.head_word.Reads as head-word-reads
 use Rattle.part_words.proofs.outside.Reads as outside-reads
 use Rattle.part_words.proofs.queue.Reads as queue-reads
 use Rattle.queue_words.proofs.scheme.Reads as scheme-reads

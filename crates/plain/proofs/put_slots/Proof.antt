@@ -12,7 +12,7 @@ use Rattle.layout.specs.Store.{stored, put}
 use Rattle.plain.proofs.Laws.{slot-no, put-more, put-end}
 use Rattle.plain.proofs.put_slots.Statement.{statement}
 use Rattle.plain.proofs.put_slots.Tie as tie
-use Rattle.slot_words.proofs.put.Reads as put-reads
+use Rattle.slot_store.proofs.put.Reads as put-reads
 
 abbrev Inv-loop : tie.InvT-loop
 Inv-loop s₀ slots i₀ s i = (i ≤ 64) × (sets s (12 * i) (slotsWords (drop i slots)) ≡ sets s₀ 0 (slotsWords slots))

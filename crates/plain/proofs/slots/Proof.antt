@@ -10,7 +10,7 @@ use Rattle.plain.proofs.Laws.{slot-no, read-more, read-end}
 use Rattle.plain.proofs.slots.Statement.{statement}
 use Rattle.plain.proofs.slots.Tie as tie
 use Rattle.slot.proofs.vacant.Reads as vacant-reads
-use Rattle.slot_words.proofs.load.Reads as load-reads
+use Rattle.slot_load.proofs.load.Reads as load-reads
 
 abbrev Inv-loop : tie.InvT-loop
 Inv-loop s a₀ i₀ a i = (i ≤ 64) × (length a ≡ 64) × (take i a ≡ take i (tableOf (plainOf s) .slots))

@@ -12,8 +12,8 @@ use Rattle.effect.proofs.none.Reads as none-reads
 use Rattle.ids.proofs.slot_of.Reads as slot-of-reads
 use Rattle.slot.proofs.phase_of.Reads as phase-of-reads
 use Rattle.step.proofs.answered.Reads as answered-reads
-use Rattle.slot_words.proofs.load.Reads as load-reads
-use Rattle.slot_words.proofs.vacate.Reads as vacate-reads
+use Rattle.slot_load.proofs.load.Reads as load-reads
+use Rattle.slot_store.proofs.vacate.Reads as vacate-reads
 
 answered-requires : tie.Need-answered-requires
 answered-requires c κs = search needs

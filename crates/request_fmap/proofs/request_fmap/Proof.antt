@@ -23,8 +23,8 @@ use Rattle.slot.proofs.map_request.Reads as map-request-reads
 use Rattle.step.proofs.begun.Reads as begun-reads
 use Rattle.step.proofs.answered.Reads as answered-reads
 use Rattle.user_args.proofs.uid_gid_hack_merge.Reads as uid-gid-hack-merge-reads
-use Rattle.slot_words.proofs.head.Reads as head-reads
-use Rattle.slot_words.proofs.is_full.Reads as is-full-reads
+use Rattle.slot_load.proofs.head.Reads as head-reads
+use Rattle.slot_load.proofs.is_full.Reads as is-full-reads
 use Rattle.queue_words.proofs.queue_full.Reads as queue-full-reads
 
 is-full-requires : tie.Need-is-full-requires

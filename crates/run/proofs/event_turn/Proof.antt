@@ -8,7 +8,7 @@ use Rattle.run.proofs.event_turn.Tie as tie
 use Rattle.outcome_bytes.proofs.put_step.Reads as put-step-reads
 use Rattle.record.proofs.first_list.Reads as first-list-reads
 use Rattle.record.proofs.second_list.Reads as second-list-reads
-use Rattle.run.proofs.event.Reads as event-reads
+use Rattle.dispatch.proofs.event.Reads as event-reads
 use Rattle.run.proofs.is_half.Reads as is-half-reads
 use Rattle.layout.proofs.sized.Reads as sized-reads
 

@@ -1,5 +1,6 @@
 -- `run::turn` meets its contract. Assumes nothing.
 use borrow.Author.Needs.{needs}
+use Rattle.dispatch.proofs.ByKind.{no-more}
 use Rattle.run.proofs.ByKind.{tail-there, turned-wake, turned-read, turned-write, turned-other}
 use Rattle.record.specs.Record.{tailAt, tailOf}
 use lib.ListN.{length, take, drop}
@@ -20,7 +21,7 @@ write-turn-requires : tie.Need-write-turn-requires
 write-turn-requires c κs = (c .before .before .before .before .before .before .before .before .before .before .pre .0, tail-there (c .before .before .before .before .before .before .before .before .before .before .args .rec .now) (c .before .before .before .before .before .before .before .before .before .before .args .fx .now) (c .before .before .before .before .before .before .before .before .before .before .args .r) (c .before .before .before .before .before .before .before .before .before .before .pre .2) (c .before .before .before .before .before .before .before .before .before .before .pre .1))
 
 event-turn-requires : tie.Need-event-turn-requires
-event-turn-requires c κs = search needs
+event-turn-requires c κs = search (needs, no-more)
 
 same-length : tie.Need-same-length
 same-length c = search needs
@@ -56,7 +57,7 @@ same-length-8 : tie.Need-same-length-8
 same-length-8 c = search needs
 
 returns-4 : tie.Need-returns-4
-returns-4 c = turned-other (c .before .before .before .before .before .before .before .before .before .before .before .before .before .before .before .before .before .before .args .rec .now) (c .before .before .before .before .before .before .before .before .before .before .before .before .before .before .before .before .before .before .args .fx .now) (c .before .before .before .before .before .before .before .before .before .before .before .before .before .before .before .before .before .before .args .r) (c .before .before .before .before .before .before .before .before .before .before .before .before .before .before .before .before .before .before .pre .2) (c .before .before .before .before .before .before .before .before .before .before .before .before .before .before .before .before .before .before .args .s .now) _ (c .before .before .before .before .before .before .before .before .before .before .before .before .before .before .before .before .before .before .args .out .now) _ _ (c .before .before .before .before .before .before .before .before .before .before .before .match .rest .0 .0 .1, c .before .before .before .before .before .before .before .before .before .before .before .match .rest .0 .1, c .before .before .before .before .before .before .before .before .before .before .before .match .rest .1) (c .before .before .before .before .before .before .event-turn .ensures .0 (take (tailOf (c .before .before .before .before .before .before .before .before .before .before .before .before .before .before .before .before .before .before .args .r)) (drop (tailAt (c .before .before .before .before .before .before .before .before .before .before .before .before .before .before .before .before .before .before .args .r)) (c .before .before .before .before .before .before .before .before .before .before .before .before .before .before .before .before .before .before .args .rec .now))) (length (c .before .before .before .before .before .before .before .before .before .before .before .before .before .before .before .before .before .before .args .fx .now))) (c .before .before .before .before .before .before .event-turn .ensures .1)
+returns-4 c = turned-other (c .before .before .before .before .before .before .before .before .before .before .before .before .before .before .before .before .before .before .args .rec .now) (c .before .before .before .before .before .before .before .before .before .before .before .before .before .before .before .before .before .before .args .fx .now) (c .before .before .before .before .before .before .before .before .before .before .before .before .before .before .before .before .before .before .args .r) (c .before .before .before .before .before .before .before .before .before .before .before .before .before .before .before .before .before .before .pre .2) (c .before .before .before .before .before .before .before .before .before .before .before .before .before .before .before .before .before .before .args .s .now) _ (c .before .before .before .before .before .before .before .before .before .before .before .before .before .before .before .before .before .before .args .out .now) _ _ (no-more _ (c .before .before .before .before .before .before .before .before .before .before .before .match .rest .0 .0 .1) (c .before .before .before .before .before .before .before .before .before .before .before .match .rest .0 .1) (c .before .before .before .before .before .before .before .before .before .before .before .match .rest .1)) (c .before .before .before .before .before .before .event-turn .ensures .0 (take (tailOf (c .before .before .before .before .before .before .before .before .before .before .before .before .before .before .before .before .before .before .args .r)) (drop (tailAt (c .before .before .before .before .before .before .before .before .before .before .before .before .before .before .before .before .before .before .args .r)) (c .before .before .before .before .before .before .before .before .before .before .before .before .before .before .before .before .before .before .args .rec .now))) (length (c .before .before .before .before .before .before .before .before .before .before .before .before .before .before .before .before .before .before .args .fx .now))) (c .before .before .before .before .before .before .event-turn .ensures .1)
 
 pub turn-spec : {M : Type 1} → statement M
 turn-spec =

@@ -13,7 +13,7 @@ use Rattle.state_bytes.proofs.status_word.Statement.{statement}
 use Rattle.state_bytes.proofs.status_word.Tie as tie
 use Rattle.ids.proofs.slot_of.Reads as slot-of-reads
 use Rattle.status.proofs.is_in.Reads as is-in-reads
-use Rattle.slot_words.proofs.load.Reads as load-reads
+use Rattle.slot_load.proofs.load.Reads as load-reads
 
 abbrev Inv-loop : tie.InvT-loop
 Inv-loop s which w₀ i₀ w i = (i ≤ 64) × (w ≡ wordOf (isIn which) (drop i (tableOf (plainOf s) .slots)))

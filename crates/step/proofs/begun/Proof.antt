@@ -9,8 +9,8 @@ use Rattle.step.proofs.begun.Statement.{statement}
 use Rattle.step.proofs.begun.Tie as tie
 use Rattle.effect.proofs.root.Reads as root-reads
 use Rattle.flag.proofs.event_read.Reads as event-read-reads
-use Rattle.slot_words.proofs.give.Reads as give-reads
-use Rattle.slot_words.proofs.head.Reads as head-reads
+use Rattle.slot_store.proofs.give.Reads as give-reads
+use Rattle.slot_load.proofs.head.Reads as head-reads
 use Rattle.queue_words.proofs.scheme.Reads as scheme-reads
 use Rattle.queue_words.proofs.send.Reads as send-reads
 

@@ -9,7 +9,7 @@ use Rattle.step.proofs.went_on.Statement.{statement}
 use Rattle.step.proofs.went_on.Tie as tie
 use Rattle.effect.proofs.root.Reads as root-reads
 use Rattle.flag.proofs.event_read.Reads as event-read-reads
-use Rattle.slot_words.proofs.put.Reads as put-reads
+use Rattle.slot_store.proofs.put.Reads as put-reads
 use Rattle.queue_words.proofs.scheme.Reads as scheme-reads
 use Rattle.queue_words.proofs.send.Reads as send-reads
 

@@ -15,7 +15,7 @@ use Rattle.slot.proofs.waiting.Reads as waiting-reads
 use Rattle.step.proofs.answered.Reads as answered-reads
 use Rattle.step.proofs.went_on.Reads as went-on-reads
 use Rattle.submit.proofs.is_submittable.Reads as is-submittable-reads
-use Rattle.slot_words.proofs.load.Reads as load-reads
+use Rattle.slot_load.proofs.load.Reads as load-reads
 use Rattle.queue_words.proofs.queue_full.Reads as queue-full-reads
 use Rattle.hold_words.proofs.take.Reads as take-reads
 

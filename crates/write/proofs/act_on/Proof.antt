@@ -5,8 +5,8 @@ use mathlib.Core.Path.{refl}
 use Rattle.write.proofs.Carried.{acted}
 use Rattle.write.proofs.act_on.Statement.{statement}
 use Rattle.write.proofs.act_on.Tie as tie
-use Rattle.slot_words.proofs.put.Reads as put-reads
-use Rattle.slot_words.proofs.vacate.Reads as vacate-reads
+use Rattle.slot_store.proofs.put.Reads as put-reads
+use Rattle.slot_store.proofs.vacate.Reads as vacate-reads
 
 enum-told : tie.Need-enum-told
 enum-told c = search needs

@@ -15,7 +15,7 @@ use Rattle.plan.proofs.handle_parsed.Reads as handle-parsed-reads
 use Rattle.write.proofs.carry_out.Reads as carry-out-reads
 use Rattle.write.proofs.is_byte.Reads as is-byte-reads
 use Rattle.handle_words.proofs.held_at.Reads as held-at-reads
-use Rattle.slot_words.proofs.load.Reads as load-reads
+use Rattle.slot_load.proofs.load.Reads as load-reads
 use Rattle.layout.proofs.sized.Reads as sized-reads
 
 sized-requires : tie.Need-sized-requires
