@@ -15,7 +15,6 @@ use Rattle.step.specs.Does.{Does}
 use Rattle.dispatch.specs.Dispatch.{tellsMore, Dispatched}
 
 infixr 20 _&_
-
 -- rows one after the other
 pub _&_ : {P Q : Type 0} → P → Q → P × Q
 _&_ p q = (p, q)
@@ -64,9 +63,8 @@ pub over :
     (n : ℕ)
     → (n ≡ 1 → ⊥) → (n ≡ 2 → ⊥) → (n ≡ 3 → ⊥) → (n ≡ 4 → ⊥) → (n ≡ 5 → ⊥) → (n ≡ 6 → ⊥) → (n ≡ 7 → ⊥) → (n ≡ 8 → ⊥) → (n ≡ 9 → ⊥) → (n ≡ 10 → ⊥) → (n ≡ 11 → ⊥) → (n ≡ 12 → ⊥) → (n ≡ 13 → ⊥) → (n ≡ 14 → ⊥) → (n ≡ 15 → ⊥) → (n ≡ 16 → ⊥) → (n ≡ 17 → ⊥) → (n ≡ 18 → ⊥)
     → (eqb n 0 ≡ false → 19 ≤ n) × (tellsMore n ≡ false)
-over n a b c d e f g h i j k l m o₁ o₂ o₃ p q =
-    (
-      λ y. let z : 1 ≤ n = past n 0 (omega arith) (λ x. true≢false (sym (eq-eqb n 0 x) ∙ y)) in
+over n a b c d e f g h i j k l m o₁ o₂ o₃ p q = (
+  λ y. let z : 1 ≤ n = past n 0 (omega arith) (λ x. true≢false (sym (eq-eqb n 0 x) ∙ y)) in
       past n 18 (past n 17 (past n 16 (past n 15 (past n 14 (past n 13 (past n 12 (past n 11 (past n 10 (past n 9 (past n 8 (past n 7 (past n 6 (past n 5 (past n 4 (past n 3 (past n 2 (past n 1 z a) b) c) d) e) f) g) h) i) j) k) l) m) o₁) o₂) o₃) p) q,
-      no-more n o₁ o₂ o₃
-    )
+  no-more n o₁ o₂ o₃,
+)

@@ -86,20 +86,19 @@ fn raise_in(s: &mut [u64], outer: bool, d: Description)
     counts::higher(&mut s[at..at + 64], d);
 }
 
-fn lower_all_in(s: &mut [u64], outer: bool, l: List)
+// The counts of outside holds, for a list.
+fn take_in(s: &mut [u64], l: List)
     requires { ⌜ length (now s) ≡ 2060 ⌝ }
-    ensures { λ r. ⌜ now (s .exit) ≡ stored (now (s .entry)) (countsStore outer (lessAll (countsOf outer (plainOf (now (s .entry)))) (numbers l))) ⌝ }
+    ensures { λ r. ⌜ now (s .exit) ≡ stored (now (s .entry)) (outsideStore (lessAll (holdsOf (plainOf (now (s .entry))) .outside) (numbers l))) ⌝ }
 {
-    let at = counts_at(outer);
-    counts::lower_all(&mut s[at..at + 64], l);
+    counts::lower_all(&mut s[layout::OUTSIDE..layout::SCHEME], l);
 }
 
-fn raise_all_in(s: &mut [u64], outer: bool, l: List)
+fn give_back_in(s: &mut [u64], l: List)
     requires { ⌜ length (now s) ≡ 2060 ⌝ }
-    ensures { λ r. ⌜ now (s .exit) ≡ stored (now (s .entry)) (countsStore outer (moreAll (countsOf outer (plainOf (now (s .entry)))) (numbers l))) ⌝ }
+    ensures { λ r. ⌜ now (s .exit) ≡ stored (now (s .entry)) (outsideStore (moreAll (holdsOf (plainOf (now (s .entry))) .outside) (numbers l))) ⌝ }
 {
-    let at = counts_at(outer);
-    counts::raise_all(&mut s[at..at + 64], l);
+    counts::raise_all(&mut s[layout::OUTSIDE..layout::SCHEME], l);
 }
 
 // A list's holds leave the outside ones.
@@ -107,7 +106,7 @@ pub fn take(s: &mut [u64; 2060], l: List)
     ensures { λ r. ⌜ now (s .exit) ≡ stored (now (s .entry)) (outsideStore (lessAll (holdsOf (plainOf (now (s .entry))) .outside) (numbers l))) ⌝ }
 {
     layout::sized(s);
-    lower_all_in(s, true, l);
+    take_in(s, l);
 }
 
 // A list's holds become outside holds.
@@ -115,17 +114,10 @@ pub fn to_outside(s: &mut [u64; 2060], l: List)
     ensures { λ r. ⌜ now (s .exit) ≡ stored (now (s .entry)) (outsideStore (moreAll (holdsOf (plainOf (now (s .entry))) .outside) (numbers l))) ⌝ }
 {
     layout::sized(s);
-    raise_all_in(s, true, l);
+    give_back_in(s, l);
 }
 
-// A list's holds dropped, with no close.
-pub fn discard(s: &mut [u64; 2060], l: List)
-    ensures { λ r. ⌜ now (s .exit) ≡ stored (now (s .entry)) (allStore (lessAll (holdsOf (plainOf (now (s .entry))) .holds) (numbers l))) ⌝ }
-{
-    layout::sized(s);
-    lower_all_in(s, false, l);
-}
-
+// Where holds inside the layer are dropped.
 fn drop_in(s: &mut [u64], l: List, follows: bool, fx: &mut [u64], at: usize) -> usize
     requires { ⌜ length (now s) ≡ 2060 ⌝ }
     ensures { λ r. ⌜ r ≡ length (only follows (lasts (holdsOf (plainOf (now (s .entry))) .holds) (numbers l))) ⌝ }
@@ -145,6 +137,14 @@ pub fn drop_all(s: &mut [u64; 2060], l: List, follows: bool, fx: &mut [u64], at:
 {
     layout::sized(s);
     drop_in(s, l, follows, fx, at)
+}
+
+// A list's holds dropped, with no close.
+pub fn discard(s: &mut [u64; 2060], l: List)
+    ensures { λ r. ⌜ now (s .exit) ≡ stored (now (s .entry)) (allStore (lessAll (holdsOf (plainOf (now (s .entry))) .holds) (numbers l))) ⌝ }
+{
+    let mut none = [0; 1];
+    drop_all(s, l, false, &mut none, 0);
 }
 
 // One outside hold less.

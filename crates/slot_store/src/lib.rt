@@ -72,14 +72,7 @@ pub fn put(s: &mut [u64; 2060], n: SlotNo, v: Slot)
         let low = low_word(v.fds);
         let high = high_word(v.fds);
         word_put::put4(s, at, marks, v.caller as u64, 0, 0);
-        word_put::put4(
-            s,
-            at + 4,
-            v.span.base,
-            v.span.count,
-            reply,
-            v.reply.word,
-        );
+        word_put::put4(s, at + 4, v.span.base, v.span.count, reply, v.reply.word);
         word_put::put4(s, at + 8, 0, low, high, v.fds.len as u64);
     }
 }

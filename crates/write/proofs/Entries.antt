@@ -22,6 +22,7 @@ use Rattle.layout.proofs.Worlds.{plain-fits, stored-all-plain}
 use Rattle.packed.specs.Stores.{actStores, decidedStores, entryStores}
 use Rattle.packed.proofs.Changes.{after-is}
 use Rattle.packed.proofs.Fit.{entry-fits}
+use Rattle.carry_out.specs.Held.{heldStores}
 use Rattle.plan.specs.declared.Plan.{Plan}
 use Rattle.plan.specs.Plans.{handleIn, effectsBy, decisionBy, Plans}
 use Rattle.step.proofs.Tests.{slot-of-in, put-of, vacate-of}
@@ -31,6 +32,11 @@ act-of : (ws : List ℕ) (a : Act) (t : ℕ) (v : Slot) → storedAll ws (actSto
 act-of ws act.Leave t v = refl
 act-of ws act.Store t v = put-of ws t v
 act-of ws act.Vacate t v = vacate-of ws t
+
+-- the plan carried out, then its slot
+pub then-acted :
+    (ws ys xs : List ℕ) (d : Decision) (n : ℕ) → ys ≡ storedAll ws (heldStores d) → xs ≡ storedAll ys (actStores (d .act) n (d .slot)) → xs ≡ storedAll ws (decidedStores n d)
+then-acted ws ys xs d n e q = q ∙ ap (λ (l : List ℕ). storedAll l (actStores (d .act) n (d .slot))) e
 
 pub entered :
     (ws xs fx gx : List ℕ) (at : ℕ) (e : Cqe) (size : length ws ≡ 2060) → e .«extra_raw» .0 < 256

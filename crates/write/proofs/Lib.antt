@@ -1,4 +1,3 @@
-pub mod Carried
 pub mod Entries
 pub mod Small
 pub mod Looping

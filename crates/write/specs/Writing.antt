@@ -15,7 +15,7 @@ use Rattle.events.specs.Entry.{Decision, decisionOf}
 use Rattle.events.specs.Complete.{after}
 use Rattle.events.specs.Event.{on, write, step}
 use Rattle.layout.specs.Layout.{plainOf}
-use Rattle.layout.specs.Store.{Store, outside, all, handles, storedAll}
+use Rattle.layout.specs.Store.{storedAll}
 use Rattle.packed.specs.Stores.{entryStores}
 use Rattle.packed.specs.Step.{wordsAfter}
 
@@ -28,10 +28,6 @@ isRefusal k = any (eqb k) refusals
 -- the decision on an entry
 abbrev pub decisionAt : World → Cqe → Decision
 decisionAt w e = decisionOf (parsedOf e) (slotIn w (e .tag)) (holdsOf w) (handlesOf w)
-
--- what a decision stores beside its slot
-abbrev pub heldStores : Decision → List Store
-heldStores d = outside (d .holds .outside) ∷ all (d .holds .holds) ∷ handles (d .handles .at) ∷ []
 
 -- from the words ws to xs and the lent words fx to gx, effects from word `at` on: 0 or the refusal k, and j words of effects
 pub record Enters (ws xs fx gx : List ℕ) (at : ℕ) (e : Cqe) (k j : ℕ) : Type 0 where

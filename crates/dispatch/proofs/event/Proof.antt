@@ -120,13 +120,13 @@ returns-13 : tie.Need-returns-13
 returns-13 c = λ bs lent. as-kind (c .before .before .before .before .before .before .args .r) (c .before .before .before .before .before .before .args .first .now) (c .before .before .before .before .before .before .args .second .now) bs lent _ _ _ _ _ 13 (c .before .before .match .keys13) (c .detach .ensures)
 
 returns-14 : tie.Need-returns-14
-returns-14 c = λ bs lent. as-kind (c .before .before .before .before .before .args .r) (c .before .before .before .before .before .args .first .now) (c .before .before .before .before .before .args .second .now) bs lent _ _ _ _ _ 14 (c .before .match .keys14) (ap said (c .answered .ensures .0) , c .answered .ensures .1 , refl)
+returns-14 c = λ bs lent. as-kind (c .before .before .before .before .before .args .r) (c .before .before .before .before .before .args .first .now) (c .before .before .before .before .before .args .second .now) bs lent _ _ _ _ _ 14 (c .before .match .keys14) (ap said (c .answered .ensures .0), c .answered .ensures .1, refl)
 
 returns-15 : tie.Need-returns-15
-returns-15 c = λ bs lent. as-kind (c .before .before .before .before .before .args .r) (c .before .before .before .before .before .args .first .now) (c .before .before .before .before .before .args .second .now) bs lent _ _ _ _ _ 15 (c .before .match .keys15) (ap said (c .answered2 .ensures .0) , c .answered2 .ensures .1 , refl)
+returns-15 c = λ bs lent. as-kind (c .before .before .before .before .before .args .r) (c .before .before .before .before .before .args .first .now) (c .before .before .before .before .before .args .second .now) bs lent _ _ _ _ _ 15 (c .before .match .keys15) (ap said (c .answered2 .ensures .0), c .answered2 .ensures .1, refl)
 
 returns-16 : tie.Need-returns-16
-returns-16 c = λ bs lent. as-kind (c .before .before .before .before .before .args .r) (c .before .before .before .before .before .args .first .now) (c .before .before .before .before .before .args .second .now) bs lent _ _ _ _ _ 16 (c .before .match .keys16) (ap said (c .answered3 .ensures .0) , c .answered3 .ensures .1 , refl)
+returns-16 c = λ bs lent. as-kind (c .before .before .before .before .before .args .r) (c .before .before .before .before .before .args .first .now) (c .before .before .before .before .before .args .second .now) bs lent _ _ _ _ _ 16 (c .before .match .keys16) (ap said (c .answered3 .ensures .0), c .answered3 .ensures .1, refl)
 
 returns-17 : tie.Need-returns-17
 returns-17 c = λ bs lent. as-kind (c .before .before .before .before .before .before .args .r) (c .before .before .before .before .before .before .args .first .now) (c .before .before .before .before .before .before .args .second .now) bs lent _ _ _ _ _ 17 (c .before .before .match .keys17) (c .call-fdwrite .ensures)

@@ -1,18 +1,17 @@
 -- `write::entry` meets its contract. Assumes nothing.
 use borrow.Author.Needs.{needs}
-use Rattle.write.proofs.Entries.{entered}
+use Rattle.write.proofs.Entries.{entered, then-acted}
 use Rattle.events.specs.World.{holdsOf, handlesOf}
 use Rattle.layout.specs.Layout.{plainOf}
 use Rattle.plan.specs.Plans.{decisionBy}
-use Rattle.write.proofs.Carried.{then-acted}
-use Rattle.write.proofs.act_on.Reads as act-on-reads
+use Rattle.carry_out.proofs.act_on.Reads as act-on-reads
 use Rattle.write.proofs.entry.Statement.{statement}
 use Rattle.write.proofs.entry.Tie as tie
 use Rattle.ids.proofs.slot_of.Reads as slot-of-reads
 use Rattle.parse_cqe.proofs.parse_cqe.Reads as parse-cqe-reads
 use Rattle.plan.proofs.handle_in.Reads as handle-in-reads
 use Rattle.plan.proofs.handle_parsed.Reads as handle-parsed-reads
-use Rattle.write.proofs.carry_out.Reads as carry-out-reads
+use Rattle.carry_out.proofs.carry_out.Reads as carry-out-reads
 use Rattle.write.proofs.is_byte.Reads as is-byte-reads
 use Rattle.handle_words.proofs.held_at.Reads as held-at-reads
 use Rattle.slot_load.proofs.load.Reads as load-reads
@@ -46,7 +45,7 @@ handle-parsed-requires : tie.Need-handle-parsed-requires
 handle-parsed-requires c κs = search needs
 
 carry-out-requires : tie.Need-carry-out-requires
-carry-out-requires c κs = c .before .before .before .before .before .before .before .before .before .before .before .before .before .before .before .before .pre
+carry-out-requires c κs = search needs
 
 act-on-requires : tie.Need-act-on-requires
 act-on-requires c κs = search needs

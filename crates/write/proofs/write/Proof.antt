@@ -38,7 +38,7 @@ cqe-requires : tie.Need-cqe-requires Inv-loop μ-loop
 cqe-requires c κs = search needs
 
 entry-requires : tie.Need-entry-requires Inv-loop μ-loop
-entry-requires c κs = let l = c .before .before .before .before .before .loop in omega (arith, l .inv .0, l .inv .1, l .inv .4)
+entry-requires c κs = search needs
 
 add-j : tie.Need-add-j Inv-loop μ-loop
 add-j c = let l = c .before .before .before .before .before .before .before .before .before .loop in omega (arith, l .inv .0, l .inv .1, l .inv .4, c .before .before .before .entry .ensures .1)

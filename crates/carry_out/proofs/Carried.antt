@@ -1,13 +1,13 @@
 -- A plan carried out: its effects one run after the other, and its stores. Assumes nothing.
-use Prim.Native.Nat.{ℕ, _+_, _*_, _≤_}
+use Prim.Native.Nat.{ℕ, _+_, _*_, _≤_, min}
 use mathlib.Core.Path.{_≡_, refl, sym, ap, ap₂, _∙_}
 use mathlib.Core.Bool.{Bool, true, false, cond}
 use mathlib.Core.List.{List, [], _∷_, _++_, append-assoc}
 use native.Mathlib.Omega.{arith}
-use lib.Dec.{eqb}
+use lib.Dec.{eqb, leb}
 use lib.ListN.{set, take, drop, length, length-append, length-take}
 use lib.Seq.{sets, length-sets, sets-eq, take-append-seam, drop-append-seam}
-use borrow.Author.Tests.{eq-eqb, ne-eqb}
+use borrow.Author.Tests.{leb-true, leb-false}
 use Rattle.closes.specs.declared.Reason.the-variants.{Replied}
 use Rattle.closes.specs.Closes.{closing, only, closes}
 use Rattle.closes.proofs.Laws.{closes-length}
@@ -19,7 +19,7 @@ use Rattle.fd_list.specs.Lists.{numbers}
 use Rattle.slot.specs.declared.Act.{Act}
 use Rattle.slot.specs.declared.PageSpan.{PageSpan}
 use Rattle.slot.specs.declared.Slot.{Slot}
-use Rattle.word_put.proofs.Stores.{sets-then}
+use Rattle.word_put.proofs.Stores.{sets-then, sets-past}
 use Rattle.events.specs.World.{World, holdsOf, handlesOf}
 use Rattle.events.specs.Entry.{Decision, closesOf, unmapOf}
 use Rattle.layout.specs.Layout.{plainOf}
@@ -30,32 +30,19 @@ use Rattle.packed.specs.Stores.{actStores, decidedStores}
 use Rattle.plan.specs.declared.Plan.{Plan}
 use Rattle.plan.specs.Plans.{effectsBy, handlesBy, decisionBy}
 use Rattle.step.proofs.Frames.{handles-all}
-use Rattle.write.specs.Writing.{heldStores}
+use Rattle.carry_out.specs.Held.{heldStores}
 
-pub effect-none : (e : Effect) (fx : List ℕ) (at : ℕ) → e .kind ≡ 0 → (0 ≡ length (effectWords e)) × ((0 ≤ 3) × (fx ≡ sets fx at (effectWords e)))
-effect-none e fx at q = rw (eq-eqb (e .kind) 0 q) (refl, (omega arith, refl))
-
-pub effect-some :
-    (e : Effect) (fx gx : List ℕ) (at : ℕ) → (e .kind ≡ 0 → ⊥) → gx ≡ sets fx at (e .kind ∷ e .a ∷ e .b ∷ [])
-    → (3 ≡ length (effectWords e)) × ((3 ≤ 3) × (gx ≡ sets fx at (effectWords e)))
-effect-some e fx gx at q r = rw (ne-eqb (e .kind) 0 q) (refl, (omega arith, r))
-
-pub unmap-none : (s : PageSpan) (fx : List ℕ) (at : ℕ) → s .count ≡ 0 → (0 ≡ length (unmapOf (eqb (s .count) 0) s)) × ((0 ≤ 3) × (fx ≡ sets fx at (unmapOf (eqb (s .count) 0) s)))
-unmap-none s fx at q = rw (eq-eqb (s .count) 0 q) (refl, (omega arith, refl))
-
-pub unmap-some :
-    (s : PageSpan) (fx gx : List ℕ) (at : ℕ) → (s .count ≡ 0 → ⊥) → gx ≡ sets fx at (2 ∷ s .base ∷ s .count ∷ [])
-    → (3 ≡ length (unmapOf (eqb (s .count) 0) s)) × ((3 ≤ 3) × (gx ≡ sets fx at (unmapOf (eqb (s .count) 0) s)))
-unmap-some s fx gx at q e = rw (ne-eqb (s .count) 0 q) (refl, (omega arith, e))
+-- effects stored from the end on are none
+pub in-place : (fx xs : List ℕ) (at m : ℕ) → m ≡ min at (length fx) → sets fx m xs ≡ sets fx at xs
+in-place fx xs at m e = go (leb at (length fx)) refl
+  where
+    go : (b : Bool) → leb at (length fx) ≡ b → sets fx m xs ≡ sets fx at xs
+    go true q = ap (λ (k : ℕ). sets fx k xs) (let z : m ≡ at = omega (arith, e, leb-true at (length fx) q) in z)
+    go false q = let h = leb-false at (length fx) q in sym (sets-past xs fx m (omega (arith, e, h))) ∙ sets-past xs fx at (omega (arith, h))
 
 -- the slot
 pub acted : (ws xs : List ℕ) (a b : Act) (n : ℕ) (v : Slot) → a ≡ b → xs ≡ storedAll ws (actStores b n v) → xs ≡ storedAll ws (actStores a n v)
 acted ws xs a b n v e q = q ∙ ap (λ (x : Act). storedAll ws (actStores x n v)) (sym e)
-
--- the plan carried out, then its slot
-pub then-acted :
-    (ws ys xs : List ℕ) (d : Decision) (n : ℕ) → ys ≡ storedAll ws (heldStores d) → xs ≡ storedAll ys (actStores (d .act) n (d .slot)) → xs ≡ storedAll ws (decidedStores n d)
-then-acted ws ys xs d n e q = q ∙ ap (λ (l : List ℕ). storedAll l (actStores (d .act) n (d .slot))) e
 
 -- the handle
 module _ (ws : List ℕ) (size : length ws ≡ 2060) (p : Plan) where

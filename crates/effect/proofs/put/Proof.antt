@@ -1,8 +1,8 @@
--- `write::put_effect` meets its contract. Assumes nothing.
+-- `effect::put` meets its contract. Assumes nothing.
 use borrow.Author.Needs.{needs}
-use Rattle.write.proofs.Carried.{effect-none, effect-some}
-use Rattle.write.proofs.put_effect.Statement.{statement}
-use Rattle.write.proofs.put_effect.Tie as tie
+use Rattle.effect.proofs.Stored.{effect-none, effect-some}
+use Rattle.effect.proofs.put.Statement.{statement}
+use Rattle.effect.proofs.put.Tie as tie
 use Rattle.word_put.proofs.put3.Reads as put3-reads
 
 returns : tie.Need-returns
@@ -17,5 +17,5 @@ same-length c = search needs
 returns-2 : tie.Need-returns-2
 returns-2 c = let a = c .before .before .before .before .before .before .args in effect-some (a .e) (a .fx .now) _ (a .at) (c .before .before .before .before .if1 .left) (c .before .before .put3 .ensures)
 
-pub put-effect-spec : {M : Type 1} → statement M
-put-effect-spec = tie.close (tie.spec returns put3-requires same-length returns-2)
+pub put-spec : {M : Type 1} → statement M
+put-spec = tie.close (tie.spec returns put3-requires same-length returns-2)

@@ -1,8 +1,8 @@
--- `write::move_handle` meets its contract. Assumes nothing.
+-- `carry_out::move_handle` meets its contract. Assumes nothing.
 use borrow.Author.Needs.{needs}
-use Rattle.write.proofs.Carried.{handle-moved, handle-stays}
-use Rattle.write.proofs.move_handle.Statement.{statement}
-use Rattle.write.proofs.move_handle.Tie as tie
+use Rattle.carry_out.proofs.Carried.{handle-moved, handle-stays}
+use Rattle.carry_out.proofs.move_handle.Statement.{statement}
+use Rattle.carry_out.proofs.move_handle.Tie as tie
 use Rattle.handle_words.proofs.set_handle.Reads as set-handle-reads
 use Rattle.layout.proofs.sized.Reads as sized-reads
 

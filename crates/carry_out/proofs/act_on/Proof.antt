@@ -1,10 +1,10 @@
--- `write::act_on` meets its contract. Assumes nothing.
+-- `carry_out::act_on` meets its contract. Assumes nothing.
 use borrow.Author.Needs.{needs}
 use Rattle.slot.specs.declared.Act.the-variants as act
 use mathlib.Core.Path.{refl}
-use Rattle.write.proofs.Carried.{acted}
-use Rattle.write.proofs.act_on.Statement.{statement}
-use Rattle.write.proofs.act_on.Tie as tie
+use Rattle.carry_out.proofs.Carried.{acted}
+use Rattle.carry_out.proofs.act_on.Statement.{statement}
+use Rattle.carry_out.proofs.act_on.Tie as tie
 use Rattle.slot_store.proofs.put.Reads as put-reads
 use Rattle.slot_store.proofs.vacate.Reads as vacate-reads
 
