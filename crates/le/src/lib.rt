@@ -12,13 +12,13 @@ pub fn byte(s: &[u8], k: usize) -> u8
     0
 }
 
-fn weigh4(a: u8, b: u8, c: u8, d: u8) -> u32
+pub fn weigh4(a: u8, b: u8, c: u8, d: u8) -> u32
     ensures { λ r. ⌜ r ≡ a + b * 0x100 + c * 0x1_0000 + d * 0x100_0000 ⌝ }
 {
     (a as u32) + (b as u32) * 0x100 + (c as u32) * 0x1_0000 + (d as u32) * 0x100_0000
 }
 
-fn weigh2(low: u32, high: u32) -> u64
+pub fn weigh2(low: u32, high: u32) -> u64
     ensures { λ r. ⌜ r ≡ low + high * 0x1_0000_0000 ⌝ }
 {
     (low as u64) + (high as u64) * 0x1_0000_0000

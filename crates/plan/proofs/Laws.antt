@@ -1,5 +1,5 @@
 -- Plans by their cases. Assumes nothing.
-use Prim.Native.Nat.{ℕ, _+_, _-_}
+use Prim.Native.Nat.{ℕ, suc, _+_, _-_}
 use mathlib.Core.Path.{_≡_, refl, sym, ap, ap₂, subst, _∙_}
 use mathlib.Core.Bool.{Bool, true, false, not, cond, _||_, _&&_}
 use mathlib.Core.List.{List, [], _∷_, _++_, append-nil, append-assoc}
@@ -7,7 +7,7 @@ use native.Mathlib.Omega.{arith}
 use native.Mathlib.Numerals.{add-one}
 use lib.Dec.{leb, eqb}
 use lib.ListN.{getD, drop, length}
-use borrow.Author.Tests.{eq-eqb, ne-eqb}
+use borrow.Author.Tests.{eq-eqb, ne-eqb, eqb-false}
 use Rattle.closes.specs.declared.Reason.the-variants.{Replied, Ended, Refused, Unusable}
 use Rattle.closes.specs.Closes.{closing, only, closes}
 use Rattle.counts.specs.Counts.{lasts}
@@ -21,9 +21,11 @@ use Rattle.handles.specs.Handles.{heldAt, isFree, into, emptied, obtainBy, obta
 use Rattle.holds.specs.declared.Holds.{Holds}
 use Rattle.ids.specs.declared.Description.{Description}
 use Rattle.ids.specs.declared.Handle.{Handle}
+use Rattle.ids.specs.declared.Tag.{Tag}
 use Rattle.parse_cqe.specs.declared.ParsedCqe.{ParsedCqe}
 use Rattle.parse_cqe.specs.declared.ParsedCqe.the-variants as parsed
 use Rattle.reply_parts.specs.declared.Offer.{Offer}
+use Rattle.reply_parts.specs.declared.Offer.the-variants as offer
 use Rattle.reply_parts.specs.declared.Parts.{Parts}
 use Rattle.reply_parts.specs.Parts.{offered, partsOf}
 use Rattle.slot.specs.declared.Act.{Act}
@@ -33,9 +35,12 @@ use Rattle.slot.specs.declared.Phase.{Phase}
 use Rattle.slot.specs.declared.Phase.the-variants.{Vacant, Placeholder, Waiting, Responded, Fmap}
 use Rattle.slot.specs.declared.Slot.{Slot}
 use Rattle.slot.specs.Slots.{phaseOf, noSpan, vacantSlot, respondedOf, withFdsOf}
+use Rattle.events.specs.Outcome.{eventEffect}
 use Rattle.events.specs.Entry.{Decision, decided, dropped, closesOf, unmapOf, refusedOf, Offer as EntryOffer, one, namedOf, storedOf, lostOf, servedBy, respondBy, respondOf, inHandle, takenOut, byDescriptor, descriptorOf, isVacant, isWaiting, obtainedAs, obtained, obtainEntryOf, decisionOf}
 use Rattle.plan.specs.declared.Plan.{Plan}
-use Rattle.plan.specs.Plans.{handleIn, effectsBy, decisionBy, Plans}
+use Rattle.plan.specs.declared.Wish.{Wish}
+use Rattle.plan.specs.declared.Wish.the-variants as wish
+use Rattle.plan.specs.Plans.{handleIn, wishOf, Holding, repliedOf, effectsBy, decisionBy, Plans}
 
 -- one that moves no handle
 abbrev pub quiet : ℕ → Act → Slot → Effect → PageSpan → Fds → Fds → Bool → Plan
@@ -113,44 +118,51 @@ module _ (turn : ℕ → Decision) (v : Slot) (t : ℕ) (o : EntryOffer) (h : Ho
   respond-handles Responded = refl
   respond-handles Fmap = refl
 
-module _ (v : Slot) (t : ℕ) (k : Handle) (x : ℕ) where
+module _ (v : Slot) (t : ℕ) (k : Handle) (m x : ℕ) (is : x ≡ suc m) where
   abbrev From : Plan → Type 0
-  From r = Plans r (k .0) x (λ h n. descriptorOf v t (k .0) h n)
+  From r = Plans r (k .0) x (λ h n. byDescriptor v t (k .0) h n)
 
-  pub handle-empty : (r : Plan) → x ≡ 0 → ((j y : ℕ) → Plans r j y (λ h n. refusedOf v h n 22)) → From r
-  handle-empty r z f h n e =
-      f (k .0) x h n e
-      ∙ sym (ap (λ (b : Bool). cond b (refusedOf v h n 22) (byDescriptor v t (k .0) h n)) (eq-eqb (heldAt n (k .0)) 0 (e ∙ z)))
-
-  module _ (z : x ≡ 0 → ⊥) (r : Plan) (f : (j y : ℕ) → Plans r j y (λ h n. respondOf v t (one (x - 1)) h n)) where
-    full : (h : Holds) (n : Handles) → heldAt n (k .0) ≡ x → byDescriptor v t (k .0) h n ≡ descriptorOf v t (k .0) h n
-    full h n e = sym (ap (λ (b : Bool). cond b (refusedOf v h n 22) (byDescriptor v t (k .0) h n)) (ne-eqb (heldAt n (k .0)) 0 (λ q. z (sym e ∙ q))))
+  module _ (r : Plan) (f : (j y : ℕ) → Plans r j y (λ h n. respondOf v t (one m) h n)) where
+    in-it : (n : Handles) → heldAt n (k .0) ≡ x → m ≡ inHandle n (k .0)
+    in-it n e = omega (arith, e, is)
 
     -- what respond comes to, the handle emptied
     answered : (h : Holds) (n : Handles) → heldAt n (k .0) ≡ x → decisionBy r h (emptied n (k .0)) ≡ respondOf v t (one (inHandle n (k .0))) h (emptied n (k .0))
-    answered h n e = f 0 (heldAt (emptied n (k .0)) 0) h (emptied n (k .0)) refl ∙ ap (λ (y : ℕ). respondOf v t (one (y - 1)) h (emptied n (k .0))) (sym e)
+    answered h n e = f 0 (heldAt (emptied n (k .0)) 0) h (emptied n (k .0)) refl ∙ ap (λ (y : ℕ). respondOf v t (one y) h (emptied n (k .0))) (in-it n e)
 
     pub given-over :
-        (m : Plan) → r .number ≡ 0
-        → m ≡ record { number = r .number; act = r .act; slot = r .slot; first = r .first; span = r .span; gone = r .gone; own = r .own; closing = r .closing; moves = true; handle = k; held = 0 } → From m
-    given-over m q em h n e =
+        (o : Plan) → r .number ≡ 0
+        → o ≡ record { number = r .number; act = r .act; slot = r .slot; first = r .first; span = r .span; gone = r .gone; own = r .own; closing = r .closing; moves = true; handle = k; held = 0 } → From o
+    given-over o q eo h n e =
         let E = answered h n e in
-        let D : Decision = respondOf v t (one (inHandle n (k .0))) h (emptied n (k .0)) in
-        ap (λ (y : Plan). decisionBy y h n) em
+        ap (λ (y : Plan). decisionBy y h n) eo
         ∙ (λ i. decided (E i .number) (E i .act) (E i .slot) (E i .holds) (sym (respond-handles (takenOut v (k .0) h n) v t (one (inHandle n (k .0))) h (emptied n (k .0)) (phaseOf v)) i) (E i .effects))
         ∙ accepted (takenOut v (k .0) h n) v t (one (inHandle n (k .0))) h (emptied n (k .0)) (phaseOf v) (sym (ap (λ (d : Decision). d .number) E) ∙ q)
-        ∙ full h n e
 
     pub turned-out :
-        (e : Effect) (l own : Fds) (g : Bool) → (r .number ≡ 0 → ⊥) → effectWords e ≡ [] → l ≡ listOf [] → own ≡ namedOf (x - 1) → g ≡ closing Refused
+        (e : Effect) (l own : Fds) (g : Bool) → (r .number ≡ 0 → ⊥) → effectWords e ≡ [] → l ≡ listOf [] → own ≡ namedOf m → g ≡ closing Refused
         → From (record { number = r .number; act = Leave; slot = v; first = e; span = noSpan; gone = l; own = own; closing = g; moves = true; handle = k; held = 0 })
     turned-out e l own g q ee el eo eg h n eh =
         let E = answered h n eh in
         let N : r .number ≡ respondOf v t (one (inHandle n (k .0))) h (emptied n (k .0)) .number = ap (λ (d : Decision). d .number) E in
-        (λ i. decisionBy (record { number = N i; act = Leave; slot = v; first = e; span = noSpan; gone = el i; own = (eo ∙ ap (λ (y : ℕ). namedOf (y - 1)) (sym eh)) i; closing = eg i; moves = true; handle = k; held = 0 }) h n)
+        (λ i. decisionBy (record { number = N i; act = Leave; slot = v; first = e; span = noSpan; gone = el i; own = (eo ∙ ap namedOf (in-it n eh)) i; closing = eg i; moves = true; handle = k; held = 0 }) h n)
         ∙ ap (λ (y : List ℕ). decided (respondOf v t (one (inHandle n (k .0))) h (emptied n (k .0)) .number) Leave v (dropped h (numbers (namedOf (inHandle n (k .0))))) (emptied n (k .0)) (y ++ closesOf Refused h (numbers (namedOf (inHandle n (k .0)))))) ee
         ∙ refused-by (takenOut v (k .0) h n) v t (one (inHandle n (k .0))) h (emptied n (k .0)) (phaseOf v) (λ y. q (N ∙ y))
-        ∙ full h n eh
+
+-- a reply, by what it offers
+module _ (v : Slot) (t : ℕ) (k x : ℕ) where
+  abbrev Replies : Offer → Plan → Type 0
+  Replies o r = Plans r k x (λ h n. repliedOf o v t k h n)
+
+  pub offered-is : (o q : Offer) (r : Plan) → o ≡ q → Replies q r → Replies o r
+  offered-is o q r e f = subst (λ (y : Offer). Replies y r) (sym e) f
+
+  -- what it responds, with the same offer
+  pub responds : (o q : Offer) (r : Plan) → o ≡ q → ((j y : ℕ) → Plans r j y (λ h n. respondOf v t (offered o) h n)) → (j y : ℕ) → Plans r j y (λ h n. respondOf v t (offered q) h n)
+  responds o q r e f = subst (λ (u : Offer). (j y : ℕ) → Plans r j y (λ h n. respondOf v t (offered u) h n)) e f
+
+  pub held-by : (o q : Offer) → o ≡ q → Holding o x → Holding q x
+  held-by o q e h = subst (λ (y : Offer). Holding y x) e h
 
 -- an obtain entry
 head-of : (ns : List ℕ) → (length ns ≡ 0 → ⊥) → ns ≡ getD ns 0 0 ∷ drop 1 ns
@@ -212,13 +224,78 @@ module _ (v : Slot) (k : Handle) (x : ℕ) where
           ∙ ap (λ (y : List ℕ). decided 0 Store (withFdsOf v (restOf (v .fds))) (dropped h (d .0 ∷ [])) n (y ++ closes (only (closing Unusable) (lasts (h .holds) (d .0 ∷ []))))) et
           ∙ obtained-by false h n (free-is false w n z)
 
--- an entry by what it asks for
-module _ (v : Slot) (x : ℕ) where
-  abbrev Asks : ParsedCqe → Plan → Type 0
-  Asks p r = Plans r (handleIn p) x (λ h n. decisionOf p v h n)
+-- what an entry wishes, by its case
+pub wish-is : (p q : ParsedCqe) (x : ℕ) → p ≡ q → wishOf q x ≡ wishOf p x
+wish-is p q x e = ap (λ (y : ParsedCqe). wishOf y x) (sym e)
 
-  pub asked : (p q : ParsedCqe) (r : Plan) → p ≡ q → Asks q r → Asks p r
-  asked p q r e f = subst (λ (y : ParsedCqe). Asks y r) (sym e) f
+pub wish-none : (p : ParsedCqe) (t : Tag) (k : Handle) (x : ℕ) → p ≡ parsed.ResponseWithFd t k → x ≡ 0 → wish.No ≡ wishOf p x
+wish-none p t k x e z =
+    sym (ap (λ (b : Bool). cond b wish.No (wish.Reply (t .0) (offer.Fd (x - 1)))) (eq-eqb x 0 z)) ∙ wish-is p (parsed.ResponseWithFd t k) x e
 
-  pub event-is : (number flags : ℕ) (l : Fds) → l ≡ listOf [] → Asks (parsed.TriggerFevent number flags) (quiet 0 Leave v (record { kind = 4; a = number; b = flags }) noSpan l l false)
-  event-is number flags l e h n z = ap (λ (y : Fds). decisionBy (quiet 0 Leave v (record { kind = 4; a = number; b = flags }) noSpan y y false) h n) e
+pub wish-one : (p : ParsedCqe) (t : Tag) (k : Handle) (x : ℕ) → p ≡ parsed.ResponseWithFd t k → (x ≡ 0 → ⊥) → wish.Reply (t .0) (offer.Fd (x - 1)) ≡ wishOf p x
+wish-one p t k x e z =
+    sym (ap (λ (b : Bool). cond b wish.No (wish.Reply (t .0) (offer.Fd (x - 1)))) (ne-eqb x 0 z)) ∙ wish-is p (parsed.ResponseWithFd t k) x e
+
+-- an entry by what it wishes
+abbrev wishedOf : Wish → Slot → ℕ → Holds → Handles → Decision
+wishedOf (wish.Event number flags) v k h n = decided 0 Leave v h n (eventEffect number flags)
+wishedOf (wish.Reply t o) v k h n = repliedOf o v t k h n
+wishedOf wish.Obtain v k h n = obtainEntryOf v k h n
+wishedOf wish.No v k h n = refusedOf v h n 22
+
+abbrev Wishing : Wish → ℕ → Type 0
+Wishing (wish.Event number flags) x = Unit {0}
+Wishing (wish.Reply t o) x = Holding o x
+Wishing wish.Obtain x = Unit {0}
+Wishing wish.No x = Unit {0}
+
+wishes : (p : ParsedCqe) (x : ℕ) → Wishing (wishOf p x) x
+wishes (parsed.TriggerFevent number flags) x = tt
+wishes (parsed.RegularResponse t r e) x = tt
+wishes (parsed.ResponseWithFd t k) x = go (eqb x 0) refl
+  where
+    go : (b : Bool) → eqb x 0 ≡ b → Wishing (cond b wish.No (wish.Reply (t .0) (offer.Fd (x - 1)))) x
+    go true q = tt
+    go false q = let z = eqb-false x 0 q in omega (arith, z)
+wishes (parsed.ResponseWithMultipleFds t c) x = tt
+wishes (parsed.ObtainFd t flags k) x = tt
+wishes (parsed.RespondAndNotifyOnDetach t r e) x = tt
+wishes parsed.UnknownKind x = tt
+wishes parsed.UnknownEventFlags x = tt
+wishes parsed.UnknownObtainFlags x = tt
+
+wished-is : (p : ParsedCqe) (v : Slot) (x : ℕ) (h : Holds) (n : Handles) → heldAt n (handleIn p) ≡ x → wishedOf (wishOf p x) v (handleIn p) h n ≡ decisionOf p v h n
+wished-is (parsed.TriggerFevent number flags) v x h n e = refl
+wished-is (parsed.RegularResponse t r y) v x h n e = refl
+wished-is (parsed.ResponseWithFd t k) v x h n e = go (eqb x 0) refl
+  where
+    full : (b : Bool) → eqb x 0 ≡ b → cond b (refusedOf v h n 22) (byDescriptor v (t .0) (k .0) h n) ≡ descriptorOf v (t .0) (k .0) h n
+    full b q = sym (ap (λ (y : Bool). cond y (refusedOf v h n 22) (byDescriptor v (t .0) (k .0) h n)) (ap (λ (y : ℕ). eqb y 0) e ∙ q))
+
+    go : (b : Bool) → eqb x 0 ≡ b → wishedOf (cond b wish.No (wish.Reply (t .0) (offer.Fd (x - 1)))) v (k .0) h n ≡ descriptorOf v (t .0) (k .0) h n
+    go true q = full true q
+    go false q = full false q
+wished-is (parsed.ResponseWithMultipleFds t c) v x h n e = refl
+wished-is (parsed.ObtainFd t flags k) v x h n e = refl
+wished-is (parsed.RespondAndNotifyOnDetach t r y) v x h n e = refl
+wished-is parsed.UnknownKind v x h n e = refl
+wished-is parsed.UnknownEventFlags v x h n e = refl
+wished-is parsed.UnknownObtainFlags v x h n e = refl
+
+module _ (p : ParsedCqe) (v : Slot) (x : ℕ) (k : Handle) (ek : k .0 ≡ handleIn p) (w : Wish) (ew : w ≡ wishOf p x) where
+  abbrev Asks : Plan → Type 0
+  Asks r = Plans r (handleIn p) x (λ h n. decisionOf p v h n)
+
+  -- a plan of what is wished
+  pub asked : (u : Wish) → w ≡ u → (r : Plan) → (Wishing u x → Plans r (k .0) x (λ h n. wishedOf u v (k .0) h n)) → Asks r
+  asked u eu r f h n e =
+      let q : wishOf p x ≡ u = sym ew ∙ eu in
+      f (subst (λ (y : Wish). Wishing y x) q (wishes p x)) h n (ap (heldAt n) ek ∙ e)
+      ∙ ap₂ (λ (y : Wish) (j : ℕ). wishedOf y v j h n) (sym q) ek
+      ∙ wished-is p v x h n e
+
+  pub event-is :
+      (number flags : ℕ) → w ≡ wish.Event number flags → (l : Fds) → l ≡ listOf [] → Asks (quiet 0 Leave v (record { kind = 4; a = number; b = flags }) noSpan l l false)
+  event-is number flags ew l e =
+      asked (wish.Event number flags) ew (quiet 0 Leave v (record { kind = 4; a = number; b = flags }) noSpan l l false)
+      (λ o h n z. ap (λ (y : Fds). decisionBy (quiet 0 Leave v (record { kind = 4; a = number; b = flags }) noSpan y y false) h n) e)

@@ -1,7 +1,7 @@
 -- A completion entry as a plan on one slot and numbers: the decision that it comes to, whatever the counts and the handles are.
-use Prim.Native.Nat.{ℕ}
+use Prim.Native.Nat.{ℕ, suc, _-_}
 use mathlib.Core.Path.{_≡_}
-use mathlib.Core.Bool.{cond}
+use mathlib.Core.Bool.{true, false, cond}
 use mathlib.Core.List.{List, _++_}
 use lib.Dec.{eqb}
 use lib.ListN.{set}
@@ -15,8 +15,13 @@ use Rattle.handles.specs.Handles.{handlesWith, heldAt}
 use Rattle.holds.specs.declared.Holds.{Holds}
 use Rattle.parse_cqe.specs.declared.ParsedCqe.{ParsedCqe}
 use Rattle.parse_cqe.specs.declared.ParsedCqe.the-variants as parsed
-use Rattle.events.specs.Entry.{Decision, decided, dropped, closesOf, unmapOf}
+use Rattle.reply_parts.specs.declared.Offer.{Offer}
+use Rattle.reply_parts.specs.declared.Offer.the-variants as offer
+use Rattle.slot.specs.declared.Slot.{Slot}
+use Rattle.events.specs.Entry.{Decision, decided, dropped, closesOf, unmapOf, result, listed, respondOf, byDescriptor}
 use Rattle.plan.specs.declared.Plan.{Plan}
+use Rattle.plan.specs.declared.Wish.{Wish}
+use Rattle.plan.specs.declared.Wish.the-variants as wish
 
 -- the handle that an entry names, 64 for none
 abbrev pub handleIn : ParsedCqe → ℕ
@@ -29,6 +34,30 @@ handleIn (parsed.RespondAndNotifyOnDetach t r x) = 64
 handleIn parsed.UnknownKind = 64
 handleIn parsed.UnknownEventFlags = 64
 handleIn parsed.UnknownObtainFlags = 64
+
+-- what an entry wishes, where its handle holds x
+abbrev pub wishOf : ParsedCqe → ℕ → Wish
+wishOf (parsed.TriggerFevent number flags) x = wish.Event number flags
+wishOf (parsed.RegularResponse t r e) x = wish.Reply (t .0) (offer.Regular r e false)
+wishOf (parsed.ResponseWithFd t k) x = cond (eqb x 0) wish.No (wish.Reply (t .0) (offer.Fd (x - 1)))
+wishOf (parsed.ResponseWithMultipleFds t c) x = wish.Reply (t .0) offer.Listed
+wishOf (parsed.ObtainFd t flags k) x = wish.Obtain
+wishOf (parsed.RespondAndNotifyOnDetach t r e) x = wish.Reply (t .0) (offer.Regular r e true)
+wishOf parsed.UnknownKind x = wish.No
+wishOf parsed.UnknownEventFlags x = wish.No
+wishOf parsed.UnknownObtainFlags x = wish.No
+
+-- a description comes out of the handle that holds it
+abbrev pub Holding : Offer → ℕ → Type 0
+Holding (offer.Regular r e b) x = Unit {0}
+Holding (offer.Fd w) x = x ≡ suc w
+Holding offer.Listed x = Unit {0}
+
+-- the decision on a reply, by what it offers
+abbrev pub repliedOf : Offer → Slot → ℕ → ℕ → Holds → Handles → Decision
+repliedOf (offer.Regular r e b) v t k h n = respondOf v t (result r e b) h n
+repliedOf (offer.Fd w) v t k h n = byDescriptor v t k h n
+repliedOf offer.Listed v t k h n = respondOf v t listed h n
 
 -- the effects: a wake or an event, the span, the closes of the list that goes, those of the reply's own
 abbrev pub effectsBy : Plan → Holds → List ℕ

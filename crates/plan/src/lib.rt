@@ -11,12 +11,12 @@ use slot::PageSpan;
 use slot::Phase;
 use slot::Slot;
 ghost use mathlib.Core.Path.{_≡_};
-ghost use Prim.Native.Nat.{ℕ};
+ghost use Prim.Native.Nat.{ℕ, suc};
 ghost use mathlib.Core.Bool.{_&&_};
 ghost use lib.Dec.{leb, eqb};
-ghost use Rattle.events.specs.Entry.{refusedOf, respondOf, descriptorOf, obtainEntryOf, decisionOf};
+ghost use Rattle.events.specs.Entry.{refusedOf, one, respondOf, byDescriptor, obtainEntryOf, decisionOf};
 ghost use Rattle.reply_parts.specs.Parts.{offered};
-ghost use Rattle.plan.specs.Plans.{handleIn, Plans};
+ghost use Rattle.plan.specs.Plans.{handleIn, wishOf, Holding, repliedOf, Plans};
 
 // 0 or the refusal's number; what becomes of the slot, and the one to store; a wake or an event, or none; the span to unmap;
 // the list that is dropped, whose closes follow; the reply's own, dropped after it, and whether closes follow; the handle that
@@ -33,6 +33,47 @@ pub struct Plan {
     pub moves: bool,
     pub handle: Handle,
     pub held: u64,
+}
+
+// What an entry wishes of its slot: an event of its own, a reply with its tag, a description into a handle, or nothing that can be
+// had. One place then responds, whatever kind the reply has.
+pub enum Wish {
+    Event(u64, u64),
+    Reply(u64, Offer),
+    Obtain,
+    No,
+}
+
+// A reply out of an empty handle is none.
+fn wished(p: ParsedCqe, held: u64) -> Wish
+    ensures { λ r. ⌜ r ≡ wishOf p held ⌝ }
+{
+    match p {
+        ParsedCqe::TriggerFevent { number, flags } => Wish::Event(number, flags),
+        ParsedCqe::RegularResponse { tag, res, extra0 } => {
+            let offer = Offer::Regular(res, extra0, false);
+            return Wish::Reply(tag.0, offer);
+        }
+        ParsedCqe::ResponseWithFd { tag, fd } => {
+            if held == 0 {
+                return Wish::No;
+            }
+            return Wish::Reply(tag.0, Offer::Fd(held - 1));
+        }
+        ParsedCqe::ResponseWithMultipleFds { tag, num_fds } => Wish::Reply(tag.0, Offer::Listed),
+        ParsedCqe::ObtainFd {
+            tag,
+            flags,
+            dst_fd_or_ptr,
+        } => Wish::Obtain,
+        ParsedCqe::RespondAndNotifyOnDetach { tag, res, extra0 } => {
+            let offer = Offer::Regular(res, extra0, true);
+            return Wish::Reply(tag.0, offer);
+        }
+        ParsedCqe::UnknownKind => Wish::No,
+        ParsedCqe::UnknownEventFlags => Wish::No,
+        ParsedCqe::UnknownObtainFlags => Wish::No,
+    }
 }
 
 // Nothing changes.
@@ -114,16 +155,11 @@ fn respond(v: Slot, tag: u64, offer: Offer) -> Plan
     }
 }
 
-// A description out of handle `fd`, which holds `held`: it is emptied, whatever the tag says then; refused by its tag, the hold
-// is dropped.
-fn descriptor(v: Slot, tag: u64, fd: Handle, held: u64) -> Plan
-    ensures { λ r. ⌜ Plans r (fd .0) held (λ h n. descriptorOf v tag (fd .0) h n) ⌝ }
+// What responding came to, with the description out of handle `fd`: it is emptied, whatever the tag says; refused by its tag, the
+// hold is dropped.
+fn from_handle(r: Plan, v: Slot, fd: Handle, word: u64) -> Plan
+    ensures { λ o. ⌜ ((t x : ℕ) → x ≡ suc word → ((j y : ℕ) → Plans r j y (λ h n. respondOf v t (one word) h n)) → Plans o (fd .0) x (λ h n. byDescriptor v t (fd .0) h n)) ⌝ }
 {
-    if held == 0 {
-        return refused(v, 22);
-    }
-    let word = held - 1;
-    let r = respond(v, tag, Offer::Fd(word));
     if r.number == 0 {
         let mut m = r;
         m.moves = true;
@@ -147,6 +183,18 @@ fn descriptor(v: Slot, tag: u64, fd: Handle, held: u64) -> Plan
         moves: true,
         handle: fd,
         held: 0,
+    }
+}
+
+// A reply of any kind.
+fn reply(v: Slot, tag: u64, offer: Offer, fd: Handle) -> Plan
+    ensures { λ o. ⌜ ((x : ℕ) → Holding offer x → Plans o (fd .0) x (λ h n. repliedOf offer v tag (fd .0) h n)) ⌝ }
+{
+    let r = respond(v, tag, offer);
+    match offer {
+        Offer::Fd(word) => from_handle(r, v, fd, word),
+        Offer::Regular(res, extra0, notice) => r,
+        Offer::Listed => r,
     }
 }
 
@@ -239,8 +287,10 @@ pub fn handle_in(p: ParsedCqe) -> Handle
 pub fn handle_parsed(p: ParsedCqe, v: Slot, held: u64) -> Plan
     ensures { λ r. ⌜ Plans r (handleIn p) held (λ h n. decisionOf p v h n) ⌝ }
 {
-    match p {
-        ParsedCqe::TriggerFevent { number, flags } => {
+    let fd = handle_in(p);
+    let w = wished(p, held);
+    match w {
+        Wish::Event(number, flags) => {
             let none = fd_list::empty();
             return Plan {
                 number: 0,
@@ -260,29 +310,8 @@ pub fn handle_parsed(p: ParsedCqe, v: Slot, held: u64) -> Plan
                 held: 0,
             };
         }
-        ParsedCqe::RegularResponse { tag, res, extra0 } => {
-            let offer = Offer::Regular(res, extra0, false);
-            return respond(v, tag.0, offer);
-        }
-        ParsedCqe::ResponseWithFd { tag, fd } => {
-            return descriptor(v, tag.0, fd, held);
-        }
-        ParsedCqe::ResponseWithMultipleFds { tag, num_fds } => {
-            return respond(v, tag.0, Offer::Listed);
-        }
-        ParsedCqe::ObtainFd {
-            tag,
-            flags,
-            dst_fd_or_ptr,
-        } => {
-            return obtain(v, dst_fd_or_ptr, held);
-        }
-        ParsedCqe::RespondAndNotifyOnDetach { tag, res, extra0 } => {
-            let offer = Offer::Regular(res, extra0, true);
-            return respond(v, tag.0, offer);
-        }
-        ParsedCqe::UnknownKind => refused(v, 22),
-        ParsedCqe::UnknownEventFlags => refused(v, 22),
-        ParsedCqe::UnknownObtainFlags => refused(v, 22),
+        Wish::Reply(tag, offer) => reply(v, tag, offer, fd),
+        Wish::Obtain => obtain(v, fd, held),
+        Wish::No => refused(v, 22),
     }
 }

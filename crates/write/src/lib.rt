@@ -2,12 +2,31 @@
 use answer::Answer;
 use ids::Tag;
 use schemev2::Cqe;
+use schemev2::ExtraRaw;
 ghost use mathlib.Core.Path.{_≡_};
 ghost use mathlib.Core.Bool.{true};
 ghost use Prim.Native.Nat.{_<_, _≤_};
+ghost use lib.ListN.{length};
+ghost use Rattle.schemev2.specs.Entry.{cqeOf};
 ghost use Rattle.events.specs.Outcome.{said};
 ghost use Rattle.events.specs.Complete.{stopped};
 ghost use Rattle.write.specs.Writing.{isRefusal, Enters, Writes};
+
+// The entry at the start of at least sixteen bytes: as `decode::cqe`, with no test of the length.
+fn cqe_at(s: &[u8]) -> Cqe
+    requires { ⌜ 16 ≤ length (now s) ⌝ }
+    ensures { λ r. ⌜ r ≡ cqeOf (now (s .entry)) ⌝ }
+{
+    let low = le::weigh4(s[8], s[9], s[10], s[11]);
+    let high = le::weigh4(s[12], s[13], s[14], s[15]);
+    let raw = ExtraRaw(s[1], s[2], s[3]);
+    Cqe {
+        flags: s[0],
+        extra_raw: raw,
+        tag: le::weigh4(s[4], s[5], s[6], s[7]),
+        result: le::weigh2(low, high),
+    }
+}
 
 // 0 for an accepted entry, else the refusal's number; so many words of effects.
 struct Entered {
@@ -78,7 +97,7 @@ pub fn write(s: &mut [u64; 2060], fx: &mut [u64], bytes: &[u8]) -> Written
     let mut i = 0;
     let mut j = 0;
     while i < n {
-        let e = decode::cqe(&bytes[16 * i..]);
+        let e = cqe_at(&bytes[16 * i..]);
         let done = entry(s, e, fx, j);
         j += done.words;
         let number = done.number;

@@ -22,20 +22,20 @@ returns c = let a = c .before .before .before .args in too-short (a .s .now) (a 
 loop-holds : tie.Need-loop-holds Inv-loop μ-loop
 loop-holds c = let a = c .before .before .before .args in (omega arith, omega arith, refl, begins (a .s .now) (a .fx .now) (a .bytes .now) _ refl, omega (arith, c .if1 .left))
 
-mul-cqe : tie.Need-mul-cqe Inv-loop μ-loop
-mul-cqe c = search needs
+mul-cqe-at : tie.Need-mul-cqe-at Inv-loop μ-loop
+mul-cqe-at c = search needs
 
-sub-cqe : tie.Need-sub-cqe Inv-loop μ-loop
-sub-cqe c = search needs
+sub-cqe-at : tie.Need-sub-cqe-at Inv-loop μ-loop
+sub-cqe-at c = search needs
 
-part-cqe-start : tie.Need-part-cqe-start Inv-loop μ-loop
-part-cqe-start c = search needs
+part-cqe-at-start : tie.Need-part-cqe-at-start Inv-loop μ-loop
+part-cqe-at-start c = search needs
 
-part-cqe-end : tie.Need-part-cqe-end Inv-loop μ-loop
-part-cqe-end c = search needs
+part-cqe-at-end : tie.Need-part-cqe-at-end Inv-loop μ-loop
+part-cqe-at-end c = search needs
 
-cqe-requires : tie.Need-cqe-requires Inv-loop μ-loop
-cqe-requires c κs = search needs
+cqe-at-requires : tie.Need-cqe-at-requires Inv-loop μ-loop
+cqe-at-requires c κs = search needs
 
 entry-requires : tie.Need-entry-requires Inv-loop μ-loop
 entry-requires c κs = search needs
@@ -44,16 +44,16 @@ add-j : tie.Need-add-j Inv-loop μ-loop
 add-j c = let l = c .before .before .before .before .before .before .before .before .before .loop in omega (arith, l .inv .0, l .inv .1, l .inv .4, c .before .before .before .entry .ensures .1)
 
 stop-requires : tie.Need-stop-requires Inv-loop μ-loop
-stop-requires c κs = let l = c .before .before .before .before .before .before .before .before .before .before .loop in (refused-by (l .s) _ (l .fx) _ (l .j) (c .before .before .before .before .before .before .before .cqe .result) _ _ (c .before .before .before .before .entry .ensures .0) (c .if2 .taken), omega (arith, c .before .before .before .before .before .before .before .before .before .loop-test .taken, l .inv .4))
+stop-requires c κs = let l = c .before .before .before .before .before .before .before .before .before .before .loop in (refused-by (l .s) _ (l .fx) _ (l .j) (c .before .before .before .before .before .before .before .cqe-at .result) _ _ (c .before .before .before .before .entry .ensures .0) (c .if2 .taken), omega (arith, c .before .before .before .before .before .before .before .before .before .loop-test .taken, l .inv .4))
 
 same-length : tie.Need-same-length Inv-loop μ-loop
-same-length c = let l = c .before .before .before .before .before .before .before .before .before .before .before .loop in lent-length (l .s) _ (l .fx) _ (l .j) (c .before .before .before .before .before .before .before .before .cqe .result) _ _ (c .before .before .before .before .before .entry .ensures .0) ∙ l .inv .2
+same-length c = let l = c .before .before .before .before .before .before .before .before .before .before .before .loop in lent-length (l .s) _ (l .fx) _ (l .j) (c .before .before .before .before .before .before .before .before .cqe-at .result) _ _ (c .before .before .before .before .before .entry .ensures .0) ∙ l .inv .2
 
 returns-2 : tie.Need-returns-2 Inv-loop μ-loop
 returns-2 c =
     let a = c .before .before .before .before .before .before .before .before .before .before .before .before .before .before .before .args in
     let l = c .before .before .before .before .before .before .before .before .before .before .before .loop in
-    with-room (a .s .now) (a .fx .now) (a .bytes .now) (c .before .before .before .before .before .before .before .before .before .before .before .before .if1 .left) _ (stops (a .s .now) (a .fx .now) (a .bytes .now) _ (l .s) (l .fx) (l .i) (l .j) (l .inv .3) (c .before .before .before .before .before .before .before .before .before .before .loop-test .taken) (c .before .before .before .before .before .before .before .before .cqe .result) (c .before .before .before .before .before .before .before .before .cqe .ensures ∙ ap cqeOf (part-is (a .bytes .now) (16 * l .i))) _ _ _ _ (c .before .before .before .before .before .entry .ensures .0) (c .before .if2 .taken)) _ _ _ _ (c .stop .ensures) (stops-lent (a .s .now) (a .fx .now) (a .bytes .now) _ (l .s) (l .fx) (l .i) (l .j) (l .inv .3) (c .before .before .before .before .before .before .before .before .before .before .loop-test .taken) (c .before .before .before .before .before .before .before .before .cqe .result) (c .before .before .before .before .before .before .before .before .cqe .ensures ∙ ap cqeOf (part-is (a .bytes .now) (16 * l .i))) _ _ _ _ (c .before .before .before .before .before .entry .ensures .0) (c .before .if2 .taken)) (stops-count (a .s .now) (a .fx .now) (a .bytes .now) _ (l .s) (l .fx) (l .i) (l .j) (l .inv .3) (c .before .before .before .before .before .before .before .before .before .before .loop-test .taken) (c .before .before .before .before .before .before .before .before .cqe .result) (c .before .before .before .before .before .before .before .before .cqe .ensures ∙ ap cqeOf (part-is (a .bytes .now) (16 * l .i))) _ _ _ _ (c .before .before .before .before .before .entry .ensures .0) (c .before .if2 .taken)) (stops-words (a .s .now) (a .fx .now) (a .bytes .now) _ (l .s) (l .fx) (l .i) (l .j) (l .inv .3) (c .before .before .before .before .before .before .before .before .before .before .loop-test .taken) (c .before .before .before .before .before .before .before .before .cqe .result) (c .before .before .before .before .before .before .before .before .cqe .ensures ∙ ap cqeOf (part-is (a .bytes .now) (16 * l .i))) _ _ _ _ (c .before .before .before .before .before .entry .ensures .0) (c .before .if2 .taken)) (c .before .before .before .before .before .entry .ensures .0 .left)
+    with-room (a .s .now) (a .fx .now) (a .bytes .now) (c .before .before .before .before .before .before .before .before .before .before .before .before .if1 .left) _ (stops (a .s .now) (a .fx .now) (a .bytes .now) _ (l .s) (l .fx) (l .i) (l .j) (l .inv .3) (c .before .before .before .before .before .before .before .before .before .before .loop-test .taken) (c .before .before .before .before .before .before .before .before .cqe-at .result) (c .before .before .before .before .before .before .before .before .cqe-at .ensures ∙ ap cqeOf (part-is (a .bytes .now) (16 * l .i))) _ _ _ _ (c .before .before .before .before .before .entry .ensures .0) (c .before .if2 .taken)) _ _ _ _ (c .stop .ensures) (stops-lent (a .s .now) (a .fx .now) (a .bytes .now) _ (l .s) (l .fx) (l .i) (l .j) (l .inv .3) (c .before .before .before .before .before .before .before .before .before .before .loop-test .taken) (c .before .before .before .before .before .before .before .before .cqe-at .result) (c .before .before .before .before .before .before .before .before .cqe-at .ensures ∙ ap cqeOf (part-is (a .bytes .now) (16 * l .i))) _ _ _ _ (c .before .before .before .before .before .entry .ensures .0) (c .before .if2 .taken)) (stops-count (a .s .now) (a .fx .now) (a .bytes .now) _ (l .s) (l .fx) (l .i) (l .j) (l .inv .3) (c .before .before .before .before .before .before .before .before .before .before .loop-test .taken) (c .before .before .before .before .before .before .before .before .cqe-at .result) (c .before .before .before .before .before .before .before .before .cqe-at .ensures ∙ ap cqeOf (part-is (a .bytes .now) (16 * l .i))) _ _ _ _ (c .before .before .before .before .before .entry .ensures .0) (c .before .if2 .taken)) (stops-words (a .s .now) (a .fx .now) (a .bytes .now) _ (l .s) (l .fx) (l .i) (l .j) (l .inv .3) (c .before .before .before .before .before .before .before .before .before .before .loop-test .taken) (c .before .before .before .before .before .before .before .before .cqe-at .result) (c .before .before .before .before .before .before .before .before .cqe-at .ensures ∙ ap cqeOf (part-is (a .bytes .now) (16 * l .i))) _ _ _ _ (c .before .before .before .before .before .entry .ensures .0) (c .before .if2 .taken)) (c .before .before .before .before .before .entry .ensures .0 .left)
 
 add-i : tie.Need-add-i Inv-loop μ-loop
 add-i c = let l = c .before .before .before .before .before .before .before .before .before .before .loop in omega (arith, c .before .before .before .before .before .before .before .before .before .loop-test .taken, l .inv .4)
@@ -65,7 +65,7 @@ loop-again : tie.Need-loop-again Inv-loop μ-loop
 loop-again c =
     let a = c .before .before .before .before .before .before .before .before .before .before .before .before .before .before .args in
     let l = c .before .before .before .before .before .before .before .before .before .before .loop in
-    (omega (arith, c .before .before .before .before .before .before .before .before .before .loop-test .taken), omega (arith, l .inv .1, c .before .before .before .before .entry .ensures .1), lent-length (l .s) _ (l .fx) _ (l .j) (c .before .before .before .before .before .before .before .cqe .result) _ _ (c .before .before .before .before .entry .ensures .0) ∙ l .inv .2, goes-on (a .s .now) (a .fx .now) (a .bytes .now) _ (l .s) (l .fx) (l .i) (l .j) (l .inv .3) (c .before .before .before .before .before .before .before .before .before .loop-test .taken) (c .before .before .before .before .before .before .before .cqe .result) (c .before .before .before .before .before .before .before .cqe .ensures ∙ ap cqeOf (part-is (a .bytes .now) (16 * l .i))) _ _ _ _ (c .before .before .before .before .entry .ensures .0) (c .if2 .left), l .inv .4)
+    (omega (arith, c .before .before .before .before .before .before .before .before .before .loop-test .taken), omega (arith, l .inv .1, c .before .before .before .before .entry .ensures .1), lent-length (l .s) _ (l .fx) _ (l .j) (c .before .before .before .before .before .before .before .cqe-at .result) _ _ (c .before .before .before .before .entry .ensures .0) ∙ l .inv .2, goes-on (a .s .now) (a .fx .now) (a .bytes .now) _ (l .s) (l .fx) (l .i) (l .j) (l .inv .3) (c .before .before .before .before .before .before .before .before .before .loop-test .taken) (c .before .before .before .before .before .before .before .cqe-at .result) (c .before .before .before .before .before .before .before .cqe-at .ensures ∙ ap cqeOf (part-is (a .bytes .now) (16 * l .i))) _ _ _ _ (c .before .before .before .before .entry .ensures .0) (c .if2 .left), l .inv .4)
 
 mul-t25 : tie.Need-mul-t25 Inv-loop μ-loop
 mul-t25 c = search needs
@@ -87,11 +87,11 @@ write-spec =
     μ-loop
     returns
     loop-holds
-    mul-cqe
-    sub-cqe
-    part-cqe-start
-    part-cqe-end
-    cqe-requires
+    mul-cqe-at
+    sub-cqe-at
+    part-cqe-at-start
+    part-cqe-at-end
+    cqe-at-requires
     entry-requires
     add-j
     stop-requires
