@@ -31,9 +31,9 @@ pub fn look(s: &[u64; 2060], fds: &[u64]) -> Looked
             list: none,
         };
     }
-    let out = part_words::outside(s);
     let t = &s[..];
     let all = &t[layout::ALL..layout::OUTSIDE];
+    let out = &t[layout::OUTSIDE..layout::SCHEME];
     take_holds::look(all, out, fds)
 }
 

@@ -1,2 +1,3 @@
+pub mod Each
 pub mod Walk
 pub mod Laws

@@ -8,13 +8,14 @@ use native.Mathlib.Numerals.{add-one}
 use native.Mathlib.Decide.{ℕ-discrete, decLt}
 use native.Mathlib.Nat.{add-zero}
 use lib.Dec.{ltb, eqb}
-use lib.ListN.{getD, set, length, drop, length-set, List·getD-eq-default, drop-of-length-le}
-use lib.Seq.{sets, drop-cons, getD-set-same, getD-set-other}
+use lib.ListN.{getD, set, length, take, drop, length-set, List·getD-eq-default, drop-of-length-le}
+use lib.Seq.{sets, drop-cons, take-suc, set-out, getD-set-same, getD-set-other}
 use borrow.Author.Tests.{lt-ltb, le-ltb, eq-eqb, ne-eqb, ltb-true, eqb-true, eqb-false}
 use Rattle.ids.specs.declared.Description.{Description}
 use Rattle.fd_list.specs.declared.List.{List as Sent}
 use Rattle.fd_list.specs.Lists.{desc, blank, listOf}
 use Rattle.counts.specs.Counts.{less, lessAll, times, any}
+use Rattle.counts.proofs.Laws.{lessAll-then}
 use Rattle.holds.specs.declared.Holds.{Holds}
 use Rattle.holds.specs.Holds.{holdsWith, unheld}
 use Rattle.take_holds.specs.declared.Taken.{Taken}
@@ -128,27 +129,43 @@ walked h left at i (d ∷ ds) = go (walked h (less left d) (set at i (desc d)) (
 pub take-is : (h : Holds) (ws : List ℕ) → takeOn h (h .outside) blank 0 ws ≡ takeOf h ws
 take-is h ws = walked h (h .outside) blank 0 ws ∙ ap (λ (n : ℕ). cond (any (bad h ws) ws) (takenAs take.BadArgument [] h) (full h (lessAll (h .outside) ws) (sets blank 0 (map desc ws)) n)) (let e : 0 + length ws ≡ length ws = omega arith in e)
 
-pub lower-length : (a u : List ℕ) (d n : ℕ) → u ≡ less a d → length a ≡ n → length u ≡ n
-lower-length a u d n e w = ap length e ∙ (length-set a d (getD a d 0 - 1) ∙ w)
+-- what the first i words leave of the outside counts
+abbrev pub leftOf : Holds → List ℕ → ℕ → List ℕ
+leftOf h ws i = lessAll (h .outside) (take i ws)
+
+left-more : (h : Holds) (ws : List ℕ) (i : ℕ) → i < length ws → leftOf h ws (i + 1) ≡ less (leftOf h ws i) (getD ws i 0)
+left-more h ws i b = rw (add-one i) (ap (lessAll (h .outside)) (take-suc ws i 0 b) ∙ sym (lessAll-then (take i ws) (getD ws i 0 ∷ []) (h .outside)))
+
+pub kept-long : (at : List Description) (i : ℕ) (e : Description) (v : List Description) → length at ≡ 16 → v ≡ set at i e → length v ≡ 16
+kept-long at i e v n q = ap length q ∙ (length-set at i e ∙ n)
 
 -- the loop's turns
-module _ (h : Holds) (left : List ℕ) (at : List Description) (i : ℕ) (ws : List ℕ) (W : Taken) (w : takeOn h left at i (drop i ws) ≡ W) where
-  module _ (b : i < length ws) (d : ℕ) (q : d ≡ getD ws i 0) where
-    next : takeOn h left at i (d ∷ drop (i + 1) ws) ≡ W
+module _ (h : Holds) (at : List Description) (i : ℕ) (ws : List ℕ) (W : Taken) (w : takeOn h (leftOf h ws i) at i (drop i ws) ≡ W) where
+  module _ (b : i < length ws) where
+    next : takeOn h (leftOf h ws i) at i (getD ws i 0 ∷ drop (i + 1) ws) ≡ W
     next =
-        let e : drop i ws ≡ d ∷ drop (i + 1) ws = rw (add-one i) (drop-cons ws i 0 b ∙ ap (λ (x : ℕ). x ∷ drop (suc i) ws) (sym q)) in
-        ap (λ (ds : List ℕ). takeOn h left at i ds) (sym e) ∙ w
+        let e : drop i ws ≡ getD ws i 0 ∷ drop (i + 1) ws = rw (add-one i) (drop-cons ws i 0 b) in
+        ap (λ (ds : List ℕ). takeOn h (leftOf h ws i) at i ds) (sym e) ∙ w
 
-    pub take-bad : (r : Taken) → r ≡ takenAs take.BadArgument [] h → unheld (h .holds) left d ≡ true → r ≡ W
-    take-bad r e s = e ∙ (ap (λ (t : Bool). cond t (takenAs take.BadArgument [] h) (takeOn h (less left d) (set at i (desc d)) (suc i) (drop (i + 1) ws))) (sym s) ∙ next)
+    turn : (t : Bool) → unheld (h .holds) (leftOf h ws i) (getD ws i 0) ≡ t →
+        cond t (takenAs take.BadArgument [] h) (takeOn h (less (leftOf h ws i) (getD ws i 0)) (set at i (desc (getD ws i 0))) (suc i) (drop (i + 1) ws)) ≡ W
+    turn t s = rw (← s) next
 
-    pub take-more : (e : Description) (u : List ℕ) (v : List Description) → u ≡ less left (e .0) → v ≡ set at i e → (unheld (h .holds) left d ≡ false) × (e ≡ desc d) → takeOn h u v (i + 1) (drop (i + 1) ws) ≡ W
-    take-more e u v eu ev s =
-        rw (eu, ev, s .1) (ap (λ (n : ℕ). takeOn h (less left d) (set at i (desc d)) n (drop (i + 1) ws)) (add-one i)
-        ∙ (ap (λ (t : Bool). cond t (takenAs take.BadArgument [] h) (takeOn h (less left d) (set at i (desc d)) (suc i) (drop (i + 1) ws))) (sym (s .0)) ∙ next))
+    pub take-bad : unheld (h .holds) (leftOf h ws i) (getD ws i 0) ≡ true → takenAs take.BadArgument [] h ≡ W
+    take-bad s = turn true s
 
-  pub take-end : length ws ≤ i → full h left at i ≡ W
-  take-end b = ap (λ (ds : List ℕ). takeOn h left at i ds) (sym (drop-of-length-le ws b)) ∙ w
+    module _ (e : Description) (s : (unheld (h .holds) (leftOf h ws i) (getD ws i 0) ≡ false) × (e ≡ desc (getD ws i 0))) (v : List Description) where
+      pub take-more : v ≡ set at i e → takeOn h (leftOf h ws (i + 1)) v (i + 1) (drop (i + 1) ws) ≡ W
+      take-more q =
+          rw (left-more h ws i b, q, s .1) (ap (λ (n : ℕ). takeOn h (less (leftOf h ws i) (getD ws i 0)) (set at i (desc (getD ws i 0))) n (drop (i + 1) ws)) (add-one i)
+          ∙ turn false (s .0))
+
+      -- past the end nothing is stored
+      pub take-past : length at ≤ i → v ≡ at → takeOn h (leftOf h ws (i + 1)) v (i + 1) (drop (i + 1) ws) ≡ W
+      take-past o q = take-more (q ∙ sym (set-out at i e o))
+
+  pub take-end : length ws ≤ i → full h (leftOf h ws i) at i ≡ W
+  take-end b = ap (λ (ds : List ℕ). takeOn h (leftOf h ws i) at i ds) (sym (drop-of-length-le ws b)) ∙ w
 
 pub full-over : (h : Holds) (left : List ℕ) (at : List Description) (i : ℕ) → 16 < i → takenAs take.TooMany [] h ≡ full h left at i
 full-over h left at i b = rw (lt-ltb 16 i b) refl

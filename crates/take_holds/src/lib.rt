@@ -3,7 +3,8 @@ use fd_list::List;
 use holds::Holds;
 use ids::DescriptionFound;
 ghost use mathlib.Core.Path.{_≡_};
-ghost use Rattle.holds.specs.Holds.{holdsWith};
+ghost use Rattle.counts.specs.Counts.{times, lessAll};
+ghost use Rattle.holds.specs.Holds.{holdsWith, heldOf};
 ghost use Rattle.take_holds.specs.Take.{takeOf};
 
 pub enum TakeAnswer {
@@ -25,19 +26,50 @@ pub struct Looked {
     pub list: List,
 }
 
-// The list against the counts of all holds and of outside ones: nothing is taken yet.
-pub fn look(all: &[u64], outside: [u64; 64], words: &[u64]) -> Looked
-    ensures { λ r. ⌜ (r .answer ≡ takeOf (holdsWith (now (all .entry)) outside) (now (words .entry)) .answer) × (r .list ≡ takeOf (holdsWith (now (all .entry)) outside) (now (words .entry)) .list) ⌝ }
+// How often a word stands among some. Counting a short list again is cheaper than a copy of the counts to lower.
+fn mentions(words: &[u64], word: u64) -> u64
+    ensures { λ r. ⌜ r ≡ times word (now (words .entry)) ⌝ }
 {
-    let mut left = outside;
-    let zero = ids::BLANK;
-    let mut list = List {
-        at: [zero; 16],
-        len: 0,
-    };
+    let mut n = 0;
     let mut i = 0;
     while i < words.len() {
-        let next = holds::held_outside(all, &left, words[i]);
+        if words[i] == word {
+            n += 1;
+        }
+        i += 1;
+    }
+    n
+}
+
+// The description that a word names, if it is open and has an outside hold that none of the words before it needs.
+fn held_after(all: &[u64], outside: &[u64], before: &[u64], word: u64) -> DescriptionFound
+    ensures { λ r. ⌜ r ≡ heldOf (now (all .entry)) (lessAll (now (outside .entry)) (now (before .entry))) word ⌝ }
+{
+    let found = ids::description_of(word);
+    match found {
+        DescriptionFound::Outside => DescriptionFound::Outside,
+        DescriptionFound::At(d) => {
+            if counts::count_at(all, d) == 0 {
+                return DescriptionFound::Outside;
+            }
+            let needed = mentions(before, word);
+            if counts::count_at(outside, d) <= needed {
+                return DescriptionFound::Outside;
+            }
+            DescriptionFound::At(d)
+        }
+    }
+}
+
+// The list against the counts of all holds and of outside ones: nothing is taken yet.
+pub fn look(all: &[u64], outside: &[u64], words: &[u64]) -> Looked
+    ensures { λ r. ⌜ (r .answer ≡ takeOf (holdsWith (now (all .entry)) (now (outside .entry))) (now (words .entry)) .answer) × (r .list ≡ takeOf (holdsWith (now (all .entry)) (now (outside .entry))) (now (words .entry)) .list) ⌝ }
+{
+    let zero = ids::BLANK;
+    let mut at = [zero; 16];
+    let mut i = 0;
+    while i < words.len() {
+        let next = held_after(all, outside, &words[..i], words[i]);
         match next {
             DescriptionFound::Outside => {
                 let none = fd_list::empty();
@@ -47,9 +79,9 @@ pub fn look(all: &[u64], outside: [u64; 64], words: &[u64]) -> Looked
                 };
             }
             DescriptionFound::At(d) => {
-                counts::lower(&mut left, d);
-                let longer = fd_list::with(list, i, d);
-                list = longer;
+                if i < 16 {
+                    at[i] = d;
+                }
             }
         }
         i += 1;
@@ -61,7 +93,10 @@ pub fn look(all: &[u64], outside: [u64; 64], words: &[u64]) -> Looked
             list: none,
         };
     }
-    list.len = i as u8;
+    let list = List {
+        at: at,
+        len: i as u8,
+    };
     Looked {
         answer: TakeAnswer::Taken,
         list: list,

@@ -1,12 +1,11 @@
 -- `hold_words::look` meets its contract. Assumes nothing.
 use borrow.Author.Needs.{needs}
-use Rattle.hold_words.proofs.Parts.{all-lent, looked, looked-none}
+use Rattle.hold_words.proofs.Parts.{all-lent, outside-lent, looked, looked-none}
 use Rattle.hold_words.proofs.look.Statement.{statement}
 use Rattle.hold_words.proofs.look.Tie as tie
 use Rattle.fd_list.proofs.empty.Reads as empty-reads
-use Rattle.take_holds.proofs.look.Reads as look-reads
-use Rattle.part_words.proofs.outside.Reads as outside-reads
 use Rattle.layout.proofs.sized.Reads as sized-reads
+use Rattle.take_holds.proofs.look.Reads as look-reads
 
 sized-requires : tie.Need-sized-requires
 sized-requires c κs = search needs
@@ -17,9 +16,6 @@ empty-requires c κs = search needs
 returns : tie.Need-returns
 returns c = let a = c .before .before .before .before .args in looked-none (a .s .now) (a .fds .now) _ (c .before .if1 .taken) (c .empty .ensures)
 
-outside-requires : tie.Need-outside-requires
-outside-requires c κs = search needs
-
 sub-all : tie.Need-sub-all
 sub-all c = search needs
 
@@ -29,11 +25,20 @@ part-all-start c = search needs
 part-all-end : tie.Need-part-all-end
 part-all-end c = search needs
 
+sub-out : tie.Need-sub-out
+sub-out c = search needs
+
+part-out-start : tie.Need-part-out-start
+part-out-start c = search needs
+
+part-out-end : tie.Need-part-out-end
+part-out-end c = search needs
+
 look-requires : tie.Need-look-requires
 look-requires c κs = search needs
 
 returns-2 : tie.Need-returns-2
-returns-2 c = let a = c .before .before .before .before .before .before .before .args in looked (a .s .now) (a .fds .now) _ _ _ _ (all-lent (a .s .now)) (c .before .before .before .outside .ensures) (c .look .ensures)
+returns-2 c = let a = c .before .before .before .before .before .before .before .args in looked (a .s .now) (a .fds .now) _ _ _ _ (all-lent (a .s .now)) (outside-lent (a .s .now)) (c .look .ensures)
 
 pub look-spec : {M : Type 1} → statement M
 look-spec =
@@ -42,9 +47,11 @@ look-spec =
     sized-requires
     empty-requires
     returns
-    outside-requires
     sub-all
     part-all-start
     part-all-end
+    sub-out
+    part-out-start
+    part-out-end
     look-requires
     returns-2)
