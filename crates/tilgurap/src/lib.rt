@@ -1,6 +1,7 @@
 // The functions that a host in another language calls: each event as a step on the state's words, which the host owns and lends, and
 // which are changed in place; the run; the readings; the plain state; error words and entries. A host may lend any words: what is
-// promised of a step is the equation alone, and demand 3 holds of words that came from a fresh state.
+// promised of a step is the equation alone, and demand 3 holds of words that came from a fresh state. What is lent comes first among
+// the arguments, so that a pointer and its length cross in registers.
 use answer_words::AnswerWords;
 use answer_words::StepWords;
 use answer_words::WakeWords;
@@ -88,13 +89,13 @@ pub extern "C" fn tilgurap_next_id(words: &mut [u64; 2060], caller: u32) -> Step
 #[no_mangle]
 pub extern "C" fn tilgurap_submit(
     words: &mut [u64; 2060],
+    fds: &[u64],
     tag: Tag,
     caller: u32,
     opcode: u64,
     flags: u8,
     args: Args,
     pid: u64,
-    fds: &[u64],
 ) -> StepWords
     ensures { λ r. ⌜ Settled r (now (words .entry)) (now (words .exit)) (on (submit (tag .0) caller opcode flags args pid (now (fds .entry)))) ⌝ }
 {
@@ -105,13 +106,13 @@ pub extern "C" fn tilgurap_submit(
 #[no_mangle]
 pub extern "C" fn tilgurap_call(
     words: &mut [u64; 2060],
+    fds: &[u64],
     caller: u32,
     opcode: u64,
     args: Args,
     uid: u32,
     gid: u32,
     pid: u64,
-    fds: &[u64],
 ) -> StepWords
     ensures { λ r. ⌜ Settled r (now (words .entry)) (now (words .exit)) (on (call caller opcode args uid gid pid (now (fds .entry)))) ⌝ }
 {
@@ -122,12 +123,12 @@ pub extern "C" fn tilgurap_call(
 #[no_mangle]
 pub extern "C" fn tilgurap_call_generic(
     words: &mut [u64; 2060],
+    fds: &[u64],
+    metadata: &[u64],
     caller: u32,
     pid: u64,
-    fds: &[u64],
     base: u64,
     len: u64,
-    metadata: &[u64],
 ) -> StepWords
     ensures { λ r. ⌜ Settled r (now (words .entry)) (now (words .exit)) (on (generic caller pid (now (fds .entry)) base len (now (metadata .entry)))) ⌝ }
 {
@@ -138,12 +139,12 @@ pub extern "C" fn tilgurap_call_generic(
 #[no_mangle]
 pub extern "C" fn tilgurap_translate_std_fs_call(
     words: &mut [u64; 2060],
+    fds: &[u64],
+    metadata: &[u64],
     caller: u32,
     pid: u64,
-    fds: &[u64],
     base: u64,
     len: u64,
-    metadata: &[u64],
 ) -> StepWords
     ensures { λ r. ⌜ Settled r (now (words .entry)) (now (words .exit)) (on (stdfs caller pid (now (fds .entry)) base len (now (metadata .entry)))) ⌝ }
 {

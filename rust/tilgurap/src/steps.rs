@@ -21,14 +21,14 @@ pub(crate) struct Steps {
 /// `generic` and `stdfs` take the same.
 type CallGeneric = unsafe extern "C" fn(
     *mut ffi::Words,
+    *const u64,
+    usize,
+    *const u64,
+    usize,
     u32,
     u64,
-    *const u64,
-    usize,
     u64,
     u64,
-    *const u64,
-    usize,
 ) -> ffi::StepWords;
 
 impl Steps {
@@ -117,7 +117,7 @@ impl Steps {
         let (words, tag, args) = (self.lent(), ffi::Tag(tag), ffi::Args(args));
         let (fds, len) = (list.as_ptr(), list.len());
         // SAFETY: the words are the layer's own; the list's pointer goes with its length.
-        unsafe { ffi::tilgurap_submit(words, tag, c, op, fl, args, pid, fds, len) }
+        unsafe { ffi::tilgurap_submit(words, fds, len, tag, c, op, fl, args, pid) }
     }
 
     #[allow(clippy::too_many_arguments)]
@@ -134,7 +134,7 @@ impl Steps {
         let (words, args) = (self.lent(), ffi::Args(args));
         let (fds, len) = (list.as_ptr(), list.len());
         // SAFETY: the words are the layer's own; the list's pointer goes with its length.
-        unsafe { ffi::tilgurap_call(words, c, op, args, uid, gid, pid, fds, len) }
+        unsafe { ffi::tilgurap_call(words, fds, len, c, op, args, uid, gid, pid) }
     }
 
     fn call_by(&mut self, function: CallGeneric, call: &GenericCall) -> ffi::StepWords {
@@ -142,14 +142,14 @@ impl Steps {
         unsafe {
             function(
                 self.lent(),
-                call.caller,
-                call.pid,
                 call.fds.as_ptr(),
                 call.fds.len(),
-                call.base,
-                call.len,
                 call.metadata.as_ptr(),
                 call.metadata.len(),
+                call.caller,
+                call.pid,
+                call.base,
+                call.len,
             )
         }
     }

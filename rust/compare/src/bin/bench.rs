@@ -3,6 +3,7 @@
 //! What is timed runs on one thread, and on both sides the clock is read around each event; what
 //! reading it takes is taken off. No time of a thread's hand-over is in any ratio.
 
+use std::hint::black_box;
 use std::time::{Duration, Instant};
 
 use oracle::Oracle;
@@ -65,10 +66,22 @@ fn nanoseconds(time: Duration) -> f64 {
     time.as_secs_f64() * 1e9
 }
 
-/// What reading the clock twice takes: the least of many.
+/// What reading the clock twice takes, on average: it is in each event's time on both sides.
 fn clock() -> f64 {
-    let reading = || nanoseconds(Instant::now().elapsed());
-    (0..100_000).map(|_| reading()).fold(f64::MAX, f64::min)
+    let readings = (0..100_000).map(|_| Instant::now().elapsed());
+    let usual: Vec<Duration> = readings.filter(|time| *time <= INTERRUPTED).collect();
+    nanoseconds(usual.iter().sum()) / usual.len() as f64
+}
+
+/// The time of a method alone: telling the event apart comes before, and its answer goes after.
+macro_rules! clocked {
+    ($method:expr) => {{
+        let start = Instant::now();
+        let answer = $method;
+        let spent = start.elapsed();
+        drop(black_box(answer));
+        spent
+    }};
 }
 
 impl Both {
@@ -122,14 +135,13 @@ impl Both {
 
 /// The layer's own time for an event; what it is lent, and making a line of it, is left out.
 fn timed(layer: &mut Layer, lent: &mut Lent, event: &Event) -> Duration {
-    let start = Instant::now();
     match event {
-        Event::Open { d } => drop(layer.open(*d)),
-        Event::Copy { d } => drop(layer.copy(*d)),
-        Event::Drop { d } => drop(layer.drop_one(*d)),
-        Event::Put { d, h } => drop(layer.put(*d, *h)),
-        Event::Ended { c } => drop(layer.ended(*c)),
-        Event::Reserve { c } => drop(layer.reserve(*c)),
+        Event::Open { d } => clocked!(layer.open(*d)),
+        Event::Copy { d } => clocked!(layer.copy(*d)),
+        Event::Drop { d } => clocked!(layer.drop_one(*d)),
+        Event::Put { d, h } => clocked!(layer.put(*d, *h)),
+        Event::Ended { c } => clocked!(layer.ended(*c)),
+        Event::Reserve { c } => clocked!(layer.reserve(*c)),
         Event::Submit {
             tag,
             c,
@@ -138,7 +150,7 @@ fn timed(layer: &mut Layer, lent: &mut Lent, event: &Event) -> Duration {
             args,
             pid,
             list,
-        } => drop(layer.submit(*tag, *c, *op, *fl, *args, *pid, list)),
+        } => clocked!(layer.submit(*tag, *c, *op, *fl, *args, *pid, list)),
         Event::Call {
             c,
             op,
@@ -147,9 +159,9 @@ fn timed(layer: &mut Layer, lent: &mut Lent, event: &Event) -> Duration {
             gid,
             pid,
             list,
-        } => drop(layer.call(*c, *op, *args, *uid, *gid, *pid, list)),
-        Event::Generic(payload) => drop(layer.generic(payload)),
-        Event::Stdfs(payload) => drop(layer.stdfs(payload)),
+        } => clocked!(layer.call(*c, *op, *args, *uid, *gid, *pid, list)),
+        Event::Generic(payload) => clocked!(layer.generic(payload)),
+        Event::Stdfs(payload) => clocked!(layer.stdfs(payload)),
         Event::Fmap {
             c,
             id,
@@ -158,28 +170,30 @@ fn timed(layer: &mut Layer, lent: &mut Lent, event: &Event) -> Duration {
             uid,
             gid,
             pid,
-        } => drop(layer.fmap(*c, *id, *pages, *flags, *uid, *gid, *pid)),
-        Event::Close { id } => drop(layer.close(*id)),
-        Event::Detach { id, pid } => drop(layer.detach(*id, *pid)),
+        } => clocked!(layer.fmap(*c, *id, *pages, *flags, *uid, *gid, *pid)),
+        Event::Close { id } => clocked!(layer.close(*id)),
+        Event::Detach { id, pid } => clocked!(layer.detach(*id, *pid)),
         Event::Wake {
             tag,
             c,
             killed,
             base,
             count,
-        } => drop(layer.wake(*tag, *c, *killed, *base, *count)),
-        Event::Read { len, flags } => drop(layer.read(&mut lent.out[..*len as usize], *flags)),
-        Event::Write { bytes, .. } => drop(layer.write(&mut lent.fx, bytes)),
-        Event::Move { meta, list } => drop(layer.move_list(meta, list)),
-        Event::Obtain { meta } => drop(layer.obtain(meta)),
+        } => clocked!(layer.wake(*tag, *c, *killed, *base, *count)),
+        Event::Read { len, flags } => {
+            let out = &mut lent.out[..*len as usize];
+            clocked!(layer.read(out, *flags))
+        }
+        Event::Write { bytes, .. } => clocked!(layer.write(&mut lent.fx, bytes)),
+        Event::Move { meta, list } => clocked!(layer.move_list(meta, list)),
+        Event::Obtain { meta } => clocked!(layer.obtain(meta)),
         Event::Supply {
             tag,
             offset,
             base,
             count,
-        } => drop(layer.supply(*tag, *offset, *base, *count)),
+        } => clocked!(layer.supply(*tag, *offset, *base, *count)),
     }
-    start.elapsed()
 }
 
 /// The layer's time in the parts of a call.
@@ -579,7 +593,9 @@ fn ratio(values: Vec<f64>) -> String {
 
 fn main() {
     let clock = clock();
-    println!("reading the clock twice: {clock:.0} ns, taken off each event on both sides");
+    println!(
+        "reading the clock twice: {clock:.1} ns on average, taken off each event on both sides"
+    );
     let count = 20_000;
     let over = nanoseconds(oracle::hand_overs(count)) / f64::from(count);
     println!("a thread's hand-over, there and back: {over:.0} ns, in no figure below\n");

@@ -133,7 +133,7 @@ impl Lent {
         let (meta, meta_len) = self.metadata.lend(&payload.meta);
         let (base, len) = (payload.base, payload.len);
         // SAFETY: each pointer goes with its length.
-        unsafe { function(words, *c, *pid, fds, fds_len, base, len, meta, meta_len).answer }
+        unsafe { function(words, fds, fds_len, meta, meta_len, *c, *pid, base, len).answer }
     }
 
     /// What Rust reads without a check: a reply's kind and the length of its list.
@@ -194,7 +194,7 @@ impl Lent {
                 } => {
                     let (tag, args) = (Tag(*tag), Args(*args));
                     let (fds, len) = self.fds.lend(list);
-                    ffi::tilgurap_submit(words, tag, *c, *op, *fl, args, *pid, fds, len).answer
+                    ffi::tilgurap_submit(words, fds, len, tag, *c, *op, *fl, args, *pid).answer
                 }
                 Event::Call {
                     c,
@@ -207,7 +207,7 @@ impl Lent {
                 } => {
                     let args = Args(*args);
                     let (fds, len) = self.fds.lend(list);
-                    ffi::tilgurap_call(words, *c, *op, args, *uid, *gid, *pid, fds, len).answer
+                    ffi::tilgurap_call(words, fds, len, *c, *op, args, *uid, *gid, *pid).answer
                 }
                 Event::Generic(payload) => self.generic(payload, false),
                 Event::Stdfs(payload) => self.generic(payload, true),
