@@ -4,6 +4,7 @@
 pub mod beside;
 pub mod bytes;
 pub mod counts;
+pub mod instructions;
 pub mod interrupt;
 pub mod known;
 pub mod limits;

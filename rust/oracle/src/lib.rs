@@ -16,6 +16,7 @@ mod scheme;
 mod sync;
 mod syscall;
 // what it runs on
+pub mod count;
 mod machine;
 mod threads;
 // what runs on it

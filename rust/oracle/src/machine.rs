@@ -10,6 +10,7 @@ use std::time::{Duration, Instant};
 use script::Effect;
 
 use crate::context::ContextLock;
+use crate::count::{self, Side};
 use crate::threads;
 
 /// What the host's thread does when it gives way. A caller's thread hands over to the host's.
@@ -68,7 +69,7 @@ impl Machine {
     pub fn new(first: Arc<ContextLock>) -> Machine {
         Machine {
             current: RefCell::new(first),
-            effects: RefCell::default(),
+            effects: RefCell::new(Vec::with_capacity(64)),
             on_switch: RefCell::default(),
             waited: Cell::new(false),
             left: RefCell::default(),
@@ -113,10 +114,14 @@ impl Machine {
 
     fn start(&self) {
         self.since.set(self.spent.get().map(|_| Instant::now()));
+        if self.since.get().is_some() {
+            count::on(Side::Rust);
+        }
     }
 
     fn stop(&self) {
         if let Some(since) = self.since.take() {
+            count::off(Side::Rust);
             let spent = self.spent.get().unwrap_or_default();
             self.spent.set(Some(spent + since.elapsed()));
         }
@@ -125,6 +130,7 @@ impl Machine {
     /// Takes the time from now on, or no longer; the time taken until now.
     pub fn clock(&self, on: bool) -> Duration {
         let spent = self.spent.replace(on.then_some(Duration::ZERO));
+        count::next_part();
         spent.unwrap_or_default()
     }
 
@@ -133,8 +139,9 @@ impl Machine {
         self.waited.take()
     }
 
+    /// The effects since this was asked last. Their room stays, so that the kernel's code is not charged for memory.
     pub fn effects(&self) -> Vec<Effect> {
-        self.effects.take()
+        self.effects.borrow_mut().drain(..).collect()
     }
 
     /// The next payload that is captured is that call's; 0 is none's.

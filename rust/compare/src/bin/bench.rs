@@ -7,6 +7,7 @@ use std::hint::black_box;
 use std::time::{Duration, Instant};
 
 use oracle::Oracle;
+use oracle::count::{self, Side};
 use script::{Event, Payload};
 use tilgurap::numbers::Layer;
 
@@ -41,6 +42,8 @@ struct Both {
     clock: f64,
     times: Times,
     interrupted: u64,
+    /// How many events were timed, interrupted ones too.
+    timed: u64,
 }
 
 /// What reads and writes are lent.
@@ -66,18 +69,19 @@ fn nanoseconds(time: Duration) -> f64 {
     time.as_secs_f64() * 1e9
 }
 
-/// What reading the clock twice takes, on average: it is in each event's time on both sides.
+/// What reading the clock twice takes, the median of many: it is in each event's time on both sides.
 fn clock() -> f64 {
-    let readings = (0..100_000).map(|_| Instant::now().elapsed());
-    let usual: Vec<Duration> = readings.filter(|time| *time <= INTERRUPTED).collect();
-    nanoseconds(usual.iter().sum()) / usual.len() as f64
+    let readings = (0..100_000).map(|_| nanoseconds(Instant::now().elapsed()));
+    spread(readings.collect()).0
 }
 
 /// The time of a method alone: telling the event apart comes before, and its answer goes after.
 macro_rules! clocked {
     ($method:expr) => {{
         let start = Instant::now();
+        count::on(Side::Steps);
         let answer = $method;
+        count::off(Side::Steps);
         let spent = start.elapsed();
         drop(black_box(answer));
         spent
@@ -93,6 +97,7 @@ impl Both {
             clock,
             times: Times::default(),
             interrupted: 0,
+            timed: 0,
         }
     }
 
@@ -103,6 +108,7 @@ impl Both {
     }
 
     fn add(&mut self, rust: Duration, port: Duration) {
+        self.timed += 1;
         if rust.max(port) > INTERRUPTED {
             self.interrupted += 1;
             return;
@@ -122,8 +128,11 @@ impl Both {
     /// A call with its two wakes and what its driver does. `which` of them count: its entry, the
     /// wake for nothing, the wake for its reply.
     fn call(&mut self, entry: &Event, which: [bool; 3]) {
+        let bit = |part: usize| u8::from(which[part]) << CALLERS_PARTS[part];
+        count::only(bit(0) + bit(1) + bit(2));
         let rust = self.kernel.alone(entry);
         let parts = Parts::of(&mut self.layer, &mut self.lent, entry);
+        count::only(u8::MAX);
         let rust = [rust.entered, rust.canceled, rust.handed];
         for part in 0..3 {
             if which[part] {
@@ -237,14 +246,21 @@ impl Parts {
             _ => 0,
         };
         let events = events_of_call(entry, tag, c);
-        let [entered, read, canceled, again, replied, handed] =
-            events.map(|event| timed(layer, lent, &event));
+        count::part(0);
+        let [entered, read, canceled, again, replied, handed] = events.map(|event| {
+            let spent = timed(layer, lent, &event);
+            count::next_part();
+            spent
+        });
         Parts {
             caller: [entered, canceled, handed],
             driver: [read, again, replied],
         }
     }
 }
+
+/// Which of a call's six events are its caller's.
+const CALLERS_PARTS: [usize; 3] = [0, 2, 5];
 
 const ENTERED: [bool; 3] = [true, false, false];
 
@@ -513,8 +529,19 @@ struct Ran {
     interrupted: u64,
 }
 
-/// The time of these events in one run.
+/// These events in one run, timed the second time: the first brings it all near.
 fn run_time(events: &[Event]) -> f64 {
+    run_times(events, 2)
+}
+
+/// And only once.
+#[cfg(feature = "count")]
+fn run_once(events: &[Event]) {
+    run_times(events, 1);
+}
+
+/// The time of the last of so many runs of these events.
+fn run_times(events: &[Event], times: usize) -> f64 {
     let records = events.iter().map(|event| event.encode().expect("a record"));
     let bytes = records.collect::<Vec<Vec<u8>>>().concat();
     let room = |event: &Event| match event {
@@ -527,14 +554,14 @@ fn run_time(events: &[Event]) -> f64 {
     let mut fx = vec![0; 54 * 16];
     let mut run = || {
         let start = Instant::now();
+        count::on(Side::Run);
         let end = tilgurap::numbers::run(7, &bytes, &mut out, &mut fx);
+        count::off(Side::Run);
         let spent = nanoseconds(start.elapsed());
         assert_eq!((end.number, end.place), (0, bytes.len() as u64));
         spent
     };
-    // the first brings it all near
-    run();
-    run()
+    (0..times).map(|_| run()).fold(0.0, |_, last| last)
 }
 
 /// What an event of that kind takes in a run: a run with them and one without.
@@ -591,11 +618,58 @@ fn ratio(values: Vec<f64>) -> String {
     format!("{median:6.2} ({low:.2} to {high:.2})")
 }
 
+/// What one side runs for each kind and for the mixed day: a file of callgrind's for each, and how many events they were.
+#[cfg(feature = "count")]
+fn count_instructions(side: Side) {
+    // what the requests themselves take
+    count::start(side);
+    for _ in 0..1_000 {
+        count::on(side);
+        count::off(side);
+    }
+    count::dump();
+    println!("nothing\t1000");
+    for kind in &KINDS {
+        count::start(side);
+        let events = if side == Side::Run {
+            let (before, timed) = (kind.run)();
+            run_once(&before);
+            count::dump();
+            println!("before {}\t{}", kind.name, timed.len());
+            count::start(side);
+            run_once(&[&before[..], &timed[..]].concat());
+            timed.len() as u64
+        } else {
+            let mut both = Both::new(0.0);
+            (kind.batch)(&mut both);
+            both.timed
+        };
+        count::dump();
+        println!("{}\t{events}", kind.name);
+    }
+    let (name, pieces) = RUNS[RUNS.len() - 1];
+    count::start(side);
+    let ran = run(pieces, 0.0);
+    count::dump();
+    println!("{name}\t{}", ran.events);
+}
+
 fn main() {
+    #[cfg(feature = "count")]
+    match std::env::args().nth(1).as_deref() {
+        Some("rust") => return count_instructions(Side::Rust),
+        Some("steps") => return count_instructions(Side::Steps),
+        Some("run") => return count_instructions(Side::Run),
+        Some("instructions") => {
+            let names = KINDS.iter().map(|kind| kind.name);
+            let names: Vec<&str> = names.chain([RUNS[RUNS.len() - 1].0]).collect();
+            compare::instructions::table(&names).expect("valgrind counts");
+            return;
+        }
+        _ => {}
+    }
     let clock = clock();
-    println!(
-        "reading the clock twice: {clock:.1} ns on average, taken off each event on both sides"
-    );
+    println!("reading the clock twice: {clock:.0} ns, taken off each event on both sides");
     let count = 20_000;
     let over = nanoseconds(oracle::hand_overs(count)) / f64::from(count);
     println!("a thread's hand-over, there and back: {over:.0} ns, in no figure below\n");

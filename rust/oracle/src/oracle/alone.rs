@@ -12,6 +12,7 @@ use syscall::schemev2::{Opcode, Sqe, SqeFlags};
 use super::{Oracle, clean, description};
 use crate::context::Context;
 use crate::context::memory::PageSpan;
+use crate::count;
 use crate::machine::{Machine, OnSwitch};
 use crate::scheme::CallerCtx;
 use crate::scheme::KernelScheme;
@@ -102,6 +103,7 @@ impl Oracle {
         let first = meanwhile.clone();
         let switch = OnSwitch::Then(Box::new(move || first.first()));
         self.machine.clock(true);
+        count::part(0);
         self.machine.run_as(&context, || {
             self.machine.run_until(switch, || self.enter_alone(event));
         });
