@@ -1,3 +1,4 @@
 pub mod Each
 pub mod Walk
+pub mod Counted
 pub mod Laws

@@ -8,8 +8,8 @@ use native.Mathlib.Numerals.{add-one}
 use native.Mathlib.Decide.{ℕ-discrete, decLt}
 use native.Mathlib.Nat.{add-zero}
 use lib.Dec.{ltb, eqb}
-use lib.ListN.{getD, set, length, take, drop, length-set, List·getD-eq-default, drop-of-length-le}
-use lib.Seq.{sets, drop-cons, take-suc, set-out, getD-set-same, getD-set-other}
+use lib.ListN.{getD, set, length, take, drop, List·getD-eq-default, drop-of-length-le}
+use lib.Seq.{sets, drop-cons, take-suc, getD-set-same, getD-set-other}
 use borrow.Author.Tests.{lt-ltb, le-ltb, eq-eqb, ne-eqb, ltb-true, eqb-true, eqb-false}
 use Rattle.ids.specs.declared.Description.{Description}
 use Rattle.fd_list.specs.declared.List.{List as Sent}
@@ -24,7 +24,7 @@ use Rattle.take_holds.specs.declared.TakeAnswer.the-variants as take
 use Rattle.take_holds.specs.Take.{takenAs, badIn, bad, takeOf}
 
 abbrev pub full : Holds → List ℕ → List Description → ℕ → Taken
-full h left at n = cond (ltb 16 n) (takenAs take.TooMany [] h) (record { answer = take.Taken; list = record { at = at; len = n }; holds = holdsWith (h .holds) left })
+full h left at n = record { answer = take.Taken; list = record { at = at; len = n }; holds = holdsWith (h .holds) left }
 
 abbrev pub takeOn : Holds → List ℕ → List Description → ℕ → List ℕ → Taken
 takeOn h left at i [] = full h left at i
@@ -41,20 +41,16 @@ ltb-ext a b c d f g = go (decLt a b)
         go₂ z (yes q) = absurd (z q)
         go₂ z (no q) = omega arith
 
-or-assoc : (a b c : Bool) → (a || b) || c ≡ a || (b || c)
-or-assoc true b c = refl
-or-assoc false b c = refl
-
 any-ext : (p q : ℕ → Bool) → ((e : ℕ) → p e ≡ q e) → (ds : List ℕ) → any p ds ≡ any q ds
 any-ext p q f [] = refl
 any-ext p q f (d ∷ ds) = rw (f d, any-ext p q f ds)
 
-or-true : (b : Bool) → b || true ≡ true
+pub or-true : (b : Bool) → b || true ≡ true
 or-true true = refl
 or-true false = refl
 
 -- what stands in a list at all decides `any`
-any-at : (p : ℕ → Bool) (d : ℕ) (ds : List ℕ) → p d ≡ true → 0 < times d ds → any p ds ≡ true
+pub any-at : (p : ℕ → Bool) (d : ℕ) (ds : List ℕ) → p d ≡ true → 0 < times d ds → any p ds ≡ true
 any-at p d [] e b = absurd (omega arith)
 any-at p d (x ∷ ds) e b = go (any-at p d ds e) (ℕ-discrete x d)
   where
@@ -126,8 +122,17 @@ walked h left at i (d ∷ ds) = go (walked h (less left d) (set at i (desc d)) (
     go w true s = rw (unheld-bad (h .holds) left d ds s) refl
     go w false s = rw (go-on (h .holds) left d ds s) (w ∙ ap (λ (n : ℕ). cond (any (badIn (h .holds) (less left d) ds) ds) (takenAs take.BadArgument [] h) (full h (lessAll (less left d) ds) (sets (set at i (desc d)) (suc i) (map desc ds)) n)) (let e : suc i + length ds ≡ i + suc (length ds) = omega arith in e))
 
-pub take-is : (h : Holds) (ws : List ℕ) → takeOn h (h .outside) blank 0 ws ≡ takeOf h ws
-take-is h ws = walked h (h .outside) blank 0 ws ∙ ap (λ (n : ℕ). cond (any (bad h ws) ws) (takenAs take.BadArgument [] h) (full h (lessAll (h .outside) ws) (sets blank 0 (map desc ws)) n)) (let e : 0 + length ws ≡ length ws = omega arith in e)
+pub take-is : (h : Holds) (ws : List ℕ) → length ws ≤ 16 → takeOn h (h .outside) blank 0 ws ≡ takeOf h ws
+take-is h ws b =
+    let e : 0 + length ws ≡ length ws = omega arith in
+    walked h (h .outside) blank 0 ws ∙ rw (e, le-ltb 16 (length ws) b) refl
+
+pub take-long : (h : Holds) (ws : List ℕ) → 16 < length ws → (a : TakeAnswer) → a ≡ cond (any (bad h ws) ws) take.BadArgument take.TooMany → takenAs a [] h ≡ takeOf h ws
+take-long h ws b a e = rw (e, lt-ltb 16 (length ws) b) (go (any (bad h ws) ws))
+  where
+    go : (t : Bool) → takenAs (cond t take.BadArgument take.TooMany) [] h ≡ cond t (takenAs take.BadArgument [] h) (takenAs take.TooMany [] h)
+    go true = refl
+    go false = refl
 
 -- what the first i words leave of the outside counts
 abbrev pub leftOf : Holds → List ℕ → ℕ → List ℕ
@@ -135,9 +140,6 @@ leftOf h ws i = lessAll (h .outside) (take i ws)
 
 left-more : (h : Holds) (ws : List ℕ) (i : ℕ) → i < length ws → leftOf h ws (i + 1) ≡ less (leftOf h ws i) (getD ws i 0)
 left-more h ws i b = rw (add-one i) (ap (lessAll (h .outside)) (take-suc ws i 0 b) ∙ sym (lessAll-then (take i ws) (getD ws i 0 ∷ []) (h .outside)))
-
-pub kept-long : (at : List Description) (i : ℕ) (e : Description) (v : List Description) → length at ≡ 16 → v ≡ set at i e → length v ≡ 16
-kept-long at i e v n q = ap length q ∙ (length-set at i e ∙ n)
 
 -- the loop's turns
 module _ (h : Holds) (at : List Description) (i : ℕ) (ws : List ℕ) (W : Taken) (w : takeOn h (leftOf h ws i) at i (drop i ws) ≡ W) where
@@ -154,27 +156,13 @@ module _ (h : Holds) (at : List Description) (i : ℕ) (ws : List ℕ) (W : Take
     pub take-bad : unheld (h .holds) (leftOf h ws i) (getD ws i 0) ≡ true → takenAs take.BadArgument [] h ≡ W
     take-bad s = turn true s
 
-    module _ (e : Description) (s : (unheld (h .holds) (leftOf h ws i) (getD ws i 0) ≡ false) × (e ≡ desc (getD ws i 0))) (v : List Description) where
-      pub take-more : v ≡ set at i e → takeOn h (leftOf h ws (i + 1)) v (i + 1) (drop (i + 1) ws) ≡ W
-      take-more q =
-          rw (left-more h ws i b, q, s .1) (ap (λ (n : ℕ). takeOn h (less (leftOf h ws i) (getD ws i 0)) (set at i (desc (getD ws i 0))) n (drop (i + 1) ws)) (add-one i)
-          ∙ turn false (s .0))
-
-      -- past the end nothing is stored
-      pub take-past : length at ≤ i → v ≡ at → takeOn h (leftOf h ws (i + 1)) v (i + 1) (drop (i + 1) ws) ≡ W
-      take-past o q = take-more (q ∙ sym (set-out at i e o))
+    pub take-more : (e : Description) → (unheld (h .holds) (leftOf h ws i) (getD ws i 0) ≡ false) × (e ≡ desc (getD ws i 0)) → takeOn h (leftOf h ws (i + 1)) (set at i e) (i + 1) (drop (i + 1) ws) ≡ W
+    take-more e s =
+        rw (left-more h ws i b, s .1) (ap (λ (n : ℕ). takeOn h (less (leftOf h ws i) (getD ws i 0)) (set at i (desc (getD ws i 0))) n (drop (i + 1) ws)) (add-one i)
+        ∙ turn false (s .0))
 
   pub take-end : length ws ≤ i → full h (leftOf h ws i) at i ≡ W
   take-end b = ap (λ (ds : List ℕ). takeOn h (leftOf h ws i) at i ds) (sym (drop-of-length-le ws b)) ∙ w
-
-pub full-over : (h : Holds) (left : List ℕ) (at : List Description) (i : ℕ) → 16 < i → takenAs take.TooMany [] h ≡ full h left at i
-full-over h left at i b = rw (lt-ltb 16 i b) refl
-
-pub full-not : (h : Holds) (left : List ℕ) (at : List Description) (i : ℕ) → i ≤ 16 → record { answer = take.Taken; list = record { at = at; len = i }; holds = holdsWith (h .holds) left } ≡ full h left at i
-full-not h left at i b = rw (le-ltb 16 i b) refl
-
-pub refused-is : (h : Holds) (a : TakeAnswer) (l : Sent) → l ≡ listOf [] → record { answer = a; list = l; holds = h } ≡ takenAs a [] h
-refused-is h a l e = rw e refl
 
 -- a list that was looked at
 pub told : (a : TakeAnswer) (l : Sent) (h : Holds) (W : Taken) → record { answer = a; list = l; holds = h } ≡ W → (a ≡ W .answer) × (l ≡ W .list)
