@@ -45,7 +45,7 @@ pub fn submit(
 ) -> Step
     ensures { λ r. ⌜ Does (now (s .entry)) (now (s .exit)) (on (submitEvent (tag .0) caller opcode flags args pid (now (fds .entry)))) (said (r .answer)) (effectWords (r .effect)) ⌝ }
 {
-    let asked = ask::ask(s, opcode, fds);
+    let asked = ask::ask(s, opcode, &fds[..]);
     if !asked.good {
         let no = asked.answer;
         return step::answered(no);

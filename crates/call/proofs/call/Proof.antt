@@ -55,8 +55,8 @@ waiting-requires c κs = search needs
 uid-gid-hack-merge-requires : tie.Need-uid-gid-hack-merge-requires
 uid-gid-hack-merge-requires c κs = search needs
 
-cast-t26 : tie.Need-cast-t26
-cast-t26 c = search needs
+cast-t28 : tie.Need-cast-t28
+cast-t28 c = search needs
 
 take-requires : tie.Need-take-requires
 take-requires c κs = search needs
@@ -84,7 +84,7 @@ call-spec =
     head-requires
     waiting-requires
     uid-gid-hack-merge-requires
-    cast-t26
+    cast-t28
     take-requires
     begun-requires
     returns-4)

@@ -55,8 +55,8 @@ returns-3 c = let a = c .before .before .before .before .before .before .before 
 waiting-requires : tie.Need-waiting-requires
 waiting-requires c κs = search needs
 
-cast-t24 : tie.Need-cast-t24
-cast-t24 c = search needs
+cast-t26 : tie.Need-cast-t26
+cast-t26 c = search needs
 
 take-requires : tie.Need-take-requires
 take-requires c κs = search needs
@@ -84,7 +84,7 @@ submit-spec =
     answered-requires-3
     returns-3
     waiting-requires
-    cast-t24
+    cast-t26
     take-requires
     went-on-requires
     returns-4)
