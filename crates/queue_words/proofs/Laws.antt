@@ -1,29 +1,22 @@
 -- An entry's eight words, a send by its test, and a read of the ring that was lent. Assumes nothing.
-use Prim.Native.Nat.{ℕ, _+_, _*_, _%_, _<_, _≤_}
+use Prim.Native.Nat.{ℕ, min, _+_, _*_, _%_, _<_, _≤_}
 use mathlib.Core.Path.{_≡_, sym, ap, _∙_}
 use mathlib.Core.Bool.{Bool, cond}
 use mathlib.Core.List.{List, [], _∷_}
 use native.Mathlib.Omega.{arith}
-use lib.ListN.{getD, set}
+use lib.ListN.{getD, set, take, drop, length}
 use lib.Seq.{sets}
 use borrow.Author.Tests.{lt-leb, le-leb}
 use Rattle.schemev2.specs.declared.Sqe.{Sqe}
 use Rattle.schemev2.specs.Entry.{sqeWords}
-use Rattle.layout.specs.Layout.{plainOf}
 use Rattle.layout.specs.Store.{sendWords, stored, send}
 use Rattle.layout.proofs.Regions.{plus}
-use Prim.Native.Nat.{ℕ, _+_, _-_, _<_, _≤_}
-use mathlib.Core.Path.{_≡_, sym, ap, _∙_}
-use mathlib.Core.Bool.{Bool, cond}
-use mathlib.Core.List.{List, [], _∷_}
-use lib.ListN.{getD, set, take, drop, length}
-use lib.Seq.{sets}
 use Rattle.wait_queue.specs.declared.WaitQueue.{WaitQueue}
+use Rattle.wait_queue.specs.Queue.{unread}
 use Rattle.wait_queue_receive.specs.declared.Received.{Received}
 use Rattle.wait_queue_receive.specs.Receive.{receivedOf, copiedOf}
 use Rattle.events.specs.World.{queueOf}
 use Rattle.layout.specs.Layout.{part, plainOf}
-use Rattle.layout.specs.Store.{stored}
 
 -- an entry's eight words, stored four by four
 pub eight :
@@ -46,8 +39,10 @@ module _ (ws : List ℕ) where
 
   -- a read, of the ring that was lent
   pub received :
-      (out : List ℕ) (flags : ℕ) (o : Received) (new : List ℕ)
-      → let q : WaitQueue = record { first = getD ws 969 0; len = getD ws 970 0 } in (o ≡ receivedOf q (length out) flags) × (new ≡ copiedOf q (take 1024 (drop 1036 ws)) out)
+      (out : List ℕ) (flags : ℕ) (o : Received) (new : List ℕ) (n : ℕ)
+      → let q : WaitQueue = record { first = getD ws 969 0; len = getD ws 970 0 } in
+      n ≡ min (length out) (q .len * 64) → new ≡ sets out 0 (take n (unread q (take 1024 (drop 1036 ws)))) → o ≡ receivedOf q (length out) flags
       → (o ≡ receivedOf (queueOf (plainOf ws)) (length out) flags) × (new ≡ copiedOf (queueOf (plainOf ws)) (plainOf ws .words) out)
   unfolding plainOf part
-  received out flags o new e = e
+  received out flags o new n en e d =
+      (d, e ∙ ap (λ (k : ℕ). sets out 0 (take k (unread (queueOf (plainOf ws)) (plainOf ws .words)))) en)

@@ -43,7 +43,7 @@ getD-sets-in (v ∷ vs) l k (suc i) h g =
     there = omega arith
 
 -- words cut in two, and their bytes
-words-split : (q : WaitQueue) (ws : List ℕ) (a b i : ℕ) → wordsFrom q ws i (a + b) ≡ wordsFrom q ws i a ++ wordsFrom q ws (i + a) b
+pub words-split : (q : WaitQueue) (ws : List ℕ) (a b i : ℕ) → wordsFrom q ws i (a + b) ≡ wordsFrom q ws i a ++ wordsFrom q ws (i + a) b
 unfolding wordsFrom
 words-split q ws zero b i = ap₂ (wordsFrom q ws) start count
   where
@@ -142,7 +142,7 @@ stands f n m j h g u = go ((f + n) % 128) ((f + m) % 128) (differ f n m h g)
         by true e = inl (omega (arith, ltb-true a b e))
         by false e = inr (omega (arith, ltb-false a b e, ne))
 
-words-are :
+pub words-are :
     (q : WaitQueue) (ws vs : List ℕ) (i : ℕ) → ((k : ℕ) → k < length vs → wordAt q ws (i + k) ≡ getD vs k 0) → wordsFrom q ws i (length vs) ≡ vs
 unfolding wordsFrom
 words-are q ws [] i f = refl

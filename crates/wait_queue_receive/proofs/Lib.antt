@@ -1,1 +1,1 @@
-pub mod Copying
+pub mod Answers

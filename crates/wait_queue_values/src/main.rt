@@ -2,7 +2,6 @@
 use libc::STDOUT_FILENO;
 use schemev2::Args;
 use schemev2::Sqe;
-use wait_queue::WaitQueue;
 use wait_queue_receive::Received;
 
 fn number(n: u64) {
@@ -49,19 +48,18 @@ fn around(out: &[u8]) {
     io::write_all(STDOUT_FILENO, b"\n");
 }
 
-fn shown(q: WaitQueue, words: &[u64; 1024]) {
+fn shown(s: &[u64; 2060]) {
     let mut out = [255; 100];
-    show(wait_queue_receive::receive(q, words, &mut out, 0));
+    show(queue_words::receive(s, &mut out, 0));
     around(&out);
 }
 
-// A non-blocking read of an empty queue.
-fn none(words: &[u64; 1024], out: &mut [u8]) {
-    let empty = WaitQueue { first: 0, len: 0 };
-    show(wait_queue_receive::receive(empty, words, out, 0x0004_0000));
+// A non-blocking read.
+fn none(s: &[u64; 2060], out: &mut [u8]) {
+    show(queue_words::receive(s, out, 0x0004_0000));
 }
 
-fn queued(q: WaitQueue, words: &mut [u64; 1024], pid: u64) -> WaitQueue {
+fn queued(s: &mut [u64; 2060], pid: u64) {
     let e = Sqe {
         opcode: 5,
         sqe_flags: 0,
@@ -69,24 +67,24 @@ fn queued(q: WaitQueue, words: &mut [u64; 1024], pid: u64) -> WaitQueue {
         args: Args(1, 2, 3, 4, 5, 6),
         caller: pid,
     };
-    let sent = wait_queue::send(q, words, e);
-    sent.queue
+    queue_words::send(s, e);
 }
 
+// A state's words that are all 0 have an empty queue.
 fn main() {
-    let mut words = [0; 1024];
-    let empty = WaitQueue { first: 0, len: 0 };
-    let one = queued(empty, &mut words, 0x1111_1111_1111_1111);
-    shown(one, &words);
-    let two = queued(one, &mut words, 0x2222_2222_2222_2222);
-    shown(two, &words);
-    shown(empty, &words);
+    let mut s = [0; 2060];
+    queued(&mut s, 0x1111_1111_1111_1111);
+    shown(&s);
+    queued(&mut s, 0x2222_2222_2222_2222);
+    shown(&s);
+    let empty = [0; 2060];
+    shown(&empty);
     let mut nothing = [0; 1];
-    none(&words, &mut nothing[..0]);
+    none(&empty, &mut nothing[..0]);
     let mut short = [0; 1];
-    none(&words, &mut short);
+    none(&empty, &mut short);
     let mut less = [0; 63];
-    none(&words, &mut less);
+    none(&empty, &mut less);
     let mut whole = [0; 64];
-    none(&words, &mut whole);
+    none(&empty, &mut whole);
 }

@@ -2,7 +2,7 @@
 use mathlib.Core.Path.{refl}
 use mathlib.Core.Bool.{true, false}
 use borrow.Author.Tests.{eq-eqb, ne-eqb, lt-ltb, le-ltb}
-use Rattle.wait_queue_receive.proofs.Copying.{empty-is}
+use Rattle.wait_queue_receive.proofs.Answers.{empty-is}
 use Rattle.wait_queue_receive.proofs.empty.Statement.{statement}
 use Rattle.wait_queue_receive.proofs.empty.Tie as tie
 

@@ -1,4 +1,4 @@
--- `wait_queue_receive::store_part` meets its contract. What is left to copy from here gives the whole. Assumes nothing.
+-- `queue_words::store_part` meets its contract. What is left to copy from here gives the whole. Assumes nothing.
 use mathlib.Core.Path.{_≡_, refl, sym, ap, _∙_}
 use mathlib.Core.List.{List}
 use Prim.Native.Nat.{ℕ, _+_, _-_, _≤_}
@@ -7,9 +7,9 @@ use native.Mathlib.Nat.{le-antisymm}
 use lib.ListN.{length, getD, take, drop, length-set}
 use lib.Seq.{sets}
 use borrow.Author.Needs.{needs}
-use Rattle.wait_queue_receive.proofs.Copying.{part-start, part-more, part-end}
-use Rattle.wait_queue_receive.proofs.store_part.Statement.{statement}
-use Rattle.wait_queue_receive.proofs.store_part.Tie as tie
+use Rattle.queue_words.proofs.Copying.{part-start, part-more, part-end}
+use Rattle.queue_words.proofs.store_part.Statement.{statement}
+use Rattle.queue_words.proofs.store_part.Tie as tie
 
 abbrev Inv-loop : tie.InvT-loop
 Inv-loop out₀ at w n bytes k₀ out k =
