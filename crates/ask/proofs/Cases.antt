@@ -2,7 +2,8 @@
 use Prim.Native.Nat.{ℕ}
 use mathlib.Core.Path.{_≡_, refl, sym, ap, _∙_}
 use mathlib.Core.Bool.{Bool, true, false, cond, _||_, true≢false, false≢true}
-use mathlib.Core.List.{List, []}
+use mathlib.Core.List.{List, [], _∷_}
+use native.Mathlib.Omega.{arith}
 use lib.ListN.{length}
 use borrow.Author.Tests.{ltb-false}
 use Rattle.answer.specs.declared.Answer.the-variants.{Done, BadArgument, TooManyFds}
@@ -39,6 +40,13 @@ module _ (w : World) (op : ℕ) (ds : List ℕ) where
 
   pub good : badOpcode op ≡ false → badList w ds ≡ false → longList ds ≡ false → (m : ℕ) (l : Fds) → op ≡ m → l ≡ listOf ds → record { good = true; answer = Done; opcode = m; list = l } ≡ askedOf w op ds
   good p q r m l e f = sym (rw (p, q, r, ← e, f) refl)
+
+  pub none : badOpcode op ≡ false → length ds ≡ 0 → (m : ℕ) (l : Fds) → op ≡ m → l ≡ listOf [] → record { good = true; answer = Done; opcode = m; list = l } ≡ askedOf w op ds
+  none p z m l e f = empty ds z
+    where
+      empty : (xs : List ℕ) → length xs ≡ 0 → record { good = true; answer = Done; opcode = m; list = l } ≡ askedOf w op xs
+      empty [] h = sym (rw (p, ← e, f) refl)
+      empty (x ∷ xs) h = absurd (omega (arith, h))
 
   -- the holds of a good list, once they are taken
   pub taken-is : badOpcode op || badList w ds ≡ false → longList ds ≡ false → lessAll (holdsOf w .outside) (numbers (listOf ds)) ≡ takenHolds w ds .outside

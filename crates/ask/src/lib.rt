@@ -34,6 +34,15 @@ pub fn ask(s: &[u64; 2060], opcode: u64, fds: &[u64]) -> Asked
     match raw {
         RawOpcode::Unknown => refused(Answer::BadArgument),
         RawOpcode::Opcode(op) => {
+            if fds.len() == 0 {
+                let none = fd_list::empty();
+                return Asked {
+                    good: true,
+                    answer: Answer::Done,
+                    opcode: op,
+                    list: none,
+                };
+            }
             let looked = hold_words::look(s, fds);
             let answer = looked.answer;
             match answer {

@@ -7,11 +7,9 @@ use native.Mathlib.Omega.{arith}
 use lib.ListN.{take, drop, length}
 use lib.Seq.{sets}
 use Rattle.fd_list.specs.declared.List.{List as Fds}
-use Rattle.fd_list.specs.Lists.{listOf}
 use Rattle.holds.specs.Holds.{holdsWith}
 use Rattle.take_holds.specs.declared.Taken.{Taken}
 use Rattle.take_holds.specs.declared.TakeAnswer.{TakeAnswer}
-use Rattle.take_holds.specs.declared.TakeAnswer.the-variants as take
 use Rattle.take_holds.specs.Take.{takeOf}
 use Rattle.events.specs.World.{holdsOf}
 use Rattle.layout.specs.Layout.{part, plainOf}
@@ -35,11 +33,6 @@ module _ (ws : List ℕ) where
   looked ds xs ys a l ea eo e =
       let q : takeOf (holdsWith xs ys) ds ≡ takeOf (holdsOf (plainOf ws)) ds = λ i. takeOf (holdsWith (ea i) (eo i)) ds in
       (e .0 ∙ ap (λ (t : Taken). t .answer) q, e .1 ∙ ap (λ (t : Taken). t .list) q)
-
-  -- a list of none
-  pub looked-none : (ds : List ℕ) (l : Fds) → length ds ≡ 0 → l ≡ listOf [] → (take.Taken ≡ takeOf (holdsOf (plainOf ws)) ds .answer) × (l ≡ takeOf (holdsOf (plainOf ws)) ds .list)
-  looked-none [] l h e = (refl, e)
-  looked-none (d ∷ ds) l h e = absurd (omega (arith, h))
 
   module _ (size : length ws ≡ 2060) where
     part-long : (a : ℕ) → a + 64 ≤ 2060 → length (take 64 (drop a ws)) ≡ 64

@@ -3,7 +3,6 @@ use fd_list::List;
 use ids::Description;
 use ids::DescriptionFound;
 use take_holds::Looked;
-use take_holds::TakeAnswer;
 ghost use mathlib.Core.Path.{_≡_};
 ghost use mathlib.Core.Bool.{cond};
 ghost use Prim.Native.Nat.{_≤_};
@@ -24,13 +23,6 @@ pub fn look(s: &[u64; 2060], fds: &[u64]) -> Looked
     ensures { λ r. ⌜ (r .answer ≡ takeOf (holdsOf (plainOf (now (s .entry)))) (now (fds .entry)) .answer) × (r .list ≡ takeOf (holdsOf (plainOf (now (s .entry)))) (now (fds .entry)) .list) ⌝ }
 {
     layout::sized(s);
-    if fds.len() == 0 {
-        let none = fd_list::empty();
-        return Looked {
-            answer: TakeAnswer::Taken,
-            list: none,
-        };
-    }
     let t = &s[..];
     let all = &t[layout::ALL..layout::OUTSIDE];
     let out = &t[layout::OUTSIDE..layout::SCHEME];

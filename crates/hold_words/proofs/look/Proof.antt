@@ -1,20 +1,13 @@
 -- `hold_words::look` meets its contract. Assumes nothing.
 use borrow.Author.Needs.{needs}
-use Rattle.hold_words.proofs.Parts.{all-lent, outside-lent, looked, looked-none}
+use Rattle.hold_words.proofs.Parts.{all-lent, outside-lent, looked}
 use Rattle.hold_words.proofs.look.Statement.{statement}
 use Rattle.hold_words.proofs.look.Tie as tie
-use Rattle.fd_list.proofs.empty.Reads as empty-reads
 use Rattle.layout.proofs.sized.Reads as sized-reads
 use Rattle.take_holds.proofs.look.Reads as look-reads
 
 sized-requires : tie.Need-sized-requires
 sized-requires c κs = search needs
-
-empty-requires : tie.Need-empty-requires
-empty-requires c κs = search needs
-
-returns : tie.Need-returns
-returns c = let a = c .before .before .before .before .args in looked-none (a .s .now) (a .fds .now) _ (c .before .if1 .taken) (c .empty .ensures)
 
 sub-all : tie.Need-sub-all
 sub-all c = search needs
@@ -37,16 +30,14 @@ part-out-end c = search needs
 look-requires : tie.Need-look-requires
 look-requires c κs = search needs
 
-returns-2 : tie.Need-returns-2
-returns-2 c = let a = c .before .before .before .before .before .before .before .args in looked (a .s .now) (a .fds .now) _ _ _ _ (all-lent (a .s .now)) (outside-lent (a .s .now)) (c .look .ensures)
+returns : tie.Need-returns
+returns c = let a = c .before .before .before .before .before .before .args in looked (a .s .now) (a .fds .now) _ _ _ _ (all-lent (a .s .now)) (outside-lent (a .s .now)) (c .look .ensures)
 
 pub look-spec : {M : Type 1} → statement M
 look-spec =
     tie.close
     (tie.spec
     sized-requires
-    empty-requires
-    returns
     sub-all
     part-all-start
     part-all-end
@@ -54,4 +45,4 @@ look-spec =
     part-out-start
     part-out-end
     look-requires
-    returns-2)
+    returns)
