@@ -13,7 +13,7 @@ import subprocess
 import sys
 
 PROMPT = "$ ./tilgurap"
-NEEDS_ORIGINALS = ("oracle", "compare", "bench")
+NEEDS_ORIGINALS = ("oracle", "compare", "bench", "instructions")
 
 
 def blocks(text):

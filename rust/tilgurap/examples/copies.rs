@@ -1,5 +1,5 @@
 //! How many copies of the state, or of most of it, each event makes: this program's own `memcpy`
-//! counts those of 4,096 bytes and more. A step is lent the state's words and changes them in place.
+//! counts those of 1,024 bytes and more. A step is lent the state's words and changes them in place.
 
 use std::arch::asm;
 use std::ffi::c_void;
@@ -8,7 +8,7 @@ use std::sync::atomic::{AtomicU64, Ordering};
 use script::Event;
 use tilgurap::numbers::{self, Layer};
 
-const LARGE: usize = 4_096;
+const LARGE: usize = 1_024;
 
 static COPIES: AtomicU64 = AtomicU64::new(0);
 

@@ -41,10 +41,24 @@
 //! # Ok::<(), Refusal>(())
 //! ```
 //!
-//! A step takes at most 1 KiB of stack. Making a new layer, and what looks into the state ([`slot`](Layer::slot),
-//! [`occupied`](Layer::occupied), [`holds`](Layer::holds) and their like, but not [`status`](Layer::status)), takes 16 KiB and
-//! this crate's own copy of the state, some 15 KiB; a run over bytes 48 KiB. `tests/shipped.py` reads the library's part of it from
-//! its code.
+//! # Stack
+//!
+//! What the library's functions take of the stack, in bytes, read from its code by `tests/shipped.py`; the gate holds each step to
+//! 1 KiB, the functions on the whole state to 16 KiB and the run to 48 KiB:
+//!
+//! | function | bytes |
+//! |---|---|
+//! | submit | 480 |
+//! | call | 448 |
+//! | move | 320 |
+//! | wake, write | 248 |
+//! | read | 160 |
+//! | every other step, the readings, the status words | under 100 |
+//! | a fresh state; its words; the state from its words | 4,752; 6,832; 11,408 |
+//! | a run over bytes | 41,168 |
+//!
+//! Making a [`Layer`] and what looks into its state ([`slot`](Layer::slot), [`occupied`](Layer::occupied),
+//! [`holds`](Layer::holds) and their like) hold a copy of the state of their own beside it, some 15 KiB.
 //!
 //! With the feature `script` there is also the module `numbers`, on which the tools that run event
 //! scripts stand.
