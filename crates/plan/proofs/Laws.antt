@@ -21,7 +21,6 @@ use Rattle.handles.specs.Handles.{heldAt, isFree, into, emptied, obtainBy, obta
 use Rattle.holds.specs.declared.Holds.{Holds}
 use Rattle.ids.specs.declared.Description.{Description}
 use Rattle.ids.specs.declared.Handle.{Handle}
-use Rattle.ids.specs.declared.Tag.{Tag}
 use Rattle.parse_cqe.specs.declared.ParsedCqe.{ParsedCqe}
 use Rattle.parse_cqe.specs.declared.ParsedCqe.the-variants as parsed
 use Rattle.reply_parts.specs.declared.Offer.{Offer}
@@ -38,9 +37,10 @@ use Rattle.slot.specs.Slots.{phaseOf, noSpan, vacantSlot, respondedOf, withFdsO
 use Rattle.events.specs.Outcome.{eventEffect}
 use Rattle.events.specs.Entry.{Decision, decided, dropped, closesOf, unmapOf, refusedOf, Offer as EntryOffer, one, namedOf, storedOf, lostOf, servedBy, respondBy, respondOf, inHandle, takenOut, byDescriptor, descriptorOf, isVacant, isWaiting, obtainedAs, obtained, obtainEntryOf, decisionOf}
 use Rattle.plan.specs.declared.Plan.{Plan}
-use Rattle.plan.specs.declared.Wish.{Wish}
-use Rattle.plan.specs.declared.Wish.the-variants as wish
-use Rattle.plan.specs.Plans.{handleIn, wishOf, Holding, repliedOf, effectsBy, decisionBy, Plans}
+use Rattle.wish.specs.declared.Wish.{Wish}
+use Rattle.wish.specs.declared.Wish.the-variants as wish
+use Rattle.wish.specs.Wishes.{handleIn, wishOf}
+use Rattle.plan.specs.Plans.{Holding, repliedOf, effectsBy, decisionBy, Plans}
 
 -- one that moves no handle
 abbrev pub quiet : ℕ → Act → Slot → Effect → PageSpan → Fds → Fds → Bool → Plan
@@ -223,18 +223,6 @@ module _ (v : Slot) (k : Handle) (x : ℕ) where
           (λ i. decisionBy (quiet 0 Store (left i) t noSpan (eo i) (en i) (eg i)) h n)
           ∙ ap (λ (y : List ℕ). decided 0 Store (withFdsOf v (restOf (v .fds))) (dropped h (d .0 ∷ [])) n (y ++ closes (only (closing Unusable) (lasts (h .holds) (d .0 ∷ []))))) et
           ∙ obtained-by false h n (free-is false w n z)
-
--- what an entry wishes, by its case
-pub wish-is : (p q : ParsedCqe) (x : ℕ) → p ≡ q → wishOf q x ≡ wishOf p x
-wish-is p q x e = ap (λ (y : ParsedCqe). wishOf y x) (sym e)
-
-pub wish-none : (p : ParsedCqe) (t : Tag) (k : Handle) (x : ℕ) → p ≡ parsed.ResponseWithFd t k → x ≡ 0 → wish.No ≡ wishOf p x
-wish-none p t k x e z =
-    sym (ap (λ (b : Bool). cond b wish.No (wish.Reply (t .0) (offer.Fd (x - 1)))) (eq-eqb x 0 z)) ∙ wish-is p (parsed.ResponseWithFd t k) x e
-
-pub wish-one : (p : ParsedCqe) (t : Tag) (k : Handle) (x : ℕ) → p ≡ parsed.ResponseWithFd t k → (x ≡ 0 → ⊥) → wish.Reply (t .0) (offer.Fd (x - 1)) ≡ wishOf p x
-wish-one p t k x e z =
-    sym (ap (λ (b : Bool). cond b wish.No (wish.Reply (t .0) (offer.Fd (x - 1)))) (ne-eqb x 0 z)) ∙ wish-is p (parsed.ResponseWithFd t k) x e
 
 -- an entry by what it wishes
 abbrev wishedOf : Wish → Slot → ℕ → Holds → Handles → Decision

@@ -1,7 +1,7 @@
 -- A completion entry as a plan on one slot and numbers: the decision that it comes to, whatever the counts and the handles are.
-use Prim.Native.Nat.{ℕ, suc, _-_}
+use Prim.Native.Nat.{ℕ, suc}
 use mathlib.Core.Path.{_≡_}
-use mathlib.Core.Bool.{true, false, cond}
+use mathlib.Core.Bool.{cond}
 use mathlib.Core.List.{List, _++_}
 use lib.Dec.{eqb}
 use lib.ListN.{set}
@@ -13,39 +13,11 @@ use Rattle.fd_list.specs.Lists.{numbers}
 use Rattle.handles.specs.declared.Handles.{Handles}
 use Rattle.handles.specs.Handles.{handlesWith, heldAt}
 use Rattle.holds.specs.declared.Holds.{Holds}
-use Rattle.parse_cqe.specs.declared.ParsedCqe.{ParsedCqe}
-use Rattle.parse_cqe.specs.declared.ParsedCqe.the-variants as parsed
 use Rattle.reply_parts.specs.declared.Offer.{Offer}
 use Rattle.reply_parts.specs.declared.Offer.the-variants as offer
 use Rattle.slot.specs.declared.Slot.{Slot}
 use Rattle.events.specs.Entry.{Decision, decided, dropped, closesOf, unmapOf, result, listed, respondOf, byDescriptor}
 use Rattle.plan.specs.declared.Plan.{Plan}
-use Rattle.plan.specs.declared.Wish.{Wish}
-use Rattle.plan.specs.declared.Wish.the-variants as wish
-
--- the handle that an entry names, 64 for none
-abbrev pub handleIn : ParsedCqe → ℕ
-handleIn (parsed.TriggerFevent number flags) = 64
-handleIn (parsed.RegularResponse t r x) = 64
-handleIn (parsed.ResponseWithFd t k) = k .0
-handleIn (parsed.ResponseWithMultipleFds t c) = 64
-handleIn (parsed.ObtainFd t flags k) = k .0
-handleIn (parsed.RespondAndNotifyOnDetach t r x) = 64
-handleIn parsed.UnknownKind = 64
-handleIn parsed.UnknownEventFlags = 64
-handleIn parsed.UnknownObtainFlags = 64
-
--- what an entry wishes, where its handle holds x
-abbrev pub wishOf : ParsedCqe → ℕ → Wish
-wishOf (parsed.TriggerFevent number flags) x = wish.Event number flags
-wishOf (parsed.RegularResponse t r e) x = wish.Reply (t .0) (offer.Regular r e false)
-wishOf (parsed.ResponseWithFd t k) x = cond (eqb x 0) wish.No (wish.Reply (t .0) (offer.Fd (x - 1)))
-wishOf (parsed.ResponseWithMultipleFds t c) x = wish.Reply (t .0) offer.Listed
-wishOf (parsed.ObtainFd t flags k) x = wish.Obtain
-wishOf (parsed.RespondAndNotifyOnDetach t r e) x = wish.Reply (t .0) (offer.Regular r e true)
-wishOf parsed.UnknownKind x = wish.No
-wishOf parsed.UnknownEventFlags x = wish.No
-wishOf parsed.UnknownObtainFlags x = wish.No
 
 -- a description comes out of the handle that holds it
 abbrev pub Holding : Offer → ℕ → Type 0

@@ -10,13 +10,15 @@ use slot::Act;
 use slot::PageSpan;
 use slot::Phase;
 use slot::Slot;
+use wish::Wish;
 ghost use mathlib.Core.Path.{_≡_};
 ghost use Prim.Native.Nat.{ℕ, suc};
 ghost use mathlib.Core.Bool.{_&&_};
 ghost use lib.Dec.{leb, eqb};
 ghost use Rattle.events.specs.Entry.{refusedOf, one, respondOf, byDescriptor, obtainEntryOf, decisionOf};
 ghost use Rattle.reply_parts.specs.Parts.{offered};
-ghost use Rattle.plan.specs.Plans.{handleIn, wishOf, Holding, repliedOf, Plans};
+ghost use Rattle.wish.specs.Wishes.{handleIn};
+ghost use Rattle.plan.specs.Plans.{Holding, repliedOf, Plans};
 
 // 0 or the refusal's number; what becomes of the slot, and the one to store; a wake or an event, or none; the span to unmap;
 // the list that is dropped, whose closes follow; the reply's own, dropped after it, and whether closes follow; the handle that
@@ -33,47 +35,6 @@ pub struct Plan {
     pub moves: bool,
     pub handle: Handle,
     pub held: u64,
-}
-
-// What an entry wishes of its slot: an event of its own, a reply with its tag, a description into a handle, or nothing that can be
-// had. One place then responds, whatever kind the reply has.
-pub enum Wish {
-    Event(u64, u64),
-    Reply(u64, Offer),
-    Obtain,
-    No,
-}
-
-// A reply out of an empty handle is none.
-fn wished(p: ParsedCqe, held: u64) -> Wish
-    ensures { λ r. ⌜ r ≡ wishOf p held ⌝ }
-{
-    match p {
-        ParsedCqe::TriggerFevent { number, flags } => Wish::Event(number, flags),
-        ParsedCqe::RegularResponse { tag, res, extra0 } => {
-            let offer = Offer::Regular(res, extra0, false);
-            return Wish::Reply(tag.0, offer);
-        }
-        ParsedCqe::ResponseWithFd { tag, fd } => {
-            if held == 0 {
-                return Wish::No;
-            }
-            return Wish::Reply(tag.0, Offer::Fd(held - 1));
-        }
-        ParsedCqe::ResponseWithMultipleFds { tag, num_fds } => Wish::Reply(tag.0, Offer::Listed),
-        ParsedCqe::ObtainFd {
-            tag,
-            flags,
-            dst_fd_or_ptr,
-        } => Wish::Obtain,
-        ParsedCqe::RespondAndNotifyOnDetach { tag, res, extra0 } => {
-            let offer = Offer::Regular(res, extra0, true);
-            return Wish::Reply(tag.0, offer);
-        }
-        ParsedCqe::UnknownKind => Wish::No,
-        ParsedCqe::UnknownEventFlags => Wish::No,
-        ParsedCqe::UnknownObtainFlags => Wish::No,
-    }
 }
 
 // Nothing changes.
@@ -262,33 +223,12 @@ fn obtain(v: Slot, fd: Handle, held: u64) -> Plan
     }
 }
 
-// The handle that an entry names; over 63 for none.
-pub fn handle_in(p: ParsedCqe) -> Handle
-    ensures { λ r. ⌜ r .0 ≡ handleIn p ⌝ }
-{
-    match p {
-        ParsedCqe::ResponseWithFd { tag, fd } => fd,
-        ParsedCqe::ObtainFd {
-            tag,
-            flags,
-            dst_fd_or_ptr,
-        } => dst_fd_or_ptr,
-        ParsedCqe::TriggerFevent { number, flags } => ids::NO_HANDLE,
-        ParsedCqe::RegularResponse { tag, res, extra0 } => ids::NO_HANDLE,
-        ParsedCqe::ResponseWithMultipleFds { tag, num_fds } => ids::NO_HANDLE,
-        ParsedCqe::RespondAndNotifyOnDetach { tag, res, extra0 } => ids::NO_HANDLE,
-        ParsedCqe::UnknownKind => ids::NO_HANDLE,
-        ParsedCqe::UnknownEventFlags => ids::NO_HANDLE,
-        ParsedCqe::UnknownObtainFlags => ids::NO_HANDLE,
-    }
-}
-
 // `handle_parsed`: v stands at the entry's tag, and the handle that it names holds `held`.
 pub fn handle_parsed(p: ParsedCqe, v: Slot, held: u64) -> Plan
     ensures { λ r. ⌜ Plans r (handleIn p) held (λ h n. decisionOf p v h n) ⌝ }
 {
-    let fd = handle_in(p);
-    let w = wished(p, held);
+    let fd = wish::handle_in(p);
+    let w = wish::wished(p, held);
     match w {
         Wish::Event(number, flags) => {
             let none = fd_list::empty();

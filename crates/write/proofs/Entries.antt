@@ -24,7 +24,8 @@ use Rattle.packed.proofs.Changes.{after-is}
 use Rattle.packed.proofs.Fit.{entry-fits}
 use Rattle.carry_out.specs.Held.{heldStores}
 use Rattle.plan.specs.declared.Plan.{Plan}
-use Rattle.plan.specs.Plans.{handleIn, effectsBy, decisionBy, Plans}
+use Rattle.wish.specs.Wishes.{handleIn}
+use Rattle.plan.specs.Plans.{effectsBy, decisionBy, Plans}
 use Rattle.step.proofs.Tests.{slot-of-in, put-of, vacate-of}
 use Rattle.write.specs.Writing.{decisionAt, Enters}
 

@@ -50,7 +50,7 @@ fn entry(s: &mut [u64; 2060], e: Cqe, fx: &mut [u64], at: usize) -> Entered
     let asked = parse_cqe::parse_cqe(e);
     let n = ids::slot_of(Tag(e.tag as u64));
     let v = slot_load::load(s, n);
-    let k = plan::handle_in(asked);
+    let k = wish::handle_in(asked);
     let held = handle_words::held_at(s, k);
     let p = plan::handle_parsed(asked, v, held);
     let j = carry_out::carry_out(s, p, fx, at);

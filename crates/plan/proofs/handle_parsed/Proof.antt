@@ -4,11 +4,11 @@ use Rattle.plan.proofs.Laws.{asked, event-is}
 use Rattle.plan.proofs.handle_parsed.Statement.{statement}
 use Rattle.plan.proofs.handle_parsed.Tie as tie
 use Rattle.fd_list.proofs.empty.Reads as empty-reads
-use Rattle.plan.proofs.handle_in.Reads as handle-in-reads
+use Rattle.wish.proofs.handle_in.Reads as handle-in-reads
 use Rattle.plan.proofs.obtain.Reads as obtain-reads
 use Rattle.plan.proofs.refused.Reads as refused-reads
 use Rattle.plan.proofs.reply.Reads as reply-reads
-use Rattle.plan.proofs.wished.Reads as wished-reads
+use Rattle.wish.proofs.wished.Reads as wished-reads
 
 handle-in-requires : tie.Need-handle-in-requires
 handle-in-requires c κs = search needs

@@ -9,7 +9,7 @@ use Rattle.write.proofs.entry.Statement.{statement}
 use Rattle.write.proofs.entry.Tie as tie
 use Rattle.ids.proofs.slot_of.Reads as slot-of-reads
 use Rattle.parse_cqe.proofs.parse_cqe.Reads as parse-cqe-reads
-use Rattle.plan.proofs.handle_in.Reads as handle-in-reads
+use Rattle.wish.proofs.handle_in.Reads as handle-in-reads
 use Rattle.plan.proofs.handle_parsed.Reads as handle-parsed-reads
 use Rattle.carry_out.proofs.carry_out.Reads as carry-out-reads
 use Rattle.write.proofs.is_byte.Reads as is-byte-reads

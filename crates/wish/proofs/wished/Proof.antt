@@ -1,8 +1,8 @@
--- `plan::wished` meets its contract. Assumes nothing.
+-- `wish::wished` meets its contract. Assumes nothing.
 use borrow.Author.Needs.{needs}
-use Rattle.plan.proofs.Laws.{wish-is, wish-none, wish-one}
-use Rattle.plan.proofs.wished.Statement.{statement}
-use Rattle.plan.proofs.wished.Tie as tie
+use Rattle.wish.proofs.Cases.{wish-is, wish-none, wish-one}
+use Rattle.wish.proofs.wished.Statement.{statement}
+use Rattle.wish.proofs.wished.Tie as tie
 
 enum-known-p : tie.Need-enum-known-p
 enum-known-p c = search needs
