@@ -1,6 +1,6 @@
 #!/usr/bin/env python3
 """What is read from the code of the static library: each exported function's stack need, and that no step copies or clears 1,024
-bytes or more by a call of memcpy or memset. The stack need is that of the frames on the deepest way of calls, with return
+bytes or more by a call of memcpy or memset with a constant size, as a copy of the state or of a part of it is. The stack need is that of the frames on the deepest way of calls, with return
 addresses; for C's own functions 64 bytes are reckoned. Fails where a function needs more than the host's documentation
 (rust/tilgurap/src/lib.rs) says.
 

@@ -21,6 +21,7 @@ pub fn call(
 ) -> Step
     ensures { λ r. ⌜ Does (now (s .entry)) (now (s .exit)) (on (callEvent caller opcode args uid gid pid (now (fds .entry)))) (said (r .answer)) (effectWords (r .effect)) ⌝ }
 {
+    // lent anew: its pointer and length are then loaded apart, and not as one right after they were stored
     let asked = ask::ask(s, opcode, &fds[..]);
     if !asked.good {
         let no = asked.answer;

@@ -45,6 +45,7 @@ pub fn submit(
 ) -> Step
     ensures { λ r. ⌜ Does (now (s .entry)) (now (s .exit)) (on (submitEvent (tag .0) caller opcode flags args pid (now (fds .entry)))) (said (r .answer)) (effectWords (r .effect)) ⌝ }
 {
+    // lent anew: its pointer and length are then loaded apart, and not as one right after they were stored
     let asked = ask::ask(s, opcode, &fds[..]);
     if !asked.good {
         let no = asked.answer;
