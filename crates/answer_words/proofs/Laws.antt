@@ -21,26 +21,11 @@ use Rattle.step.specs.Does.{Does}
 use Rattle.answer_words.specs.declared.AnswerWords.{AnswerWords}
 use Rattle.answer_words.specs.declared.StepWords.{StepWords}
 use Rattle.answer_words.specs.declared.WakeWords.{WakeWords}
-use Rattle.answer_words.specs.Words.{kindIn, numberIn, broughtBy, wordsOf, responseWords, replyOf, manyIn, fdsOf, effectOf, Settled, SettledWake}
+use Rattle.answer_words.specs.Words.{wordsOf, responseWords, replyOf, manyIn, fdsOf, effectOf, Settled, SettledWake}
 
--- what is told of a case is told of the answer that is that case
-pub cased : (f : Answer → ℕ) (r : Response) (n : ℕ) (x a : Case) → n ≡ f (saidWith r x) → a ≡ x → n ≡ f (saidWith r a)
-cased f r n x a p q = p ∙ sym (ap (λ (y : Case). f (saidWith r y)) q)
-
--- the words, from what is told one at a time
-pub refused-words : (a : Answer) (k n : ℕ) (w : AnswerWords) → k ≡ kindIn a → k ≡ 1 → n ≡ numberIn a → w ≡ record { kind = 1; value = n } → w ≡ wordsOf a
-refused-words (ok v) k n w p q e f = absurd (omega (arith, p, q))
-refused-words (no j) k n w p q e f = f ∙ ap (λ (x : ℕ). record { kind = 1; value = x }) e
-refused-words wait k n w p q e f = absurd (omega (arith, p, q))
-refused-words blocked k n w p q e f = absurd (omega (arith, p, q))
-refused-words (reply r) k n w p q e f = absurd (omega (arith, p, q))
-
-pub other-words : (a : Answer) (k v : ℕ) → k ≡ kindIn a → (k ≡ 1 → ⊥) → v ≡ broughtBy a → record { kind = k; value = v } ≡ wordsOf a
-other-words (ok w) k v p q e = λ i. record { kind = p i; value = e i }
-other-words (no j) k v p q e = absurd (q p)
-other-words wait k v p q e = λ i. record { kind = p i; value = e i }
-other-words blocked k v p q e = λ i. record { kind = p i; value = e i }
-other-words (reply r) k v p q e = λ i. record { kind = p i; value = e i }
+-- the words of a case are those of the answer that is that case
+pub cased : (r : Response) (w : AnswerWords) (x a : Case) → w ≡ wordsOf (saidWith r x) → a ≡ x → w ≡ wordsOf (saidWith r a)
+cased r w x a p q = p ∙ sym (ap (λ (y : Case). wordsOf (saidWith r y)) q)
 
 -- the words of an answer and an effect settle the event that they are of
 module _ (ws xs : List ℕ) (e : Event) (a : Answer) (fx : List ℕ) (d : Does ws xs e a fx) where

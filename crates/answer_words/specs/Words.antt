@@ -25,24 +25,6 @@ wordsOf wait = record { kind = 2; value = 0 }
 wordsOf blocked = record { kind = 3; value = 0 }
 wordsOf (reply r) = record { kind = 4; value = 0 }
 
--- its kind, its number and what it brings, one at a time
-abbrev pub kindIn : Answer → ℕ
-kindIn a = wordsOf a .kind
-
-abbrev pub numberIn : Answer → ℕ
-numberIn (ok v) = 0
-numberIn (no k) = k
-numberIn wait = 0
-numberIn blocked = 0
-numberIn (reply r) = 0
-
-abbrev pub broughtBy : Answer → ℕ
-broughtBy (ok v) = v
-broughtBy (no k) = 0
-broughtBy wait = 0
-broughtBy blocked = 0
-broughtBy (reply r) = 0
-
 -- the reply: 0 a success, 1 an error, 2 a descriptor, 3 many, which stand in the list
 abbrev pub responseWords : Response → Reply
 responseWords (success w x n) = record { kind = 0; extra0 = x; notice = n; word = w }

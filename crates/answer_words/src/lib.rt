@@ -13,7 +13,7 @@ ghost use Rattle.events.specs.Outcome.{Response, reply as replied, saidWith, sa
 ghost use Rattle.events.specs.Event.{Event};
 ghost use Rattle.events.specs.Wake.{responseFrom};
 ghost use Rattle.step.specs.Does.{Does};
-ghost use Rattle.answer_words.specs.Words.{kindIn, numberIn, broughtBy, wordsOf, replyOf, fdsOf, effectOf, Settled, SettledWake};
+ghost use Rattle.answer_words.specs.Words.{wordsOf, replyOf, fdsOf, effectOf, Settled, SettledWake};
 
 // `kind` 0 done, with a value; 1 refused, with its number; 2 would wait; 3 still blocked; 4 a reply, which stands beside it.
 #[repr(C)]
@@ -55,105 +55,32 @@ pub fn refused(number: u64) -> AnswerWords
     }
 }
 
-// The kind of an answer, its number where it refuses, and what it brings where it does not: three tables, so that no step has to
-// jump by its answer.
-fn kind_of(a: Answer) -> u64
-    ensures { λ o. ⌜ ((r : Response) → o ≡ kindIn (saidWith r a)) ⌝ }
-{
-    match a {
-        Answer::Done => 0,
-        Answer::Given(_) => 0,
-        Answer::Submitted(_) => 0,
-        Answer::Bytes(_) => 0,
-        Answer::Descriptions(_) => 0,
-        Answer::WouldWait => 2,
-        Answer::Blocked => 3,
-        Answer::Replied => 4,
-        Answer::NotFound => 1,
-        Answer::NoCaller => 1,
-        Answer::Interrupted => 1,
-        Answer::Again => 1,
-        Answer::Invalid => 1,
-        Answer::BadDescriptor => 1,
-        Answer::NotSupported => 1,
-        Answer::NotYours => 1,
-        Answer::Full => 1,
-        Answer::QueueFull => 1,
-        Answer::ShortWords => 1,
-        Answer::BadArgument => 1,
-        Answer::TooManyFds => 1,
-        Answer::TooManyHolds => 1,
-    }
-}
-
-fn number_of(a: Answer) -> u64
-    ensures { λ o. ⌜ ((r : Response) → o ≡ numberIn (saidWith r a)) ⌝ }
-{
-    match a {
-        Answer::Done => 0,
-        Answer::Given(_) => 0,
-        Answer::Submitted(_) => 0,
-        Answer::Bytes(_) => 0,
-        Answer::Descriptions(_) => 0,
-        Answer::WouldWait => 0,
-        Answer::Blocked => 0,
-        Answer::Replied => 0,
-        Answer::NotFound => 2,
-        Answer::NoCaller => 3,
-        Answer::Interrupted => 4,
-        Answer::Again => 11,
-        Answer::Invalid => 22,
-        Answer::BadDescriptor => 77,
-        Answer::NotSupported => 95,
-        Answer::NotYours => 201,
-        Answer::Full => 202,
-        Answer::QueueFull => 203,
-        Answer::ShortWords => 204,
-        Answer::BadArgument => 205,
-        Answer::TooManyFds => 206,
-        Answer::TooManyHolds => 207,
-    }
-}
-
-fn brought(a: Answer) -> u64
-    ensures { λ o. ⌜ ((r : Response) → o ≡ broughtBy (saidWith r a)) ⌝ }
-{
-    match a {
-        Answer::Done => 0,
-        Answer::Given(tag) => tag.0,
-        Answer::Submitted(tag) => tag.0,
-        Answer::Bytes(n) => n,
-        Answer::Descriptions(n) => n,
-        Answer::WouldWait => 0,
-        Answer::Blocked => 0,
-        Answer::Replied => 0,
-        Answer::NotFound => 0,
-        Answer::NoCaller => 0,
-        Answer::Interrupted => 0,
-        Answer::Again => 0,
-        Answer::Invalid => 0,
-        Answer::BadDescriptor => 0,
-        Answer::NotSupported => 0,
-        Answer::NotYours => 0,
-        Answer::Full => 0,
-        Answer::QueueFull => 0,
-        Answer::ShortWords => 0,
-        Answer::BadArgument => 0,
-        Answer::TooManyFds => 0,
-        Answer::TooManyHolds => 0,
-    }
-}
-
 pub fn words(a: Answer) -> AnswerWords
     ensures { λ o. ⌜ ((r : Response) → o ≡ wordsOf (saidWith r a)) ⌝ }
 {
-    let kind = kind_of(a);
-    if kind == 1 {
-        return refused(number_of(a));
-    }
-    AnswerWords {
-        kind: kind,
-        value: brought(a),
+    match a {
+        Answer::Done => done(0),
+        Answer::Given(tag) => done(tag.0),
+        Answer::Submitted(tag) => done(tag.0),
+        Answer::Bytes(n) => done(n),
+        Answer::Descriptions(n) => done(n),
+        Answer::WouldWait => AnswerWords { kind: 2, value: 0 },
+        Answer::Blocked => AnswerWords { kind: 3, value: 0 },
+        Answer::Replied => AnswerWords { kind: 4, value: 0 },
+        Answer::NotFound => refused(2),
+        Answer::NoCaller => refused(3),
+        Answer::Interrupted => refused(4),
+        Answer::Again => refused(11),
+        Answer::Invalid => refused(22),
+        Answer::BadDescriptor => refused(77),
+        Answer::NotSupported => refused(95),
+        Answer::NotYours => refused(201),
+        Answer::Full => refused(202),
+        Answer::QueueFull => refused(203),
+        Answer::ShortWords => refused(204),
+        Answer::BadArgument => refused(205),
+        Answer::TooManyFds => refused(206),
+        Answer::TooManyHolds => refused(207),
     }
 }
 
@@ -219,9 +146,11 @@ pub fn step_words(done: Step) -> StepWords
 }
 
 // The reply and its list count where one was handed over.
-pub fn wake_words(a: Answer, r: Reply, fds: List, e: Effect) -> WakeWords
-    ensures { λ o. ⌜ ((ws xs : Words ℕ) (v : Event) → Does ws xs v (saidWith (responseFrom r fds) a) (effectWords e) → SettledWake o ws xs v) ⌝ }
+pub fn wake_words(done: Step, r: Reply, fds: List) -> WakeWords
+    ensures { λ o. ⌜ ((ws xs : Words ℕ) (v : Event) → Does ws xs v (saidWith (responseFrom r fds) (done .answer)) (effectWords (done .effect)) → SettledWake o ws xs v) ⌝ }
 {
+    let a = done.answer;
+    let e = done.effect;
     let answer = words(a);
     let fx = effect_words(e);
     if answer.kind == 4 {

@@ -43,7 +43,7 @@ pub fn ask(s: &[u64; 2060], opcode: u64, fds: &[u64]) -> Asked
                     list: none,
                 };
             }
-            let looked = hold_words::look(s, fds);
+            let looked = hold_words::look(s, &fds[..]);
             let answer = looked.answer;
             match answer {
                 TakeAnswer::BadArgument => refused(Answer::BadArgument),

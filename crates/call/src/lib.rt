@@ -11,13 +11,13 @@ ghost use Rattle.events.specs.Event.{on, call as callEvent};
 
 pub fn call(
     s: &mut [u64; 2060],
+    fds: &[u64],
     caller: u32,
     opcode: u64,
     args: Args,
     uid: u32,
     gid: u32,
     pid: u64,
-    fds: &[u64],
 ) -> Step
     ensures { λ r. ⌜ Does (now (s .entry)) (now (s .exit)) (on (callEvent caller opcode args uid gid pid (now (fds .entry)))) (said (r .answer)) (effectWords (r .effect)) ⌝ }
 {

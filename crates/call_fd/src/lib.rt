@@ -63,7 +63,7 @@ fn moved(s: &mut [u64; 2060], metadata: &[u64], list: List, count: usize) -> Ste
 pub fn call_fdwrite(s: &mut [u64; 2060], metadata: &[u64], fds: &[u64]) -> Step
     ensures { λ r. ⌜ Does (now (s .entry)) (now (s .exit)) (on (move (now (metadata .entry)) (now (fds .entry)))) (said (r .answer)) (effectWords (r .effect)) ⌝ }
 {
-    let looked = hold_words::look(s, fds);
+    let looked = hold_words::look(s, &fds[..]);
     let took = looked.answer;
     match took {
         TakeAnswer::BadArgument => step::answered(Answer::BadArgument),

@@ -1,6 +1,6 @@
 -- A wake by its tests; k is the slot number of the tag n. Assumes nothing.
-use Prim.Native.Nat.{ℕ, min, _<_, _≤_}
-use mathlib.Core.Path.{_≡_, refl, sym, ap, ap₂, _∙_}
+use Prim.Native.Nat.{ℕ, zero, suc, min, _<_, _≤_}
+use mathlib.Core.Path.{_≡_, refl, sym, ap, ap₂, _∙_, subst}
 use mathlib.Core.Bool.{Bool, true, false, cond}
 use mathlib.Core.List.{List, [], _∷_}
 use native.Mathlib.Omega.{arith}
@@ -20,12 +20,13 @@ use Rattle.schemev2.specs.declared.Sqe.{Sqe}
 use Rattle.slot.specs.declared.PageSpan.{PageSpan}
 use Rattle.slot.specs.declared.Phase.{Phase}
 use Rattle.slot.specs.declared.Phase.the-variants.{Vacant, Placeholder, Waiting, Responded, Fmap}
+use Rattle.slot.specs.declared.Reply.{Reply}
 use Rattle.slot.specs.declared.Slot.{Slot}
 use Rattle.slot.specs.Slots.{phaseOf, vacantSlot, canceledOf, interruptedOf}
 use Rattle.table.specs.Table.{noSlot}
 use Rattle.events.specs.World.{World, tableOf, holdsOf, queueOf, slotIn, phaseIn, queueFull}
 use Rattle.events.specs.Outcome.{Answer, Response, Outcome, outcome, saidWith, no, blocked, reply, refuse, checked, readable}
-use Rattle.events.specs.Wake.{responseOf, heldIn, cancelEntry, handedOver, interrupted, blockedBy, waitedBy, wokenBy, wakeable, wakeRows}
+use Rattle.events.specs.Wake.{responseBy, responseFrom, responseOf, heldIn, cancelEntry, handedOver, interrupted, blockedBy, waitedBy, wokenBy, wakeable, wakeRows}
 use Rattle.events.specs.Event.{Event, on, wake, step}
 use Rattle.layout.specs.Layout.{plainOf}
 use Rattle.layout.specs.Store.{Store, put, vacate, send, outside, stored, storedAll}
@@ -209,10 +210,24 @@ module _ (ws : List ℕ) (n : Tag) (c killed base count : ℕ) where
         does r Cancel et xs a fx ea ef (ex ∙ λ i. storedAll ws (put (j i) ((eu ∙ ap canceledOf here) i) ∷ send ((eg ∙ ap cancelEntry j) i) ∷ []))
 
     pub handed :
-        (fx : List ℕ) (o : Fds) (xs ys : List ℕ) → d .turn ≡ HandOver → fx ≡ [] → outsideOf (holdsOf w) (numbers o) ≡ outsideOf (holdsOf w) (heldIn (responseOf v))
-        → xs ≡ stored ws (outside (moreAll (holdsOf w .outside) (numbers o))) → ys ≡ stored xs (vacate (k .0)) → Does ws ys e (reply (responseOf v)) fx
-    handed fx o xs ys et ef eo ex ey =
+        (a : Answer) (fx : List ℕ) (o : Fds) (xs ys : List ℕ) → d .turn ≡ HandOver → a ≡ reply (responseOf (slotIn w (n .0))) → fx ≡ [] → outsideOf (holdsOf w) (numbers o) ≡ outsideOf (holdsOf w) (heldIn (responseOf v))
+        → xs ≡ stored ws (outside (moreAll (holdsOf w .outside) (numbers o))) → ys ≡ stored xs (vacate (k .0)) → Does ws ys e a fx
+    handed a fx o xs ys et ea ef eo ex ey =
         let j = not-vacant HandOver et (λ q. omega (arith, q)) in
         let h : moreAll (holdsOf w .outside) (numbers o) ≡ outsideOf (holdsOf w) (heldIn (responseOf (slotIn w (n .0)))) .outside = ap (λ (z : Holds). z .outside) eo ∙ ap (λ (y : Slot). outsideOf (holdsOf w) (heldIn (responseOf y)) .outside) here in
-        does (responseOf v) HandOver et ys (reply (responseOf v)) fx (ap (λ (y : Slot). reply (responseOf y)) here) ef
+        does (responseOf v) HandOver et ys a fx ea ef
         (ey ∙ λ i. stored ((ex ∙ ap (λ (z : List ℕ). stored ws (outside z)) h) i) (vacate (j i)))
+
+-- only many have a list
+pub no-list : (r : Reply) (l m : Fds) → r .kind < 3 → responseFrom r l ≡ responseFrom r m
+no-list r l m h = go (r .kind) h
+  where
+    go : (k : ℕ) → k < 3 → responseBy k r l ≡ responseBy k r m
+    go zero h = refl
+    go (suc zero) h = refl
+    go (suc (suc zero)) h = refl
+    go (suc (suc (suc k))) h = absurd (omega (arith, h))
+
+-- a reply that was looked at before the wake is the one that it hands over
+pub looked-before : (ws xs : List ℕ) (v : Event) (fx : List ℕ) (a : Case) (r s : Response) → r ≡ s → Does ws xs v (saidWith s a) fx → Does ws xs v (saidWith r a) fx
+looked-before ws xs v fx a r s q d = subst (λ (x : Response). Does ws xs v (saidWith x a) fx) (sym q) d

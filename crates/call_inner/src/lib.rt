@@ -1,52 +1,51 @@
 // One turn of `call_inner`'s loop, a wake (src/scheme/user.rs, lines 256 to 392).
 use answer::Answer;
-use effect::Effect;
 use fd_list::List;
 use ids::Tag;
 use slot::PageSpan;
 use slot::Reply;
+use step::Step;
 use wake_decision::Turn;
 ghost use mathlib.Core.Path.{_≡_};
-ghost use mathlib.Core.List.{[]};
 ghost use Rattle.effect.specs.Effect.{effectWords};
 ghost use Rattle.events.specs.Outcome.{saidWith};
-ghost use Rattle.events.specs.Wake.{responseFrom};
+ghost use Rattle.events.specs.Wake.{responseFrom, responseOf};
 ghost use Rattle.events.specs.Event.{on, wake as wakeEvent};
+ghost use Rattle.events.specs.World.{slotIn};
+ghost use Rattle.layout.specs.Layout.{plainOf};
 ghost use Rattle.step.specs.Does.{Does};
 
-// A reply handed over stands beside the answer, with its list.
-pub struct Woken {
-    pub answer: Answer,
+// The reply in a tag's slot, with its list where it is one of many: what a wake hands over, to be looked at before it. The wake
+// does not hand it back itself, since a struct that is stored to be taken apart again costs as much as the wake.
+pub struct Stored {
     pub reply: Reply,
     pub fds: List,
-    pub effect: Effect,
 }
 
-// No reply is handed over.
-fn without_reply(answer: Answer, effect: Effect) -> Woken
-    ensures { λ r. ⌜ r .answer ≡ answer ⌝ }
-    ensures { λ r. ⌜ r .effect ≡ effect ⌝ }
+pub fn stored_reply(s: &[u64; 2060], tag: Tag) -> Stored
+    ensures { λ r. ⌜ responseFrom (r .reply) (r .fds) ≡ responseOf (slotIn (plainOf (now (s .entry))) (tag .0)) ⌝ }
 {
-    let none = fd_list::empty();
-    Woken {
-        answer: answer,
-        reply: Reply {
-            kind: 0,
-            extra0: 0,
-            notice: false,
-            word: 0,
-        },
-        fds: none,
-        effect: effect,
+    let v = slot_load::load(s, ids::slot_of(tag));
+    let reply = v.reply;
+    if reply.kind < 3 {
+        let none = fd_list::empty();
+        return Stored {
+            reply: reply,
+            fds: none,
+        };
+    }
+    let fds = v.fds;
+    Stored {
+        reply: reply,
+        fds: fds,
     }
 }
 
-pub fn wake(s: &mut [u64; 2060], tag: Tag, caller: u32, killed: u64, base: u64, count: u64) -> Woken
-    ensures { λ r. ⌜ Does (now (s .entry)) (now (s .exit)) (on (wakeEvent (tag .0) caller killed base count)) (saidWith (responseFrom (r .reply) (r .fds)) (r .answer)) (effectWords (r .effect)) ⌝ }
+pub fn wake(s: &mut [u64; 2060], tag: Tag, caller: u32, killed: u64, base: u64, count: u64) -> Step
+    ensures { λ r. ⌜ Does (now (s .entry)) (now (s .exit)) (on (wakeEvent (tag .0) caller killed base count)) (saidWith (responseOf (slotIn (plainOf (now (s .entry))) (tag .0))) (r .answer)) (effectWords (r .effect)) ⌝ }
 {
-    let none = effect::none();
     if 1 < killed {
-        return without_reply(Answer::BadArgument, none);
+        return step::answered(Answer::BadArgument);
     }
     let n = ids::slot_of(tag);
     let v = slot_load::load(s, n);
@@ -55,7 +54,7 @@ pub fn wake(s: &mut [u64; 2060], tag: Tag, caller: u32, killed: u64, base: u64, 
     let answer = decided.answer;
     let turn = decided.turn;
     match turn {
-        Turn::Stay => without_reply(answer, none),
+        Turn::Stay => step::answered(answer),
         Turn::Interrupt => {
             let span = PageSpan {
                 base: base,
@@ -63,28 +62,19 @@ pub fn wake(s: &mut [u64; 2060], tag: Tag, caller: u32, killed: u64, base: u64, 
             };
             let w = slot::interrupted(v, span);
             slot_store::put(s, n, w);
-            return without_reply(Answer::Interrupted, none);
+            return step::answered(Answer::Interrupted);
         }
         Turn::Cancel => {
             let w = slot::canceled(v);
             let e = wake_decision::cancel_entry(n);
-            let done = step::went_on(s, n, w, e, Answer::Blocked);
-            let fx = done.effect;
-            return without_reply(Answer::Blocked, fx);
+            return step::went_on(s, n, w, e, Answer::Blocked);
         }
         Turn::HandOver => {
-            let reply = v.reply;
-            let fds = v.fds;
-            let out = wake_decision::holds_in(reply, fds);
+            let out = wake_decision::holds_in(v.reply, v.fds);
             layout::sized(s);
             hold_words::to_outside(s, out);
             slot_store::vacate(s, n);
-            return Woken {
-                answer: Answer::Replied,
-                reply: reply,
-                fds: fds,
-                effect: none,
-            };
+            return step::answered(Answer::Replied);
         }
     }
 }

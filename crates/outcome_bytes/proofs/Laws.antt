@@ -58,19 +58,6 @@ step-runs l m n xs ys zs k r em ek en er = (
   let z : r ≡ length (xs ++ (ys ++ zs)) = omega (arith, ek, er, length-append xs (ys ++ zs)) in z ∙ ap length (joined xs ys zs),
 )
 
--- a read: the answer, no effects and how many bytes, and these
-pub read-runs :
-    (l m n o xs ys zs bs : List ℕ) (k j r : ℕ) → m ≡ sets l 0 xs → k ≡ length xs → n ≡ sets m k (ys ++ zs) → j ≡ k + length (ys ++ zs) → o ≡ sets n j bs
-    → r ≡ j + length bs → (o ≡ sets l 0 (xs ++ ys ++ zs ++ bs)) × (r ≡ length (xs ++ ys ++ zs ++ bs))
-read-runs l m n o xs ys zs bs k j r em ek en ej eo er = (
-  two-runs l n o (xs ++ (ys ++ zs)) bs 0 j (two-runs l m n xs (ys ++ zs) 0 k em (omega (arith, ek)) en) (omega (arith, ek, ej, length-append xs (ys ++ zs))) eo
-      ∙ ap (sets l 0) same,
-  let z : r ≡ length (xs ++ (ys ++ zs) ++ bs) = omega (arith, ek, ej, er, length-append xs (ys ++ zs), length-append (xs ++ (ys ++ zs)) bs) in z ∙ ap length same,
-)
-  where
-    same : xs ++ (ys ++ zs) ++ bs ≡ xs ++ ys ++ zs ++ bs
-    same = ap (λ (l : List ℕ). l ++ bs) (sym (append-assoc xs ys zs))
-
 -- a write: the answer, how many words of effects, these, and no bytes
 pub write-runs :
     (l m n o p xs fx : List ℕ) (k : ℕ) → m ≡ sets l 0 xs → k ≡ length xs → n ≡ sets m k (bytes8 (length fx)) → o ≡ sets n (k + 8) (bytesOf fx)

@@ -119,11 +119,13 @@ pub fn put_step(out: &mut [u8], done: Step) -> usize
 }
 
 // A wake: its reply, where one was handed over.
-pub fn put_woken(out: &mut [u8], a: Answer, r: Reply, fds: List, e: Effect) -> usize
-    ensures { λ o. ⌜ now (out .exit) ≡ sets (now (out .entry)) 0 (told (saidWith (responseFrom r fds) a) (effectWords e) []) ⌝ }
-    ensures { λ o. ⌜ o ≡ length (told (saidWith (responseFrom r fds) a) (effectWords e) []) ⌝ }
+pub fn put_woken(out: &mut [u8], done: Step, r: Reply, fds: List) -> usize
+    ensures { λ o. ⌜ now (out .exit) ≡ sets (now (out .entry)) 0 (told (saidWith (responseFrom r fds) (done .answer)) (effectWords (done .effect)) []) ⌝ }
+    ensures { λ o. ⌜ o ≡ length (told (saidWith (responseFrom r fds) (done .answer)) (effectWords (done .effect)) []) ⌝ }
     ensures { λ o. ⌜ o ≤ 192 ⌝ }
 {
+    let a = done.answer;
+    let e = done.effect;
     let w = answer_words::words(a);
     if w.kind == 4 {
         let k = put_reply(out, r, fds);

@@ -20,7 +20,7 @@ each-take ws (suc n) h = ap (λ (l : List ℕ). l ++ (getD ws n 0 ∷ [])) (each
 pub each-all : (ws : List ℕ) → each (λ i. getD ws i 0) (length ws) ≡ ws
 each-all ws = each-take ws (length ws) (omega arith) ∙ take-length ws
 
--- one more word, one more byte
+-- one more word
 pub word-more :
     (l m n : List ℕ) (f : ℕ → ℕ) (i k at x : ℕ) → m ≡ sets l at (bytesOf (each f i)) → x ≡ f i → k ≡ at + 8 * i → n ≡ sets m k (bytes8 x)
     → n ≡ sets l at (bytesOf (each f (i + 1)))
@@ -30,11 +30,3 @@ word-more l m n f i k at x em ex ek en =
     ∙ ap (λ (b : List ℕ). sets l at (bytesOf (each f i) ++ b)) (sym (append-nil (bytes8 (f i))))
     ∙ ap (sets l at) (sym (bytes-append (each f i) (f i ∷ [])))
     ∙ ap (λ (j : ℕ). sets l at (bytesOf (each f j))) (sym (add-one i))
-
-pub byte-more :
-    (l m n : List ℕ) (f : ℕ → ℕ) (i k at x : ℕ) → m ≡ sets l at (each f i) → x ≡ f i → k ≡ at + i → n ≡ sets m k (x ∷ [])
-    → n ≡ sets l at (each f (i + 1))
-byte-more l m n f i k at x em ex ek en =
-    two-runs l m n (each f i) (x ∷ []) at k em (omega (arith, ek, each-length f i)) en
-    ∙ ap (λ (y : ℕ). sets l at (each f i ++ (y ∷ []))) ex
-    ∙ ap (λ (j : ℕ). sets l at (each f j)) (sym (add-one i))

@@ -1,13 +1,11 @@
 -- One event of a run, by its kind. Assumes nothing.
-use Prim.Native.Nat.{ℕ, zero, suc, min, _+_, _*_, _<_, _≤_}
+use Prim.Native.Nat.{ℕ, min, _+_, _*_, _<_, _≤_}
 use mathlib.Core.Path.{_≡_, refl, sym, ap, _∙_, subst}
-use mathlib.Core.Bool.{Bool, true, false, cond, true≢false}
-use mathlib.Core.List.{List, [], _∷_}
+use mathlib.Core.Bool.{Bool, false, cond, true≢false}
+use mathlib.Core.List.{List, []}
 use native.Mathlib.Omega.{arith}
-use lib.ListN.{length, take, drop, getD}
+use lib.ListN.{length, take, drop}
 use lib.Seq.{sets}
-use lib.Dec.{eqb, ltb}
-use borrow.Author.Tests.{eq-eqb, le-ltb}
 use Rattle.events.specs.World.{World}
 use Rattle.events.specs.Outcome.{Answer}
 use Rattle.events.specs.Event.{reserve, submit, call, generic, stdfs, fmap, close, detach, wake, move, obtain, supply, Event, step}
@@ -21,9 +19,10 @@ use Rattle.record.specs.declared.Record.{Record}
 use Rattle.record.specs.Record.{recordOf, firstAt, secondAt, tailAt, tailOf, nextOf, wordsAt, supplyOf, eventTable, eventNamed, eventOf, eventAt}
 use Rattle.record.proofs.Laws.{all-there}
 use Rattle.run_room.specs.Room.{roomOf}
+use Rattle.run_room.proofs.Rooms.{room-is-read}
 use Rattle.step.specs.Does.{Does}
 use Rattle.dispatch.specs.Dispatch.{tellsMore, Dispatched}
-use Rattle.dispatch.proofs.ByKind.{_&_, Each, looked-up}
+use Rattle.dispatch.proofs.ByKind.{_&_, looked-up}
 use Rattle.run.proofs.Silent.{silent}
 use Rattle.run.specs.Run.{Told, wakeIn, readIn, writeIn, Turned, storedBy}
 
@@ -90,6 +89,10 @@ listed-told ws xs r bs lent xs₁ ys₁ xs₂ ys₂ ex ey size few o a fx d out 
     (subst (λ (v : List ℕ). Does ws xs (eventNamed (r .kind) r xs₂ v bs lent) a fx) ey (subst (λ (v : List ℕ). Does ws xs (eventNamed (r .kind) r v ys₁ bs lent) a fx) ex (subst (λ (b : Bool). Dispatched b ws xs (eventNamed (r .kind) r xs₁ ys₁ bs lent) a fx) o d)))
     eo eu
 
+-- the bytes of a read are among its room
+pub read-fits : (r : Record) (n : ℕ) → r .kind ≡ 15 → roomOf r ≤ n → 192 + min (r .words .0) 8192 ≤ n
+read-fits r n e h = omega (arith, h, room-is-read (r .kind) (r .number) (r .words .0) e)
+
 -- the event of a record at the start of bytes
 module _ (rec fx : List ℕ) (r : Record) (is : r ≡ recordOf rec) where
   abbrev at-record : Record → Event
@@ -119,11 +122,7 @@ module _ (rec fx : List ℕ) (r : Record) (is : r ≡ recordOf rec) where
     turned-wake e t few = turned 14 fx e t refl (omega (arith, few))
 
     pub turned-read : r .kind ≡ 15 → Told (plainOf ws) (plainOf xs) (readIn r) out out' used → used ≤ 192 + min (r .words .0) 8192 → Turned ws xs rec fx fx out out' used
-    turned-read e t few = turned 15 fx e t refl room
-      where
-        room : used ≤ roomOf r
-        room =
-            subst (λ (b : Bool). used ≤ 192 + cond b (min (r .words .0) 8192) 0 + 27 * tailOf r) (sym (eq-eqb (r .kind) 15 e)) (let z : used ≤ 192 + min (r .words .0) 8192 + 27 * tailOf r = omega (arith, few) in z)
+    turned-read e t few = turned 15 fx e t refl (omega (arith, few, room-is-read (r .kind) (r .number) (r .words .0) e))
 
     pub turned-write :
         (fx' : List ℕ) → r .kind ≡ 16 → Told (plainOf ws) (plainOf xs) (writeIn r rec (length fx)) out out' used → fx' ≡ sets fx 0 (storedBy (plainOf ws) (writeIn r rec (length fx)))

@@ -1,10 +1,10 @@
 -- The loop of a run: what was done is the run of the first events. Assumes nothing.
-use Prim.Native.Nat.{ℕ, suc, _+_, _-_, _<_, _≤_}
+use Prim.Native.Nat.{ℕ, _+_, _-_, _<_, _≤_}
 use mathlib.Core.Path.{_≡_, refl, sym, ap, ap₂, _∙_, subst}
 use mathlib.Core.List.{List, [], _∷_, _++_, append-assoc, append-nil}
 use native.Mathlib.Omega.{arith}
-use lib.ListN.{length, set, take, drop, replicate, length-replicate, length-append, length-drop, take-append-drop, drop-of-length-le}
-use lib.Seq.{sets, length-sets, length-take-le, drop-drop}
+use lib.ListN.{length, take, drop, replicate, length-replicate, length-append, length-drop}
+use lib.Seq.{sets, length-sets, drop-drop}
 use Rattle.word_put.proofs.Stores.{sets-then}
 use Rattle.events.specs.World.{World}
 use Rattle.events.specs.Event.{Event, step}
@@ -22,6 +22,7 @@ use Rattle.run_room.specs.Room.{roomOf, needed, leftOf}
 use Rattle.run.specs.Run.{Turned, runOf, storedBy, toldOf, lentAfter, outputOf, wholeEnd}
 use Rattle.run_room.proofs.Rooms.{needed-ends, needed-goes-on, left-there, left-ends, left-all, left-on}
 use Rattle.word_put.proofs.Stores.{part-is}
+use Rattle.run.proofs.Stores.{behind}
 
 -- a run of one event more
 run-more : (es : List Event) (r : Run) (e : Event) → runFrom r (es ++ (e ∷ [])) ≡ next (runFrom r es) e
@@ -31,25 +32,6 @@ run-more (x ∷ es) r e = run-more es (next r x) e
 lent-length : (fx : List ℕ) (ts : List Turn) → length (lentAfter fx ts) ≡ length fx
 lent-length fx [] = refl
 lent-length fx (t ∷ ts) = length-sets (lentAfter fx ts) 0 (storedBy (t .before) (t .event)) ∙ lent-length fx ts
-
--- stores behind a place
-set-behind : (ps ys : List ℕ) (i a : ℕ) → set (ps ++ ys) (length ps + i) a ≡ ps ++ set ys i a
-set-behind [] ys i a = ap (λ (n : ℕ). set ys n a) (let z : 0 + i ≡ i = omega arith in z)
-set-behind (p ∷ ps) ys i a =
-    ap (λ (n : ℕ). set (p ∷ (ps ++ ys)) n a) (let z : suc (length ps) + i ≡ suc (length ps + i) = omega arith in z) ∙ ap (λ (l : List ℕ). p ∷ l) (set-behind ps ys i a)
-
-sets-behind : (vs ps ys : List ℕ) (i : ℕ) → sets (ps ++ ys) (length ps + i) vs ≡ ps ++ sets ys i vs
-sets-behind [] ps ys i = refl
-sets-behind (v ∷ vs) ps ys i =
-    ap₂ (λ (l : List ℕ) (n : ℕ). sets l n vs) (set-behind ps ys i v) (let z : suc (length ps + i) ≡ length ps + suc i = omega arith in z) ∙ sets-behind vs ps (set ys i v) (suc i)
-
--- the part behind a place was lent, and has been stored into
-pub behind : (out xs ys : List ℕ) (j : ℕ) → j ≤ length out → ys ≡ sets (take (length out - j) (drop j out)) 0 xs → take j out ++ (ys ++ drop (length out - j) (drop j out)) ≡ sets out j xs
-behind out xs ys j h e =
-    ap₂ (λ (a b : List ℕ). take j out ++ (a ++ b)) (e ∙ ap (λ (l : List ℕ). sets l 0 xs) (part-is out j)) (drop-of-length-le (drop j out) {i = length out - j} (omega (arith, length-drop j out)))
-    ∙ ap (λ (l : List ℕ). take j out ++ l) (append-nil (sets (drop j out) 0 xs))
-    ∙ sym (sets-behind xs (take j out) (drop j out) 0)
-    ∙ ap₂ (λ (l : List ℕ) (n : ℕ). sets l n xs) (take-append-drop j out) (let z : length (take j out) + 0 ≡ j = omega (arith, length-take-le j out h) in z)
 
 abbrev after : List Event → Decoded → Decoded
 after es d = record { events = es ++ d .events; left = d .left }
@@ -128,6 +110,10 @@ module _ (scheme : ℕ) (ev out₀ fx₀ : List ℕ) (end : ℕ) (out fx s : Lis
     pub room-more : (used : ℕ) → used ≤ roomOf (recordOf part) → j + used + needed (drop (at + size) ev) ≤ length out₀
     room-more used few =
         omega (arith, g .room, few, ap (λ (x : List ℕ). roomOf (recordOf x)) (part-is ev at), needed-goes-on (drop at ev) (some-left inside), ap needed rest-is)
+
+    -- the event has its room in the output from j on
+    pub room-here : roomOf (recordOf part) ≤ length (take (length out - j) (drop j out))
+    room-here = omega (arith, room-more (roomOf (recordOf part)) (omega arith), out-length, length-drop j out, ap length (part-is out j))
 
     -- one event more
     module _ (out' fx' s' : List ℕ) (used : ℕ) (ew : plainOf s' ≡ step (plainOf s) (eventAt (length fx) part) .world)

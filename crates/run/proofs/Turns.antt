@@ -1,27 +1,30 @@
 -- What the turns store: a front of a buffer that was lent, the bytes of a read, the effects of a write. Assumes nothing.
 use Prim.Native.Nat.{ℕ, zero, suc, min, _+_, _-_, _*_, _/_, _%_, _<_, _≤_}
 use mathlib.Core.Path.{_≡_, refl, sym, ap, ap₂, _∙_, subst}
-use mathlib.Core.Bool.{Bool, true, false, cond}
+use mathlib.Core.Bool.{Bool, true, false}
 use mathlib.Core.List.{List, [], _∷_, _++_}
 use native.Mathlib.Omega.{arith}
 use lib.Dec.{eqb, ltb}
 use native.Mathlib.Decide.{decLt}
-use lib.ListN.{length, set, take, drop, take-append-drop, length-take, length-drop, length-set}
-use lib.Seq.{sets, sets-eq, length-sets, set-append-left, take-at, length-take-le}
+use lib.ListN.{length, take, drop, take-append-drop, length-take, length-drop, length-append}
+use lib.Seq.{sets, sets-eq, length-sets, take-at, length-take-le}
 use borrow.Author.Tests.{ne-eqb, lt-ltb, le-ltb}
 use Rattle.events.specs.World.{World, queueOf, withQueue}
-use Rattle.events.specs.Outcome.{Answer, Outcome, said}
+use Rattle.events.specs.Outcome.{success, Answer, Outcome, said}
 use Rattle.events.specs.Complete.{writeOf}
 use Rattle.events.specs.Event.{read, write, on}
 use Rattle.events.specs.Read.{readOf}
 use Rattle.events.specs.WellFormed.{WellFormed}
 use Rattle.events.proofs.Exact as effects
 use Rattle.outcome_bytes.specs.Output.{told, outcomeBytes}
-use Rattle.le.specs.Le.{word}
+use Rattle.outcome_bytes.proofs.Laws.{plain-words}
+use Rattle.answer_words.specs.Words.{wordsOf}
+use Rattle.le.specs.Le.{word, bytesOf}
 use Rattle.record.specs.Record.{wordsAt}
 use Rattle.record.proofs.Laws.{each-length}
 use Rattle.wait_queue.specs.Queue.{wordsFrom, unread, removed}
 use Rattle.wait_queue.proofs.Unread.{length-bytes, length-words}
+use Rattle.answer.specs.declared.Answer.{Answer as Case}
 use Rattle.answer.specs.declared.Answer.the-variants.{Bytes}
 use Rattle.layout.specs.Layout.{plainOf}
 use Rattle.packed.proofs.Agree.{steps-agree}
@@ -29,17 +32,12 @@ use Rattle.step.specs.Does.{Does}
 use Rattle.write.specs.Writing.{Writes}
 use Rattle.run.specs.Run.{Told}
 use Rattle.run.proofs.Silent.{silent}
+use Rattle.run.proofs.Stores.{sets-front, before}
 use Rattle.wait_queue_receive.specs.Receive.{copied, emptyBy, receivedIf}
 
 -- a front that is there
 pub front-length : (l : List ℕ) (n : ℕ) → n ≤ length l → n ≡ length (take n l)
 front-length l n h = sym (length-take-le n l h)
-
--- stores within a front leave the rest
-sets-front : (vs xs ys : List ℕ) (i : ℕ) → i + length vs ≤ length xs → sets (xs ++ ys) i vs ≡ sets xs i vs ++ ys
-sets-front [] xs ys i h = refl
-sets-front (v ∷ vs) xs ys i h =
-    ap (λ (l : List ℕ). sets l (suc i) vs) (set-append-left xs ys i v (omega (arith, h))) ∙ sets-front vs (set xs i v) ys (suc i) (omega (arith, h, length-set xs i v))
 
 -- a front was lent and holds xs now
 module _ (b front xs : List ℕ) (n k : ℕ) (size : n ≤ length b) (most : k ≤ n) (count : k ≡ length xs) (is : front ≡ sets (take n b) 0 xs) where
@@ -99,36 +97,67 @@ same-read w len flags h =
     go true = λ i. record { answer = emptyBy (eqb (flags / 0x4_0000 % 2) 0) (none-same len i) (few-same len i); queue = queueOf w }
     go false = ap (λ (n : ℕ). record { answer = Bytes n; queue = removed (queueOf w) (n / 64) }) few
 
--- a read into m bytes that are as good as len, on words
-module _ (ws xs : List ℕ) (len flags n m k : ℕ) (b front : List ℕ) (a : Answer) (room : 8192 ≤ length b) (en : n ≡ min len 8192) (em : m ≡ length (take n b))
-    (ek : k ≡ min n (queueOf (plainOf ws) .len * 64)) (d : Does ws xs (on (read m flags)) a []) (is : front ≡ sets (take n b) 0 (readOf (plainOf ws) m flags .bytes)) where
+-- and it hands nothing over
+no-reply : (w : World) (len flags : ℕ) → wordsOf (readOf w len flags .answer) .kind ≡ 4 → ⊥
+no-reply w len flags = go (eqb (queueOf w .len) 0)
+  where
+    empty : (x y z : Bool) → wordsOf (said (emptyBy x y z)) .kind ≡ 4 → ⊥
+    empty true y z e = omega (arith, e)
+    empty false true z e = omega (arith, e)
+    empty false false true e = omega (arith, e)
+    empty false false false e = omega (arith, e)
+
+    go : (b : Bool) → wordsOf (said (receivedIf b (queueOf w) len flags .answer)) .kind ≡ 4 → ⊥
+    go true e = empty (eqb (flags / 0x4_0000 % 2) 0) (eqb len 0) (ltb len 64) e
+    go false e = omega (arith, e)
+
+-- what stands before its bytes
+abbrev headOf : Case → ℕ → List ℕ
+headOf a n = bytesOf (wordsOf (said a) .kind ∷ wordsOf (said a) .value ∷ 0 ∷ n ∷ [])
+
+head-told : (a : Case) (n : ℕ) (bs : List ℕ) → (wordsOf (said a) .kind ≡ 4 → ⊥) → n ≡ length bs → headOf a n ++ bs ≡ told (said a) [] bs
+head-told a n bs z e =
+    ap₂ (λ (ws : List ℕ) (j : ℕ). bytesOf ws ++ bytesOf (0 ∷ []) ++ bytesOf (j ∷ []) ++ bs) (plain-words (wordsOf (said a)) (success 0 0 false) a refl z) e
+
+-- a read into m bytes that are as good as len, n of the output behind 32 others, on words
+module _ (ws xs : List ℕ) (len flags n m k : ℕ) (out part : List ℕ) (a : Case) (room : 192 + min len 8192 ≤ length out) (en : n ≡ min len 8192)
+    (em : m ≡ length (take (32 + n - 32) (drop 32 out))) (ek : k ≡ min n (queueOf (plainOf ws) .len * 64)) (d : Does ws xs (on (read m flags)) (said a) [])
+    (is : part ≡ sets (take (32 + n - 32) (drop 32 out)) 0 (readOf (plainOf ws) m flags .bytes)) where
   abbrev w : World
   w = plainOf ws
 
+  abbrev bs : List ℕ
+  bs = readOf w m flags .bytes
+
+  there : 32 + n - 32 ≤ length (drop 32 out)
+  there = omega (arith, room, en, length-drop 32 out)
+
   exact : m ≡ n
-  exact = em ∙ length-take-le n b (omega (arith, room, en))
+  exact = em ∙ length-take-le (32 + n - 32) (drop 32 out) there ∙ (let z : 32 + n - 32 ≡ n = omega arith in z)
 
-  counts : k ≡ length (readOf w m flags .bytes)
+  counts : k ≡ length bs
   counts = ek ∙ ap (λ (x : ℕ). min x (queueOf w .len * 64)) (sym exact) ∙ read-counts w m flags
-
-  pub read-part : k ≡ length (take k (front ++ drop n b))
-  read-part = front-counts b front (readOf w m flags .bytes) n k (omega (arith, room, en)) (omega (arith, ek)) counts is
-
-  read-holds : take k (front ++ drop n b) ≡ readOf w m flags .bytes
-  read-holds = front-holds b front (readOf w m flags .bytes) n k (omega (arith, room, en)) (omega (arith, ek)) counts is
 
   read-whole : WellFormed w → readOf w m flags ≡ readOf w len flags
   read-whole i = ap (λ (x : ℕ). readOf w x flags) (exact ∙ en) ∙ same-read w len flags (i .room)
 
-  pub read-told :
-      length ws ≡ 2060 → WellFormed w → (out out' : List ℕ) (used : ℕ) → out' ≡ sets out 0 (told a [] (take k (front ++ drop n b))) → used ≡ length (told a [] (take k (front ++ drop n b)))
-      → Told w (plainOf xs) (on (read len flags)) out out' used
-  read-told size i out out' used eo eu =
-      turned out out' used (readOf w m flags) (readOf w len flags) a [] (take k (front ++ drop n b)) (plainOf xs) (read-whole i) (d .answer) (d .effects) read-holds
-      (ap plainOf (d .words) ∙ steps-agree ws size (on (read m flags)) tt) (eo, eu)
+  read-head : headOf a k ++ bs ≡ told (said a) [] bs
+  read-head = head-told a k bs (λ e. no-reply w m flags (ap (λ (x : Answer). wordsOf x .kind) (sym (d .answer)) ∙ e)) counts
 
-  pub read-most : (used : ℕ) → used ≤ 48 + length (take k (front ++ drop n b)) → used ≤ 192 + min len 8192
-  read-most used h = omega (arith, h, read-part, ek, en)
+  pub read-told :
+      length ws ≡ 2060 → WellFormed w → (out' : List ℕ) → out' ≡ sets (take 32 out ++ (part ++ drop (32 + n - 32) (drop 32 out))) 0 (headOf a k)
+      → Told w (plainOf xs) (on (read len flags)) out out' (32 + k)
+  read-told size i out' eo =
+      turned out out' (32 + k) (readOf w m flags) (readOf w len flags) (said a) [] bs (plainOf xs) (read-whole i) (d .answer) (d .effects) refl
+      (ap plainOf (d .words) ∙ steps-agree ws size (on (read m flags)) tt) (
+        before out _ out' (headOf a k) bs 32 (omega (arith, room)) refl
+            (ap (λ (l : List ℕ). take 32 out ++ l) (front-back (drop 32 out) part bs (32 + n - 32) k there (omega (arith, ek)) counts is)) eo
+            ∙ ap (sets out 0) read-head,
+        (let z : 32 + k ≡ length (headOf a k ++ bs) = omega (arith, counts, length-append (headOf a k) bs) in z) ∙ ap length read-head,
+      )
+
+  pub read-most : 32 + k ≤ 192 + min len 8192
+  read-most = omega (arith, ek, en)
 
 pub tail-counts : (bs : List ℕ) (at k : ℕ) → at + k ≤ length bs → length (take k (drop at bs)) ≡ k
 tail-counts bs at k h = length-take-le k (drop at bs) (omega (arith, h, length-drop at bs))

@@ -59,17 +59,14 @@ fn wake_turn(s: &mut [u64; 2060], r: Record, out: &mut [u8]) -> usize
 {
     layout::sized(s);
     let a = r.words;
+    let kept = call_inner::stored_reply(s, Tag(a.0));
     let done = call_inner::wake(s, Tag(a.0), r.number, a.1, a.2, a.3);
-    let answer = done.answer;
-    let reply = done.reply;
-    let fds = done.fds;
-    let fx = done.effect;
-    outcome_bytes::put_woken(out, answer, reply, fds, fx)
+    outcome_bytes::put_woken(out, done, kept.reply, kept.fds)
 }
 
-// Into the first of the bytes lent: no more than 8,192 are ever unread.
-fn read_turn(s: &mut [u64; 2060], r: Record, buf: &mut [u8], out: &mut [u8]) -> usize
-    requires { ⌜ WellFormed (plainOf (now s)) × (8192 ≤ length (now buf)) ⌝ }
+// Straight to where its bytes stand in the output, behind 32 of its own: no more than 8,192 are ever unread.
+fn read_turn(s: &mut [u64; 2060], r: Record, out: &mut [u8]) -> usize
+    requires { ⌜ WellFormed (plainOf (now s)) × (192 + min (r .words .0) 8192 ≤ length (now out)) ⌝ }
     ensures { λ o. ⌜ Told (plainOf (now (s .entry))) (plainOf (now (s .exit))) (readIn r) (now (out .entry)) (now (out .exit)) o ⌝ }
     ensures { λ o. ⌜ o ≤ 192 + min (r .words .0) 8192 ⌝ }
 {
@@ -77,8 +74,9 @@ fn read_turn(s: &mut [u64; 2060], r: Record, buf: &mut [u8], out: &mut [u8]) -> 
     let a = r.words;
     let n = run_room::least(a.0, 8192);
     let k = wait_queue_receive::copied(n, queue_words::unread(s));
-    let answer = read::read(s, &mut buf[..n], r.number);
-    lent_bytes::put_received(out, answer, &buf[..k])
+    let answer = read::read(s, &mut out[32..32 + n], r.number);
+    lent_bytes::put_head(out, answer, k);
+    32 + k
 }
 
 // The write is lent no more words than there are.
@@ -105,17 +103,16 @@ fn turn(
     r: Record,
     first: &mut [u64],
     second: &mut [u64],
-    buf: &mut [u8],
     fx: &mut [u64],
     out: &mut [u8],
 ) -> usize
-    requires { ⌜ WellFormed (plainOf (now s)) × (0 < nextOf (now rec)) × (r ≡ recordOf (now rec)) × (255 ≤ length (now first)) × (255 ≤ length (now second)) × (8192 ≤ length (now buf)) ⌝ }
+    requires { ⌜ WellFormed (plainOf (now s)) × (0 < nextOf (now rec)) × (r ≡ recordOf (now rec)) × (255 ≤ length (now first)) × (255 ≤ length (now second)) × (roomOf r ≤ length (now out)) ⌝ }
     ensures { λ o. ⌜ Turned (now (s .entry)) (now (s .exit)) (now (rec .entry)) (now (fx .entry)) (now (fx .exit)) (now (out .entry)) (now (out .exit)) o ⌝ }
 {
     let kind = r.kind;
     match kind {
         14 => wake_turn(s, r, out),
-        15 => read_turn(s, r, buf, out),
+        15 => read_turn(s, r, out),
         16 => write_turn(s, rec, r, fx, out),
         _ => event_turn(s, rec, r, first, second, out),
     }
@@ -131,7 +128,6 @@ fn run_all(scheme: u64, events: &[u8], end: usize, out: &mut [u8], fx: &mut [u64
 {
     let mut s = [0; 2060];
     plain::fresh_words(scheme, &mut s);
-    let mut buf = [0; 8192];
     let mut first = [0; 255];
     let mut second = [0; 255];
     let mut at = 0;
@@ -145,7 +141,6 @@ fn run_all(scheme: u64, events: &[u8], end: usize, out: &mut [u8], fx: &mut [u64
             r,
             &mut first,
             &mut second,
-            &mut buf,
             fx,
             &mut out[j..],
         );

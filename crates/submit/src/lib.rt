@@ -35,13 +35,13 @@ fn is_submittable(v: Slot, caller: u32) -> bool
 
 pub fn submit(
     s: &mut [u64; 2060],
+    fds: &[u64],
     tag: Tag,
     caller: u32,
     opcode: u64,
     flags: u8,
     args: Args,
     pid: u64,
-    fds: &[u64],
 ) -> Step
     ensures { λ r. ⌜ Does (now (s .entry)) (now (s .exit)) (on (submitEvent (tag .0) caller opcode flags args pid (now (fds .entry)))) (said (r .answer)) (effectWords (r .effect)) ⌝ }
 {

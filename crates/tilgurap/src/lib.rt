@@ -99,7 +99,7 @@ pub extern "C" fn tilgurap_submit(
 ) -> StepWords
     ensures { λ r. ⌜ Settled r (now (words .entry)) (now (words .exit)) (on (submit (tag .0) caller opcode flags args pid (now (fds .entry)))) ⌝ }
 {
-    let done = submit::submit(words, tag, caller, opcode, flags, args, pid, fds);
+    let done = submit::submit(words, fds, tag, caller, opcode, flags, args, pid);
     answer_words::step_words(done)
 }
 
@@ -116,7 +116,7 @@ pub extern "C" fn tilgurap_call(
 ) -> StepWords
     ensures { λ r. ⌜ Settled r (now (words .entry)) (now (words .exit)) (on (call caller opcode args uid gid pid (now (fds .entry)))) ⌝ }
 {
-    let done = call::call(words, caller, opcode, args, uid, gid, pid, fds);
+    let done = call::call(words, fds, caller, opcode, args, uid, gid, pid);
     answer_words::step_words(done)
 }
 
@@ -196,12 +196,9 @@ pub extern "C" fn tilgurap_wake(
 ) -> WakeWords
     ensures { λ r. ⌜ SettledWake r (now (words .entry)) (now (words .exit)) (on (wake (tag .0) caller killed base count)) ⌝ }
 {
+    let kept = call_inner::stored_reply(words, tag);
     let done = call_inner::wake(words, tag, caller, killed, base, count);
-    let answer = done.answer;
-    let reply = done.reply;
-    let fds = done.fds;
-    let fx = done.effect;
-    answer_words::wake_words(answer, reply, fds, fx)
+    answer_words::wake_words(done, kept.reply, kept.fds)
 }
 
 #[no_mangle]

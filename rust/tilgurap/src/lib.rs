@@ -55,7 +55,7 @@
 //! | read | 160 |
 //! | every other step, the readings, the status words | under 100 |
 //! | a fresh state; its words; the state from its words | 4,752; 6,832; 11,408 |
-//! | a run over bytes | 41,168 |
+//! | a run over bytes | 39,136 |
 //!
 //! Making a [`Layer`] and what looks into its state ([`slot`](Layer::slot), [`occupied`](Layer::occupied),
 //! [`holds`](Layer::holds) and their like) hold a copy of the state of their own beside it, some 15 KiB.

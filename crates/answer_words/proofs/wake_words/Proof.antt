@@ -21,9 +21,9 @@ list-words-requires c κs = search needs
 
 returns : tie.Need-returns
 returns c =
-    let a = c .before .before .before .before .before .before .args in
+    let a = c .before .before .before .before .before .before .before .args in
     let w = c .before .before .before .before .before .words .ensures (responseFrom (a .r) (a .fds)) in
-    let e = sym (with-reply (responseFrom (a .r) (a .fds)) (a .a) _ w (c .before .before .if1 .taken)) in
+    let e = sym (with-reply (responseFrom (a .r) (a .fds)) (a .done .answer) _ w (c .before .before .if1 .taken)) in
     let fx = c .before .before .before .before .effect-words .ensures in
     λ ws xs v d. settled-wake ws xs v _ _ d _ w (c .before .reply-words .ensures ∙ ap replyOf e) (c .list-words .ensures ∙ ap fdsOf e) (fx .0) (fx .1)
 
@@ -35,9 +35,9 @@ empty-requires c κs = search needs
 
 returns-2 : tie.Need-returns-2
 returns-2 c =
-    let a = c .before .before .before .before .before .before .args in
+    let a = c .before .before .before .before .before .before .before .args in
     let w = c .before .before .before .before .before .words .ensures (responseFrom (a .r) (a .fds)) in
-    let n = without-reply (responseFrom (a .r) (a .fds)) (a .a) _ w (c .before .before .if1 .left) in
+    let n = without-reply (responseFrom (a .r) (a .fds)) (a .done .answer) _ w (c .before .before .if1 .left) in
     let fx = c .before .before .before .before .effect-words .ensures in
     λ ws xs v d. settled-wake ws xs v _ _ d _ w (c .before .lone .ensures ∙ n .0) (c .empty .ensures ∙ n .1) (fx .0) (fx .1)
 

@@ -28,14 +28,14 @@ same-length c = search needs
 
 returns : tie.Need-returns
 returns c =
-    let a = c .before .before .before .before .before .before .before .before .before .before .before .before .args in
-    let fx = effectWords (a .e) in
+    let a = c .before .before .before .before .before .before .before .before .before .before .before .before .before .args in
+    let fx = effectWords (a .done .effect) in
     let v = responseFrom (a .r) (a .fds) in
     let w = c .before .before .before .before .before .before .before .before .before .before .words .ensures v in
-    let e = ap bytesOf (reply-words _ v (a .a) w (c .before .before .before .before .before .before .before .before .if1 .taken)) in
+    let e = ap bytesOf (reply-words _ v (a .done .answer) w (c .before .before .before .before .before .before .before .before .if1 .taken)) in
     let p = c .before .before .before .before .before .before .put-reply .ensures in
     let r = c .before .before .put-rest .ensures in
-    let t = step-runs (a .out .now) _ _ (bytesOf (answerWords (saidWith v (a .a)))) (bytesOf (length fx ∷ fx)) (bytes8 0) _ _ (p .0 ∙ ap (sets (a .out .now) 0) e) (p .1 .0 ∙ ap length e) (r .0) (r .1 .0) in
+    let t = step-runs (a .out .now) _ _ (bytesOf (answerWords (saidWith v (a .done .answer)))) (bytesOf (length fx ∷ fx)) (bytes8 0) _ _ (p .0 ∙ ap (sets (a .out .now) 0) e) (p .1 .0 ∙ ap length e) (r .0) (r .1 .0) in
     (t .0, (t .1, omega (arith, r .1 .1, p .1 .1)))
 
 put-two-requires : tie.Need-put-two-requires
@@ -49,13 +49,13 @@ same-length-2 c = search needs
 
 returns-2 : tie.Need-returns-2
 returns-2 c =
-    let a = c .before .before .before .before .before .before .before .before .before .before .before .before .args in
-    let fx = effectWords (a .e) in
+    let a = c .before .before .before .before .before .before .before .before .before .before .before .before .before .args in
+    let fx = effectWords (a .done .effect) in
     let v = responseFrom (a .r) (a .fds) in
     let w = c .before .before .before .before .before .before .before .before .before .before .words .ensures v in
-    let e = ap bytesOf (plain-words _ v (a .a) w (c .before .before .before .before .before .before .before .before .if1 .left)) in
+    let e = ap bytesOf (plain-words _ v (a .done .answer) w (c .before .before .before .before .before .before .before .before .if1 .left)) in
     let r = c .before .before .put-rest2 .ensures in
-    let t = step-runs (a .out .now) _ _ (bytesOf (answerWords (saidWith v (a .a)))) (bytesOf (length fx ∷ fx)) (bytes8 0) 16 _ (c .before .before .before .before .before .before .put-two .ensures ∙ ap (sets (a .out .now) 0) e) (ap length e) (r .0) (r .1 .0) in
+    let t = step-runs (a .out .now) _ _ (bytesOf (answerWords (saidWith v (a .done .answer)))) (bytesOf (length fx ∷ fx)) (bytes8 0) 16 _ (c .before .before .before .before .before .before .put-two .ensures ∙ ap (sets (a .out .now) 0) e) (ap length e) (r .0) (r .1 .0) in
     (t .0, (t .1, omega (arith, r .1 .1)))
 
 pub put-woken-spec : {M : Type 1} → statement M
