@@ -1,7 +1,8 @@
 //! What events take on the layer and in the kernel's own code, in one process, in turns: each kind
 //! through the exported steps, and whole runs through the steps and through `tilgurap_run`.
-//! What is timed runs on one thread, and on both sides the clock is read around each event; what
-//! reading it takes is taken off. No time of a thread's hand-over is in any ratio.
+//! What is timed runs on one thread, and on both sides the clock is read around each event; beside
+//! each it is read around nothing too, which is taken off. No time of a thread's hand-over is in any
+//! ratio.
 
 use std::hint::black_box;
 use std::time::{Duration, Instant};
@@ -17,11 +18,13 @@ const BATCHES: usize = 6;
 /// on neither side.
 const INTERRUPTED: Duration = Duration::from_micros(30);
 
-/// Nanoseconds of the kernel, of the steps and in a run, and how many events they were for.
+/// Nanoseconds of the kernel, of the steps, of the clock itself and in a run, and how many events
+/// they were for.
 #[derive(Clone, Copy, Default)]
 struct Times {
     rust: f64,
     port: f64,
+    clock: f64,
     run: f64,
     events: f64,
 }
@@ -39,7 +42,6 @@ struct Both {
     kernel: Oracle,
     layer: Layer,
     lent: Lent,
-    clock: f64,
     times: Times,
     interrupted: u64,
     /// How many events were timed, interrupted ones too.
@@ -69,10 +71,13 @@ fn nanoseconds(time: Duration) -> f64 {
     time.as_secs_f64() * 1e9
 }
 
-/// What reading the clock twice takes, the median of many: it is in each event's time on both sides.
-fn clock() -> f64 {
-    let readings = (0..100_000).map(|_| nanoseconds(Instant::now().elapsed()));
-    spread(readings.collect()).0
+/// The clock read around nothing. Many readings in a row take less than one between events does, so
+/// one is taken beside each.
+#[inline(never)]
+fn nothing() -> Duration {
+    let start = Instant::now();
+    black_box(());
+    start.elapsed()
 }
 
 /// The time of a method alone: telling the event apart comes before, and its answer goes after.
@@ -89,12 +94,11 @@ macro_rules! clocked {
 }
 
 impl Both {
-    fn new(clock: f64) -> Both {
+    fn new() -> Both {
         Both {
             kernel: Oracle::new(7),
             layer: Layer::new(7),
             lent: Lent::new(),
-            clock,
             times: Times::default(),
             interrupted: 0,
             timed: 0,
@@ -109,12 +113,14 @@ impl Both {
 
     fn add(&mut self, rust: Duration, port: Duration) {
         self.timed += 1;
-        if rust.max(port) > INTERRUPTED {
+        let clock = nothing();
+        if rust.max(port).max(clock) > INTERRUPTED {
             self.interrupted += 1;
             return;
         }
-        self.times.rust += nanoseconds(rust) - self.clock;
-        self.times.port += nanoseconds(port) - self.clock;
+        self.times.rust += nanoseconds(rust) - nanoseconds(clock);
+        self.times.port += nanoseconds(port) - nanoseconds(clock);
+        self.times.clock += nanoseconds(clock);
         self.times.events += 1.0;
     }
 
@@ -571,8 +577,8 @@ fn run_of_kind(kind: &Kind) -> f64 {
     (run_time(&all) - run_time(&before)) / timed.len() as f64
 }
 
-fn run(pieces: &[Piece], clock: f64) -> Ran {
-    let mut both = Both::new(clock);
+fn run(pieces: &[Piece]) -> Ran {
+    let mut both = Both::new();
     let mut events = Vec::new();
     while events.len() < EVENTS {
         for piece in pieces {
@@ -640,7 +646,7 @@ fn count_instructions(side: Side) {
             run_once(&[&before[..], &timed[..]].concat());
             timed.len() as u64
         } else {
-            let mut both = Both::new(0.0);
+            let mut both = Both::new();
             (kind.batch)(&mut both);
             both.timed
         };
@@ -649,7 +655,7 @@ fn count_instructions(side: Side) {
     }
     let (name, pieces) = RUNS[RUNS.len() - 1];
     count::start(side);
-    let ran = run(pieces, 0.0);
+    let ran = run(pieces);
     count::dump();
     // a run is run twice, to be timed
     let times = if side == Side::Run { 2 } else { 1 };
@@ -670,8 +676,6 @@ fn main() {
         }
         _ => {}
     }
-    let clock = clock();
-    println!("reading the clock twice: {clock:.0} ns, taken off each event on both sides");
     let count = 20_000;
     let over = nanoseconds(oracle::hand_overs(count)) / f64::from(count);
     println!("a thread's hand-over, there and back: {over:.0} ns, in no figure below\n");
@@ -684,10 +688,11 @@ fn main() {
         for (kind, rounds) in KINDS.iter().zip(&mut kinds) {
             let mut times = Times::default();
             for _ in 0..BATCHES {
-                let mut both = Both::new(clock);
+                let mut both = Both::new();
                 (kind.batch)(&mut both);
                 times.rust += both.times.rust;
                 times.port += both.times.port;
+                times.clock += both.times.clock;
                 times.events += both.times.events;
                 interrupted += both.interrupted;
             }
@@ -695,6 +700,8 @@ fn main() {
             rounds.push(times);
         }
     }
+    let clock = kinds.iter().flatten();
+    let clock = spread(clock.map(|times| times.clock / times.events).collect()).0;
     for (kind, rounds) in KINDS.iter().zip(kinds) {
         let of = |of: fn(&Times) -> f64| spread(rounds.iter().map(of).collect()).0;
         println!(
@@ -720,7 +727,8 @@ fn main() {
                 before
                     .iter()
                     .for_each(|line| drop(layer.step(&event(line))));
-                spent += nanoseconds(timed(&mut layer, &mut lent, &event(last))) - clock;
+                spent += nanoseconds(timed(&mut layer, &mut lent, &event(last)));
+                spent -= nanoseconds(nothing());
             }
             rounds.push(spent / 64.0);
         }
@@ -732,7 +740,7 @@ fn main() {
     let mut runs: Vec<Vec<Ran>> = RUNS.iter().map(|_| Vec::new()).collect();
     for _ in 0..ROUNDS {
         for ((_, pieces), rounds) in RUNS.iter().zip(&mut runs) {
-            rounds.push(run(pieces, clock));
+            rounds.push(run(pieces));
         }
     }
     for ((name, _), rounds) in RUNS.iter().zip(runs) {
@@ -746,5 +754,8 @@ fn main() {
             ratio(rounds.iter().map(|ran| ran.run / ran.rust).collect())
         );
     }
-    println!("\n{interrupted} events were interrupted and count on neither side");
+    println!(
+        "\nreading the clock around nothing: {clock:.0} ns, taken off each event on both sides"
+    );
+    println!("{interrupted} events were interrupted and count on neither side");
 }
