@@ -48,14 +48,15 @@
 //!
 //! | function | bytes |
 //! |---|---|
-//! | submit | 480 |
-//! | call | 448 |
-//! | move | 320 |
-//! | wake, write | 248 |
+//! | submit | 448 |
+//! | call | 416 |
+//! | move | 304 |
+//! | write | 248 |
+//! | wake | 232 |
 //! | read | 160 |
 //! | every other step, the readings, the status words | under 100 |
 //! | a fresh state; its words; the state from its words | 4,752; 6,832; 11,408 |
-//! | a run over bytes | 39,136 |
+//! | a run over bytes | 39,120 |
 //!
 //! Making a [`Layer`] and what looks into its state ([`slot`](Layer::slot), [`occupied`](Layer::occupied),
 //! [`holds`](Layer::holds) and their like) hold a copy of the state of their own beside it, some 15 KiB.
