@@ -38,6 +38,15 @@ ghost use Rattle.run.specs.Run.{endOf, outAfter, fxAfter};
 ghost use Rattle.schemev2.specs.Entry.{sqeOf, cqeOf, sqeBytes, cqeBytes};
 ghost use Rattle.state.specs.State.{freshState};
 
+// The number of this interface. It rises with every change of an export, of a struct that crosses or of the state's words, so that a
+// host can tell whether a library is the one that it was written for.
+#[no_mangle]
+pub extern "C" fn tilgurap_abi() -> u64
+    ensures { λ r. ⌜ r ≡ 1 ⌝ }
+{
+    1
+}
+
 #[no_mangle]
 pub extern "C" fn tilgurap_open(words: &mut [u64; 2060], description: u64) -> StepWords
     ensures { λ r. ⌜ Settled r (now (words .entry)) (now (words .exit)) (hostOpen description) ⌝ }
