@@ -100,7 +100,7 @@ fn queue(f: &mut Formatter, unread: &[Sqe]) -> fmt::Result {
     )?;
     writeln!(f, "  opcode       tag  flags         pid  arguments")?;
     for entry in unread {
-        let (name, tag, flags, pid) = (opcode(entry), entry.tag, entry.flags.0, entry.pid);
+        let (name, tag, flags, pid) = (opcode(entry), entry.tag, entry.flags.bits(), entry.pid);
         let args: Vec<String> = entry.args.iter().map(u64::to_string).collect();
         let args = args.join(" ");
         line(

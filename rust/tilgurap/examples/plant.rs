@@ -1,13 +1,13 @@
-//! A small scheduler and a driver on both ends of one layer, as in the plant: the header valve is
-//! opened, additive is dosed, a gauge is read, the dosing call is killed, and work goes on.
+//! A small scheduler and a driver on both ends of one layer, as in the plant: the header valve is opened, additive is dosed,
+//! a gauge is read and closed while a dose runs, the dosing call is killed, and work goes on.
 //!
 //! `cargo run --example plant`
 
 use std::collections::VecDeque;
 
 use tilgurap::{
-    Caller, Cqe, Effect, Errno, FileNumber, Identity, Layer, Opcode, Pid, Refusal, Reply,
-    SchemeNumber, Span, Sqe, Submitted, Tag, Wake,
+    Answer, Call, Caller, Cqe, Driver, Effect, Errno, FileNumber, Identity, Killed, Layer, Opcode,
+    Pid, Refusal, Reply, SchemeNumber, Served, Span, Submitted, Tag, Wake,
 };
 
 /// The driver's files.
@@ -24,68 +24,81 @@ const NEXT_DOSING: Caller = Caller(103);
 /// What happened, line by line.
 type Story = Vec<String>;
 
-/// The driver. Valve and gauge answer at once; dosing takes until `finish_dosing`.
-struct Driver {
+/// The driver. Valve and gauge answer at once; a dose takes until `finish_dosing`.
+struct Plant {
     valve_open: bool,
     additive: u64,
-    dosing: VecDeque<Sqe>,
+    dosing: VecDeque<Call>,
+    story: Story,
 }
 
-impl Driver {
-    /// Takes every entry that is queued, and the replies that can be given at once.
-    fn take(&mut self, layer: &mut Layer, story: &mut Story) -> Vec<Cqe> {
-        let mut replies = Vec::new();
-        while let Some(entry) = layer.next_entry() {
-            let (tag, file, value) = (entry.tag, FileNumber(entry.args[0]), entry.args[1]);
-            match (entry.opcode(), file) {
-                (Some(Opcode::Write), VALVE) => {
-                    self.valve_open = value == 1;
-                    let position = if self.valve_open { "open" } else { "closed" };
-                    story.push(format!(
-                        "driver:    tag {tag}: the header valve is {position}"
-                    ));
-                    replies.push(Cqe::ok(tag, value));
-                }
-                (Some(Opcode::Write), DOSER) => {
-                    story.push(format!(
-                        "driver:    tag {tag}: dosing {value} litres begins"
-                    ));
-                    self.dosing.push_back(entry);
-                }
-                (Some(Opcode::Read), GAUGE) => {
-                    let tenths_of_bar = if self.valve_open { 34 } else { 0 };
-                    story.push(format!("driver:    tag {tag}: the gauge is read"));
-                    replies.push(Cqe::ok(tag, tenths_of_bar));
-                }
-                _ => replies.push(Cqe::err(tag, Errno::ENOENT)),
-            }
-        }
-        replies
+impl Plant {
+    fn tell(&mut self, what: String) {
+        self.story.push(format!("driver:    {what}"));
     }
 
     /// The oldest dose has run in: its reply.
-    fn finish_dosing(&mut self, story: &mut Story) -> Option<Cqe> {
-        let entry = self.dosing.pop_front()?;
-        let (tag, litres) = (entry.tag, entry.args[1]);
+    fn finish_dosing(&mut self) -> Option<Cqe> {
+        let call = self.dosing.pop_front()?;
+        let (tag, litres) = (call.tag(), call.args()[1]);
         let Some(left) = self.additive.checked_sub(litres) else {
-            story.push(format!("driver:    tag {tag}: the tank is too low"));
-            return Some(Cqe::err(tag, Errno::ENOSPC));
+            self.tell(format!("tag {tag}: the tank is too low"));
+            return Some(call.err(Errno::ENOSPC));
         };
         self.additive = left;
-        story.push(format!(
-            "driver:    tag {tag}: {litres} litres have run in, {left} are left"
+        self.tell(format!(
+            "tag {tag}: {litres} litres have run in, {left} are left"
         ));
-        Some(Cqe::ok(tag, litres))
+        Some(call.ok(litres))
+    }
+}
+
+impl Driver for Plant {
+    fn read(&mut self, call: Call) -> Answer {
+        if call.file() != GAUGE {
+            return call.err(Errno::ENOENT).into();
+        }
+        let tenths_of_bar = if self.valve_open { 34 } else { 0 };
+        self.tell(format!("tag {}: the gauge is read", call.tag()));
+        call.ok(tenths_of_bar).into()
+    }
+
+    fn write(&mut self, call: Call) -> Answer {
+        let (tag, value) = (call.tag(), call.args()[1]);
+        match call.file() {
+            VALVE => {
+                self.valve_open = value == 1;
+                let position = if self.valve_open { "open" } else { "closed" };
+                self.tell(format!("tag {tag}: the header valve is {position}"));
+                call.ok(value).into()
+            }
+            DOSER => {
+                self.tell(format!("tag {tag}: dosing {value} litres begins"));
+                self.dosing.push_back(call);
+                Answer::Nothing
+            }
+            _ => call.err(Errno::ENOENT).into(),
+        }
+    }
+
+    /// It comes with tag 0, which is a call's; here it is a file and no more.
+    fn on_close(&mut self, file: FileNumber) -> Answer {
+        self.tell(format!("file {file} is closed"));
+        Answer::Nothing
     }
 }
 
 /// The scheduler owns the layer and carries its effects out.
 struct Scheduler {
     layer: Layer,
-    story: Story,
+    plant: Plant,
 }
 
 impl Scheduler {
+    fn tell(&mut self, what: String) {
+        self.plant.story.push(format!("scheduler: {what}"));
+    }
+
     fn call(
         &mut self,
         caller: Caller,
@@ -100,26 +113,44 @@ impl Scheduler {
         };
         let args = [file.0, value, 0, 0, 0];
         let Submitted { tag, effect } = self.layer.call(caller, opcode, args, who, &[])?;
-        let asked = format!("{opcode} {value}, file {file}");
-        (self.story).push(format!(
-            "scheduler: caller {caller} calls ({asked}): tag {tag}"
+        self.tell(format!(
+            "caller {caller} calls ({opcode} {value}, file {file}): tag {tag}"
         ));
         self.carry_out(effect)?;
         Ok(tag)
     }
 
-    /// The driver writes its replies, and what follows from them is done.
-    fn reply(&mut self, replies: impl IntoIterator<Item = Cqe>) -> Result<(), Refusal> {
-        for reply in replies {
-            let written = self.layer.complete(reply);
-            if written.effects.is_empty() {
-                let what = format!("scheduler: the reply to tag {} wakes nobody", reply.tag());
-                self.story.push(what);
-            }
-            for effect in written.effects {
-                self.carry_out(effect)?;
-            }
-            written.answer?;
+    fn close(&mut self, file: FileNumber) -> Result<(), Refusal> {
+        let effect = self.layer.close(file)?;
+        self.tell(format!("file {file} is closed"));
+        self.carry_out(effect)
+    }
+
+    /// The driver takes its turn.
+    fn turn(&mut self) -> Result<(), Refusal> {
+        let served = self.layer.serve(&mut self.plant);
+        self.see(served)
+    }
+
+    /// A dose has run in.
+    fn finish_dosing(&mut self) -> Result<(), Refusal> {
+        let Some(reply) = self.plant.finish_dosing() else {
+            return Ok(());
+        };
+        let tag = reply.tag();
+        let served = self.layer.answer(reply);
+        if served.effects.is_empty() {
+            self.tell(format!("the reply to tag {tag} wakes nobody"));
+        }
+        self.see(served)
+    }
+
+    fn see(&mut self, served: Served) -> Result<(), Refusal> {
+        for refused in served.refused {
+            self.tell(refused.to_string());
+        }
+        for effect in served.effects {
+            self.carry_out(effect)?;
         }
         Ok(())
     }
@@ -133,7 +164,7 @@ impl Scheduler {
             // in this story the driver looks at its queue when it is its turn
             Effect::Readable { .. } => {}
             Effect::Unmap { .. } | Effect::Close { .. } | Effect::Event { .. } => {
-                self.story.push(format!("scheduler: {effect}"));
+                self.tell(effect.to_string());
             }
         }
         Ok(())
@@ -144,17 +175,25 @@ impl Scheduler {
             Ok(word) => format!("reads {word}"),
             Err(errno) => format!("fails: {errno}"),
         };
-        (self.story).push(format!("scheduler: caller {caller}, tag {tag}, {read}"));
+        self.tell(format!("caller {caller}, tag {tag}, {read}"));
+    }
+
+    fn kill(&mut self, tag: Tag, caller: Caller) -> Result<(), Refusal> {
+        match self.layer.wake_killed(tag, caller, Span::NONE)? {
+            Killed::Returned => {
+                self.tell(format!("caller {caller} is killed, tag {tag} stays taken"));
+            }
+            Killed::Replied(reply) => self.show(caller, tag, reply),
+        }
+        self.layer.ended(caller);
+        Ok(())
     }
 
     fn show_status(&mut self) {
         let status = self.layer.status();
         let tags: Vec<u64> = status.waiting.tags().map(|tag| tag.0).collect();
-        let what = format!(
-            "status:    waiting calls: {}, tags {tags:?}",
-            status.waiting.count
-        );
-        self.story.push(what);
+        let count = status.waiting.count;
+        (self.plant.story).push(format!("status:    waiting calls: {count}, tags {tags:?}"));
     }
 }
 
@@ -162,50 +201,41 @@ impl Scheduler {
 fn story() -> Result<Story, Refusal> {
     let mut scheduler = Scheduler {
         layer: Layer::new(SchemeNumber(7)),
-        story: Vec::new(),
-    };
-    let mut driver = Driver {
-        valve_open: false,
-        additive: 100,
-        dosing: VecDeque::new(),
-    };
-    let turn = |driver: &mut Driver, scheduler: &mut Scheduler| {
-        let replies = driver.take(&mut scheduler.layer, &mut scheduler.story);
-        scheduler.reply(replies)
+        plant: Plant {
+            valve_open: false,
+            additive: 100,
+            dosing: VecDeque::new(),
+            story: Vec::new(),
+        },
     };
 
     scheduler.call(HEADER, Opcode::Write, VALVE, 1)?;
-    turn(&mut driver, &mut scheduler)?;
+    scheduler.turn()?;
 
-    // a dose takes its time; the gauge's reply overtakes it
+    // a dose takes its time: the gauge's reply overtakes it, and the gauge is closed
     let dose = scheduler.call(DOSING, Opcode::Write, DOSER, 20)?;
     scheduler.call(PANEL, Opcode::Read, GAUGE, 0)?;
-    turn(&mut driver, &mut scheduler)?;
+    scheduler.turn()?;
+    scheduler.close(GAUGE)?;
+    scheduler.turn()?;
     scheduler.show_status();
 
     // the operator kills the dosing call: it returns, and its slot stays taken
-    let killed = scheduler.layer.wake_killed(dose, DOSING, Span::NONE);
-    if let Err(refusal) = killed {
-        let what = format!("scheduler: caller {DOSING} is killed: {refusal}");
-        scheduler.story.push(what);
-    }
-    scheduler.layer.ended(DOSING);
+    scheduler.kill(dose, DOSING)?;
     scheduler.show_status();
 
     // the valve call gets a slot of its own, and the late reply does not reach it
     scheduler.call(HEADER, Opcode::Write, VALVE, 0)?;
-    let late = driver.finish_dosing(&mut scheduler.story);
-    scheduler.reply(late)?;
+    scheduler.finish_dosing()?;
     scheduler.show_status();
-    turn(&mut driver, &mut scheduler)?;
+    scheduler.turn()?;
 
     // and on it goes: the next dose is more than is left
     scheduler.call(NEXT_DOSING, Opcode::Write, DOSER, 90)?;
-    turn(&mut driver, &mut scheduler)?;
-    let reply = driver.finish_dosing(&mut scheduler.story);
-    scheduler.reply(reply)?;
+    scheduler.turn()?;
+    scheduler.finish_dosing()?;
     scheduler.show_status();
-    Ok(scheduler.story)
+    Ok(scheduler.plant.story)
 }
 
 fn main() -> Result<(), Refusal> {

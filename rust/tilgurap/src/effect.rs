@@ -1,28 +1,29 @@
 //! What the layer asks its host to do.
 
-use std::fmt::{self, Display, Formatter};
+use core::fmt::{self, Display, Formatter};
 
+use crate::flags::flags;
 use crate::ids::{Caller, Description, SchemeNumber, Span, Tag};
 
-/// Event bits, as in `syscall/src/flag.rs`.
-#[derive(Clone, Copy, Debug, PartialEq, Eq, Hash)]
-pub struct EventFlags(pub u64);
-
-impl EventFlags {
-    /// There is something to read.
-    pub const READ: EventFlags = EventFlags(1);
-    /// There is room to write.
-    pub const WRITE: EventFlags = EventFlags(2);
-    /// The other end went away.
-    pub const HUP: EventFlags = EventFlags(4);
-    /// An error.
-    pub const ERR: EventFlags = EventFlags(8);
-    /// Not open.
-    pub const NVAL: EventFlags = EventFlags(16);
+flags! {
+    /// Event bits, as in `syscall/src/flag.rs`.
+    EventFlags(u64) {
+        /// There is something to read.
+        READ = 1;
+        /// There is room to write.
+        WRITE = 2;
+        /// The other end went away.
+        HUP = 4;
+        /// An error.
+        ERR = 8;
+        /// Not open.
+        NVAL = 16;
+    }
 }
 
 /// What the host has to do after an event. The layer does none of it.
 #[derive(Clone, Copy, Debug, PartialEq, Eq)]
+#[must_use = "the layer leaves it to its host"]
 pub enum Effect {
     /// Wake this caller: the call with this tag has a reply.
     Wake {
@@ -73,11 +74,11 @@ impl Effect {
             },
             4 => Effect::Event {
                 number: a,
-                flags: EventFlags(b),
+                flags: EventFlags::from_bits(b),
             },
             5 => Effect::Readable {
                 scheme: SchemeNumber(a),
-                flags: EventFlags(b),
+                flags: EventFlags::from_bits(b),
             },
             _ => return None,
         })
@@ -102,7 +103,11 @@ impl Display for Effect {
                 write!(f, "close description {description}, nobody holds it")
             }
             Effect::Event { number, flags } => {
-                write!(f, "pass on event {} of the driver's file {number}", flags.0)
+                write!(
+                    f,
+                    "pass on event {} of the driver's file {number}",
+                    flags.bits()
+                )
             }
             Effect::Readable { scheme, .. } => {
                 write!(f, "the queue of scheme {scheme} has something to read")

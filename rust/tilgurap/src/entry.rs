@@ -1,50 +1,47 @@
 //! Submission entries, which a driver reads, and completion entries, which it writes.
 
 use crate::effect::EventFlags;
-use crate::errno::{Errno, mux};
 use crate::ffi;
-use crate::ids::{Handle, Pid, Tag};
+use crate::flags::flags;
+use crate::ids::{Pid, Tag};
 use crate::opcode::Opcode;
 use crate::refusal::{Refusal, refusal};
+use crate::taken::{Call, Wants};
 
-/// Flags of a submission entry.
-#[derive(Clone, Copy, Debug, PartialEq, Eq, Hash)]
-pub struct SqeFlags(pub u8);
-
-impl SqeFlags {
-    /// None.
-    pub const NONE: SqeFlags = SqeFlags(0);
-    /// No reply is waited for.
-    pub const ONEWAY: SqeFlags = SqeFlags(1);
-    /// The call is about two files.
-    pub const MULTIPLE_IDS: SqeFlags = SqeFlags(2);
+flags! {
+    /// Flags of a submission entry.
+    SqeFlags(u8) {
+        /// No reply is waited for, the Rust says; the layer's own Cancel has it. It does not decide what an entry
+        /// [wants](Sqe::wants).
+        ONEWAY = 1;
+        /// The call is about two files.
+        MULTIPLE_IDS = 2;
+    }
 }
 
-/// Flags of an obtain entry.
-#[derive(Clone, Copy, Debug, PartialEq, Eq, Hash)]
-pub struct ObtainFlags(pub u32);
-
-impl ObtainFlags {
-    /// None.
-    pub const NONE: ObtainFlags = ObtainFlags(0);
-    /// The driver chose the handle.
-    pub const MANUAL_FD: ObtainFlags = ObtainFlags(1);
-    /// Only where nobody else holds the description.
-    pub const EXCLUSIVE: ObtainFlags = ObtainFlags(2);
-    /// Into the upper file table.
-    pub const UPPER_TBL: ObtainFlags = ObtainFlags(4);
-    /// Closed when another program is started.
-    pub const CLOEXEC: ObtainFlags = ObtainFlags(8);
+flags! {
+    /// Flags of an obtain entry.
+    ObtainFlags(u32) {
+        /// The driver chose the handle.
+        MANUAL_FD = 1;
+        /// Only where nobody else holds the description.
+        EXCLUSIVE = 2;
+        /// Into the upper file table.
+        UPPER_TBL = 4;
+        /// Closed when another program is started.
+        CLOEXEC = 8;
+    }
 }
 
-/// A submission entry, 64 bytes: what a driver is asked for.
+/// A submission entry, 64 bytes: what a driver is asked for, to be looked at. What a driver takes to serve is
+/// [`Taken`](crate::Taken).
 #[derive(Clone, Copy, Debug, PartialEq, Eq)]
 pub struct Sqe {
     /// The number of an [`Opcode`].
     pub opcode: u8,
     /// Its flags.
     pub flags: SqeFlags,
-    /// The call's tag, which the reply has to bear.
+    /// The call's tag, which its reply has to bear; 0 for CloseMsg and Detach, which [want](Sqe::wants) none.
     pub tag: Tag,
     /// Six arguments.
     pub args: [u64; 6],
@@ -62,7 +59,7 @@ impl Sqe {
         let entry = unsafe { ffi::tilgurap_sqe(bytes.as_ptr(), bytes.len()) };
         Sqe {
             opcode: entry.opcode,
-            flags: SqeFlags(entry.sqe_flags),
+            flags: SqeFlags::from_bits(entry.sqe_flags),
             tag: Tag(u64::from(entry.tag)),
             args: entry.args,
             pid: Pid(entry.caller),
@@ -73,7 +70,7 @@ impl Sqe {
     pub fn to_bytes(self) -> [u8; Sqe::BYTES] {
         let entry = ffi::Sqe {
             opcode: self.opcode,
-            sqe_flags: self.flags.0,
+            sqe_flags: self.flags.bits(),
             tag: self.tag.0 as u32,
             args: self.args,
             caller: self.pid.0,
@@ -88,20 +85,26 @@ impl Sqe {
     pub fn opcode(&self) -> Option<Opcode> {
         Opcode::new(u64::from(self.opcode))
     }
+
+    /// What the driver has to do about it.
+    pub fn wants(&self) -> Wants {
+        Wants::of(self.opcode())
+    }
+
+    /// Does it want a reply?
+    pub fn wants_reply(&self) -> bool {
+        self.wants() == Wants::Reply
+    }
 }
 
-/// A completion entry, 16 bytes: what a driver tells. Its kinds are the ways to make one.
-///
-/// ```
-/// use tilgurap::{Cqe, Tag};
-///
-/// let done = Cqe::ok(Tag(5), 7);
-/// assert_eq!(done.to_bytes()[4], 5);
-/// assert_eq!(Cqe::from_bytes(&done.to_bytes()), done);
-/// ```
-#[derive(Clone, Copy, Debug, PartialEq, Eq)]
+/// A completion entry, 16 bytes: what a driver tells. A reply is made from the [`Call`] that it is for, which it
+/// uses up; [`event`](Cqe::event) serves no call. An entry is used up by [`Layer::answer`](crate::Layer::answer).
+#[derive(Debug, PartialEq, Eq)]
+#[must_use = "it is to be put to the layer"]
 pub struct Cqe {
     entry: ffi::Cqe,
+    /// Whose reply it is.
+    pub(crate) call: Option<Call>,
 }
 
 impl Cqe {
@@ -109,62 +112,27 @@ impl Cqe {
     pub const BYTES: usize = 16;
 
     /// Only tags below 2^32 have a place in an entry; a greater one is put as a vacant one.
-    fn new(kind: u8, tag: Tag, result: u64) -> Cqe {
+    pub(crate) fn new(kind: u8, tag: Tag, result: u64) -> Cqe {
         let entry = ffi::Cqe {
             flags: kind,
             extra_raw: [0; 3],
             tag: u32::try_from(tag.0).unwrap_or(u32::MAX),
             result,
         };
-        Cqe { entry }
+        Cqe { entry, call: None }
     }
 
-    /// Kind 0: the call succeeded with this word. A word that reads as an error (see
-    /// [`demux`](crate::demux)) is one.
-    pub fn ok(tag: Tag, word: u64) -> Cqe {
-        Cqe::new(0, tag, word)
+    /// A reply of this kind.
+    pub(crate) fn reply(kind: u8, call: Call, result: u64) -> Cqe {
+        let mut reply = Cqe::new(kind, call.tag(), result);
+        reply.call = Some(call);
+        reply
     }
 
-    /// Kind 0: the call failed. [`ECANCELED`](Errno::ECANCELED) reads as [`EINTR`](Errno::EINTR)
-    /// where the call was cancelled, and `EINTR` as [`EIO`](Errno::EIO) where it was not.
-    pub fn err(tag: Tag, errno: Errno) -> Cqe {
-        Cqe::new(0, tag, mux(Err(errno)))
-    }
-
-    /// Kind 1: the reply is the description in this handle of the driver's, which is empty then.
-    /// An empty handle is refused; a refusal for the tag's sake has emptied the handle already.
-    pub fn descriptor(tag: Tag, handle: Handle) -> Cqe {
-        Cqe::new(1, tag, handle.0)
-    }
-
-    /// Kind 2: an event of a file of the driver's. It serves no call.
+    /// An event of a file of the driver's. It serves no call.
     pub fn event(number: u64, flags: EventFlags) -> Cqe {
         // where a call's tag stands; more than 32 bits of it are refused like any unknown ones
-        Cqe::new(2, Tag(flags.0), number)
-    }
-
-    /// Kind 3: the first description that came along with a call moves to this handle. It serves
-    /// no call. Where the handle is in use the description's hold is dropped.
-    pub fn obtain(tag: Tag, handle: Handle, flags: ObtainFlags) -> Cqe {
-        let [first, second, third, _] = flags.0.to_le_bytes();
-        Cqe::new(3, tag, handle.0).with_extra([first, second, third])
-    }
-
-    /// Kind 4: the reply is the call's list of descriptions.
-    pub fn many(tag: Tag) -> Cqe {
-        Cqe::new(4, tag, 0)
-    }
-
-    /// Kind 5: as [`ok`](Cqe::ok), and the driver asks to be told when a descriptor of the file is
-    /// detached.
-    pub fn ok_with_notice(tag: Tag, word: u64) -> Cqe {
-        Cqe::new(5, tag, word)
-    }
-
-    /// Kind 5: as [`err`](Cqe::err), with the notice of
-    /// [`ok_with_notice`](Cqe::ok_with_notice).
-    pub fn err_with_notice(tag: Tag, errno: Errno) -> Cqe {
-        Cqe::new(5, tag, mux(Err(errno)))
+        Cqe::new(2, Tag(flags.bits()), number)
     }
 
     /// With three bytes more: the first goes along with a regular reply, and all three are the
@@ -174,15 +142,20 @@ impl Cqe {
         self
     }
 
-    /// The entry in these bytes.
+    /// The entry in these bytes, which somebody else wrote.
     pub fn from_bytes(bytes: &[u8; Cqe::BYTES]) -> Cqe {
         // SAFETY: the pointer goes with its length.
         let entry = unsafe { ffi::tilgurap_cqe(bytes.as_ptr(), bytes.len()) };
-        Cqe { entry }
+        Cqe { entry, call: None }
     }
 
-    /// The entry's bytes, as [`Layer::write`](crate::Layer::write) takes them.
-    pub fn to_bytes(self) -> [u8; Cqe::BYTES] {
+    /// The entry's bytes, for a driver that writes them to its host, as [`Layer::write`](crate::Layer::write) takes
+    /// them. They use the reply up as well: bytes that are written twice are two replies.
+    pub fn into_bytes(self) -> [u8; Cqe::BYTES] {
+        self.bytes()
+    }
+
+    pub(crate) fn bytes(&self) -> [u8; Cqe::BYTES] {
         let mut bytes = [0; Cqe::BYTES];
         // SAFETY: the bytes are there to be written.
         unsafe { ffi::tilgurap_cqe_bytes(self.entry, &raw mut bytes) };
@@ -190,23 +163,23 @@ impl Cqe {
     }
 
     /// 0 to 7; 6 and 7 are refused.
-    pub fn kind(self) -> u8 {
+    pub fn kind(&self) -> u8 {
         self.entry.flags & 7
     }
 
     /// The call's tag. An event has its flags there.
-    pub fn tag(self) -> Tag {
+    pub fn tag(&self) -> Tag {
         Tag(u64::from(self.entry.tag))
     }
 
     /// The result word: see [`demux`](crate::demux).
-    pub fn result(self) -> u64 {
+    pub fn result(&self) -> u64 {
         self.entry.result
     }
 
     /// Why the layer refuses this entry whatever its tag, if it does: kind 6 or 7, or flags of an
     /// event or an obtain that do not exist.
-    pub fn parse(self) -> Result<(), Refusal> {
+    pub fn parse(&self) -> Result<(), Refusal> {
         // SAFETY: numbers alone.
         match unsafe { ffi::tilgurap_parse_cqe(self.entry) } {
             0 => Ok(()),

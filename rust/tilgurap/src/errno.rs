@@ -1,6 +1,6 @@
 //! Errors of replies: an errno, and result words that say one.
 
-use std::fmt::{self, Display, Formatter};
+use core::fmt::{self, Display, Formatter};
 
 use crate::ffi;
 
@@ -162,6 +162,8 @@ impl Errno {
     pub const EINVAL: Errno = Errno(22);
     /// Nothing left, such as an empty tank.
     pub const ENOSPC: Errno = Errno(28);
+    /// Not supported.
+    pub const EOPNOTSUPP: Errno = Errno(95);
     /// Given up, as a Cancel asked for.
     pub const ECANCELED: Errno = Errno(125);
 
@@ -188,7 +190,7 @@ impl Display for Errno {
     }
 }
 
-impl std::error::Error for Errno {}
+impl core::error::Error for Errno {}
 
 /// An error that the layer says: it names none outside 1 to 132.
 pub(crate) fn errno(number: u64) -> Errno {

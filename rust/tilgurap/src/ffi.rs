@@ -203,6 +203,7 @@ pub type Words = [u64; 2060];
 pub type QueueWords = [u64; 1024];
 
 unsafe extern "C" {
+    pub fn tilgurap_abi() -> u64;
     pub fn tilgurap_fresh(scheme: u64) -> State;
     pub fn tilgurap_plain(words: *const Words, queue: *mut QueueWords) -> State;
     pub fn tilgurap_packed(s: State, queue: *const QueueWords, words: *mut Words);

@@ -1,7 +1,7 @@
 //! The numbers that cross between scheduler, layer and driver, one type each, so that none is
 //! taken for another.
 
-use std::fmt::{self, Display, Formatter};
+use core::fmt::{self, Display, Formatter};
 
 macro_rules! number {
     ($(#[$doc:meta])* $name:ident($of:ty)) => {

@@ -1,6 +1,9 @@
 //! One layer: its state, and a method for each event.
 
-use std::fmt::{self, Debug, Formatter};
+use alloc::vec;
+use alloc::vec::Vec;
+use core::fmt::{self, Debug, Formatter};
+use core::iter;
 
 use crate::effect::Effect;
 use crate::entry::{Cqe, Sqe, SqeFlags};
@@ -8,19 +11,19 @@ use crate::ffi;
 use crate::ids::{
     Caller, Description, FileNumber, Handle, Identity, Payload, Pid, SchemeNumber, Span, Tag,
 };
+use crate::limits::{EFFECT_WORDS, SLOTS};
 use crate::opcode::Opcode;
 use crate::refusal::{Refusal, refusal};
 use crate::reply::Reply;
 use crate::status::{Holds, Slot, SlotState, Status, StatusWord};
 use crate::steps::{GenericCall, Steps};
+use crate::taken::{Taken, Wants};
 
-/// Words that a whole completion entry may make: 18 effects of three.
-const EFFECT_WORDS: usize = 54;
 const NONBLOCK: u32 = 0x0004_0000;
 
 /// An entry was queued under this tag, and the effect has to be carried out.
 #[derive(Clone, Copy, Debug, PartialEq, Eq)]
-#[must_use]
+#[must_use = "its effect is the host's to carry out"]
 pub struct Submitted {
     /// What the call is known by from now on.
     pub tag: Tag,
@@ -52,6 +55,16 @@ pub enum Wake {
     Replied(Reply),
 }
 
+/// What a killed caller leaves.
+#[derive(Clone, Debug, PartialEq, Eq)]
+#[must_use]
+pub enum Killed {
+    /// Its call has returned, with EINTR where somebody asks. Its slot stays taken until the driver has replied.
+    Returned,
+    /// The reply was there. The slot is vacant again.
+    Replied(Reply),
+}
+
 /// What to do at an empty queue.
 #[derive(Clone, Copy, Debug, PartialEq, Eq)]
 pub enum WhenEmpty {
@@ -63,6 +76,7 @@ pub enum WhenEmpty {
 
 /// What a read gave.
 #[derive(Clone, Copy, Debug, PartialEq, Eq)]
+#[must_use]
 pub enum Read {
     /// So many bytes were stored.
     Stored(usize),
@@ -90,7 +104,7 @@ pub struct Written {
 ///
 /// ```
 /// use tilgurap::{
-///     Caller, Cqe, Effect, Identity, Layer, Opcode, Pid, Reply, SchemeNumber, Submitted, Wake,
+///     Caller, Effect, Identity, Layer, Opcode, Pid, SchemeNumber, Submitted, Taken, Wake,
 /// };
 ///
 /// let mut layer = Layer::new(SchemeNumber(7));
@@ -101,11 +115,10 @@ pub struct Written {
 /// let Submitted { tag, .. } = layer.call(dosing, Opcode::Write, [1, 2, 3, 4, 5], who, &[])?;
 ///
 /// // the driver takes the call and replies
-/// let entry = layer.next_entry().expect("one is queued");
-/// assert_eq!((entry.opcode(), entry.tag), (Some(Opcode::Write), tag));
-/// let written = layer.complete(Cqe::ok(entry.tag, 3));
-/// assert_eq!(written.answer, Ok(16));
-/// assert_eq!(written.effects, [Effect::Wake { caller: dosing, tag }]);
+/// let Some(Taken::Call(call)) = layer.next_entry() else { panic!("a call is queued") };
+/// assert_eq!((call.opcode(), call.tag()), (Some(Opcode::Write), tag));
+/// let served = layer.answer(call.ok(3));
+/// assert_eq!(served.effects, [Effect::Wake { caller: dosing, tag }]);
 ///
 /// // the scheduler wakes the caller, which fetches its reply
 /// let Wake::Replied(reply) = layer.wake(tag, dosing)? else { panic!("no reply") };
@@ -143,6 +156,14 @@ fn queued(step: ffi::StepWords) -> Result<(u64, Effect), Refusal> {
     let value = done(&step)?;
     let effect = effect(step.effect).expect("an entry that is queued makes an effect");
     Ok((value, effect))
+}
+
+/// An entry that wants no reply is the layer's own: the layer would queue a caller's too, and a driver take it for one.
+fn callers_own(opcode: Opcode) -> Result<(), Refusal> {
+    match Wants::of(Some(opcode)) {
+        Wants::Reply => Ok(()),
+        Wants::Supply | Wants::Nothing => Err(Refusal::Einval),
+    }
 }
 
 fn submitted(step: ffi::StepWords) -> Result<Submitted, Refusal> {
@@ -231,7 +252,8 @@ impl Layer {
     /// Submits a reserved slot's call: its entry is queued as it is, and the call waits. The
     /// descriptions are taken from the host's outside holds.
     ///
-    /// Refused: [`OutOfRules`](Refusal::OutOfRules), [`ManyDescriptions`](Refusal::ManyDescriptions),
+    /// Refused: [`Einval`](Refusal::Einval) for the opcodes of the entries that the layer itself queues (RequestMmap,
+    /// Cancel, CloseMsg, Detach), which a driver could not tell from those; [`OutOfRules`](Refusal::OutOfRules), [`ManyDescriptions`](Refusal::ManyDescriptions),
     /// [`NotThisCallers`](Refusal::NotThisCallers), [`QueueFull`](Refusal::QueueFull).
     pub fn submit(
         &mut self,
@@ -240,11 +262,12 @@ impl Layer {
         request: Request,
         list: &[Description],
     ) -> Result<Submitted, Refusal> {
+        callers_own(request.opcode)?;
         submitted(self.steps.submit(
             tag.0,
             caller.0,
             u64::from(request.opcode.number()),
-            request.flags.0,
+            request.flags.bits(),
             request.args,
             request.pid.0,
             &numbers(list),
@@ -254,7 +277,7 @@ impl Layer {
     /// Gives a slot out and submits it in one. The entry's sixth argument is the caller's uid and
     /// gid. The descriptions are taken from the host's outside holds.
     ///
-    /// Refused: [`OutOfRules`](Refusal::OutOfRules), [`ManyDescriptions`](Refusal::ManyDescriptions),
+    /// Refused: [`Einval`](Refusal::Einval) as in [`submit`](Layer::submit); [`OutOfRules`](Refusal::OutOfRules), [`ManyDescriptions`](Refusal::ManyDescriptions),
     /// [`NoVacantSlot`](Refusal::NoVacantSlot), [`QueueFull`](Refusal::QueueFull).
     pub fn call(
         &mut self,
@@ -264,6 +287,7 @@ impl Layer {
         who: Identity,
         list: &[Description],
     ) -> Result<Submitted, Refusal> {
+        callers_own(opcode)?;
         let [a, b, c, d, e] = args;
         submitted(self.steps.call(
             caller.0,
@@ -361,16 +385,18 @@ impl Layer {
         }
     }
 
-    /// A caller was killed. It still fetches a reply that is there. Else its call returns, with
-    /// [`Eintr`](Refusal::Eintr): its slot is not given out again until the driver has replied, and the
-    /// pages in the span are unmapped then.
+    /// A caller was killed. It still fetches a reply that is there. Else its call returns: its slot is not given out
+    /// again until the driver has replied, and the pages in the span are unmapped then.
     ///
-    /// Refused: `Eintr`, and as [`wake`](Layer::wake) but for a full queue.
-    pub fn wake_killed(&mut self, tag: Tag, caller: Caller, span: Span) -> Result<Reply, Refusal> {
+    /// Refused: as [`wake`](Layer::wake) but for a full queue.
+    pub fn wake_killed(&mut self, tag: Tag, caller: Caller, span: Span) -> Result<Killed, Refusal> {
         let woken = (self.steps).wake(tag.0, caller.0, 1, span.base, span.count);
         match woken.answer.kind {
-            4 => Ok(Reply::from_stored(woken.reply, &woken.fds)),
-            _ => Err(refusal(woken.answer.value)),
+            4 => Ok(Killed::Replied(Reply::from_stored(woken.reply, &woken.fds))),
+            _ => match refusal(woken.answer.value) {
+                Refusal::Eintr => Ok(Killed::Returned),
+                refused => Err(refused),
+            },
         }
     }
 
@@ -380,17 +406,17 @@ impl Layer {
     /// Refused: as [`WhenEmpty::Refuse`] says.
     ///
     /// ```
-    /// use tilgurap::{FileNumber, Layer, Opcode, Read, SchemeNumber, Sqe, WhenEmpty};
+    /// use tilgurap::{FileNumber, Layer, Read, SchemeNumber, Taken, WhenEmpty};
     ///
     /// let mut layer = Layer::new(SchemeNumber(7));
-    /// layer.close(FileNumber(1))?;
-    /// layer.close(FileNumber(2))?;
+    /// assert!(layer.close(FileNumber(1)).is_ok());
+    /// assert!(layer.close(FileNumber(2)).is_ok());
     /// // one whole entry and a part of the next, which comes again
     /// let mut bytes = [0; 100];
     /// assert_eq!(layer.read(&mut bytes, WhenEmpty::Wait), Ok(Read::Stored(100)));
-    /// let first = Sqe::from_bytes(bytes.first_chunk().expect("64 bytes"));
-    /// assert_eq!((first.opcode(), first.args[0]), (Some(Opcode::CloseMsg), 1));
-    /// assert_eq!(layer.next_entry().map(|entry| entry.args[0]), Some(2));
+    /// let first = Taken::from_bytes(bytes.first_chunk().expect("64 bytes"));
+    /// assert_eq!(first, Taken::Close { file: FileNumber(1) });
+    /// assert_eq!(layer.next_entry(), Some(Taken::Close { file: FileNumber(2) }));
     /// # Ok::<(), tilgurap::Refusal>(())
     /// ```
     pub fn read(&mut self, out: &mut [u8], when_empty: WhenEmpty) -> Result<Read, Refusal> {
@@ -407,10 +433,18 @@ impl Layer {
     }
 
     /// The driver takes the next entry, if there is one.
-    pub fn next_entry(&mut self) -> Option<Sqe> {
+    pub fn next_entry(&mut self) -> Option<Taken> {
+        self.next_bytes().map(|bytes| Taken::from_bytes(&bytes))
+    }
+
+    fn next_sqe(&mut self) -> Option<Sqe> {
+        self.next_bytes().map(|bytes| Sqe::from_bytes(&bytes))
+    }
+
+    fn next_bytes(&mut self) -> Option<[u8; Sqe::BYTES]> {
         let mut bytes = [0; Sqe::BYTES];
         let read = self.read(&mut bytes, WhenEmpty::Refuse);
-        (read == Ok(Read::Stored(Sqe::BYTES))).then(|| Sqe::from_bytes(&bytes))
+        (read == Ok(Read::Stored(Sqe::BYTES))).then_some(bytes)
     }
 
     /// The driver writes completion entries: whole ones of 16 bytes in order; fewer than 16 left
@@ -419,14 +453,17 @@ impl Layer {
     /// Refused for its first entry's sake: [`Einval`](Refusal::Einval), [`Ebadfd`](Refusal::Ebadfd),
     /// [`Enoent`](Refusal::Enoent).
     ///
+    /// These are the bytes of a driver elsewhere; one at hand answers by [`answer`](Layer::answer) or
+    /// [`serve`](Layer::serve), which pass a refused entry.
+    ///
     /// ```
-    /// use tilgurap::{Cqe, Effect, EventFlags, Layer, SchemeNumber, Tag};
+    /// use tilgurap::{Cqe, Effect, EventFlags, Layer, SchemeNumber};
     ///
     /// let mut layer = Layer::new(SchemeNumber(7));
-    /// let event = Cqe::event(3, EventFlags::READ);
-    /// let stray = Cqe::ok(Tag(9), 0);
-    /// let written = layer.write(&[event, stray, event].map(Cqe::to_bytes).concat());
-    /// // nobody waits under tag 9: the entry is turned down, the third is not looked at
+    /// let event = || Cqe::event(3, EventFlags::READ).into_bytes();
+    /// // a success for tag 9, where nobody waits: it is turned down, and the third is not looked at
+    /// let stray = [0, 0, 0, 0, 9, 0, 0, 0, 0, 0, 0, 0, 0, 0, 0, 0];
+    /// let written = layer.write(&[event(), stray, event()].concat());
     /// assert_eq!(written.answer, Ok(16));
     /// assert_eq!(written.effects, [Effect::Event { number: 3, flags: EventFlags::READ }]);
     /// ```
@@ -445,11 +482,6 @@ impl Layer {
         }
     }
 
-    /// The driver writes one completion entry.
-    pub fn complete(&mut self, entry: Cqe) -> Written {
-        self.write(&entry.to_bytes())
-    }
-
     /// The driver gives a waiting call these descriptions, out of outside holds, in the place of
     /// those that it has. A refused move has dropped them, but for
     /// [`OutOfRules`](Refusal::OutOfRules) and [`ManyDescriptions`](Refusal::ManyDescriptions).
@@ -460,18 +492,19 @@ impl Layer {
     ///
     /// ```
     /// use tilgurap::{
-    ///     Caller, Cqe, Description, Identity, Layer, Opcode, Pid, Reply, SchemeNumber, Wake,
+    ///     Caller, Description, Identity, Layer, Opcode, Pid, Reply, SchemeNumber, Taken, Wake,
     /// };
     ///
     /// let mut layer = Layer::new(SchemeNumber(7));
     /// let (caller, logbook) = (Caller(100), Description(3));
     /// let who = Identity { uid: 0, gid: 0, pid: Pid(100) };
     /// let tag = layer.call(caller, Opcode::Recvfd, [0; 5], who, &[])?.tag;
+    /// let Some(Taken::Call(call)) = layer.next_entry() else { panic!("a call is queued") };
     ///
     /// // the driver hands a description over as its reply
     /// layer.open(logbook)?;
     /// layer.move_list(tag, &[logbook])?;
-    /// assert_eq!(layer.complete(Cqe::many(tag)).answer, Ok(16));
+    /// assert!(layer.answer(call.many()).refused.is_empty());
     /// assert_eq!(layer.wake(tag, caller), Ok(Wake::Replied(Reply::Many(vec![logbook]))));
     /// # Ok::<(), tilgurap::Refusal>(())
     /// ```
@@ -543,7 +576,7 @@ impl Layer {
     /// The slots that are not vacant, by their tags.
     pub fn occupied(&self) -> Vec<(Tag, Slot)> {
         let slots = self.steps.state().table.slots;
-        (0..64)
+        (0..SLOTS as u64)
             .zip(&slots)
             .map(|(tag, slot)| (Tag(tag), Slot::of(slot)))
             .filter(|(_, slot)| slot.state != SlotState::Vacant)
@@ -553,7 +586,7 @@ impl Layer {
     /// The entries that the driver has not read, in order.
     pub fn unread(&self) -> Vec<Sqe> {
         let mut reader = self.clone();
-        std::iter::from_fn(|| reader.next_entry()).collect()
+        iter::from_fn(|| reader.next_sqe()).collect()
     }
 
     /// The description in a handle of the driver's.

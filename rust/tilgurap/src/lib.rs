@@ -5,24 +5,24 @@
 //! waits for what. Each answer is settled by a proof: the functions behind these methods are those of
 //! `libtilgurap.a`, which is written only once they are proved (`rt staticlib tilgurap`).
 //!
-//! | a host wants to | method |
+//! | to | method |
 //! |---|---|
 //! | call the driver | [`call`](Layer::call), or [`reserve`](Layer::reserve) and [`submit`](Layer::submit) |
-//! | let the driver read its entries | [`next_entry`](Layer::next_entry), [`read`](Layer::read) |
-//! | let the driver reply | [`complete`](Layer::complete), [`write`](Layer::write) |
+//! | let a driver take its turn | [`serve`](Layer::serve) with a [`Driver`]; one by one [`next_entry`](Layer::next_entry) and [`answer`](Layer::answer) |
+//! | pass on the bytes of a driver elsewhere | [`read`](Layer::read), [`write`](Layer::write), [`provide_mmap`](Layer::provide_mmap) |
 //! | fetch a reply | [`wake`](Layer::wake) |
-//! | kill a caller | [`wake_killed`](Layer::wake_killed), or [`ended`](Layer::ended) once it is gone |
+//! | kill a caller | [`wake_killed`](Layer::wake_killed), and [`ended`](Layer::ended) once it is gone |
 //! | look | [`status`](Layer::status), [`occupied`](Layer::occupied), [`unread`](Layer::unread) |
 //!
 //! An accepted event may come with an [`Effect`], which the host has to carry out; a refused one
-//! says why by a [`Refusal`].
+//! says why by a [`Refusal`]. The limits are constants in [`limits`].
 //!
 //! A killed call keeps its slot until its driver has replied, so that the late reply never reaches
 //! another call:
 //!
 //! ```
 //! use tilgurap::{
-//!     Caller, Cqe, Identity, Layer, Opcode, Pid, Refusal, SchemeNumber, Span, Wake,
+//!     Caller, Identity, Killed, Layer, Opcode, Pid, Refusal, SchemeNumber, Span, Taken, Wake,
 //! };
 //!
 //! let mut layer = Layer::new(SchemeNumber(7));
@@ -30,16 +30,43 @@
 //! let (dosing, valve) = (Caller(100), Caller(200));
 //!
 //! let dose = layer.call(dosing, Opcode::Write, [1, 2, 3, 4, 5], who(dosing), &[])?.tag;
-//! let taken = layer.next_entry().expect("the dosing call");
-//! assert_eq!(layer.wake_killed(dose, dosing, Span::NONE), Err(Refusal::Eintr));
+//! let Some(Taken::Call(dosed)) = layer.next_entry() else { panic!("a call is queued") };
+//! assert_eq!(layer.wake_killed(dose, dosing, Span::NONE), Ok(Killed::Returned));
 //!
 //! // the valve call gets another slot, and the late reply does not reach it
 //! let open = layer.call(valve, Opcode::Write, [9, 0, 0, 0, 0], who(valve), &[])?.tag;
 //! assert_ne!(open, dose);
-//! assert_eq!(layer.complete(Cqe::ok(taken.tag, 0)).answer, Ok(16));
+//! assert!(layer.answer(dosed.ok(0)).refused.is_empty());
 //! assert!(matches!(layer.wake(open, valve), Ok(Wake::Blocked(_))));
 //! # Ok::<(), Refusal>(())
 //! ```
+//!
+//! # What a driver must do
+//!
+//! - **Reply once to every call, by its tag**, also after a Cancel: the call's slot stays taken until then. The layer
+//!   cannot tell a second reply to a tag from the first reply to the tag's next call.
+//! - **Reply to nothing else.** CloseMsg and Detach come with tag 0 and no flag and want no reply: one by their tag would
+//!   serve the call in slot 0. Cancel bears its call's tag and wants none of its own.
+//! - **Supply a map request** ([`provide_mmap`](Layer::provide_mmap)). A reply to it is refused.
+//! - **Write on behind a refused entry.** A [`write`](Layer::write) ends at the first one, and those behind it were not
+//!   looked at.
+//!
+//! A [`Driver`] can do no other: what it takes says what it [wants](Wants), a reply is made from a [`Call`] and uses it up,
+//! and [`serve`](Layer::serve) passes a refused entry and reports it. What remains its own is to reply to what it keeps. The
+//! host, for its part, calls with no opcode of the layer's own entries: [`call`](Layer::call) and [`submit`](Layer::submit)
+//! refuse these.
+//!
+//! # Threads
+//!
+//! A [`Layer`] is `Send` and `Sync`, and takes one event at a time: its methods want `&mut`, so that threads share it behind a
+//! lock. Layers share nothing. Between [`next_entry`](Layer::next_entry) and [`answer`](Layer::answer) the lock need not be held:
+//! [`dispatch`] hands an entry to its driver meanwhile, and a [`Call`] may be sent to another thread.
+//!
+//! # Restart
+//!
+//! A driver that begins anew has lost its calls, whose slots wait for replies: [`driver_gone`](Layer::driver_gone) fails them
+//! all and empties the queue. A host that begins anew makes a fresh layer, of which no tag from before is meant: its drivers begin
+//! anew with it.
 //!
 //! # Stack
 //!
@@ -61,17 +88,29 @@
 //! Making a [`Layer`] and what looks into its state ([`slot`](Layer::slot), [`occupied`](Layer::occupied),
 //! [`holds`](Layer::holds) and their like) hold a copy of the state of their own beside it, some 15 KiB.
 //!
+//! # Building
+//!
+//! The library is taken from the folder that `TILGURAP_LIB` names, or from where `rt staticlib tilgurap` puts it in this
+//! checkout. One that is missing, foreign, or of another interface than [`limits::ABI`] stops the build with what to do.
+//! The crate needs `alloc` and no `std`.
+//!
 //! With the feature `script` there is also the module `numbers`, on which the tools that run event
 //! scripts stand.
 
+#![no_std]
 #![deny(missing_docs)]
 
+extern crate alloc;
+
+mod driver;
 mod effect;
 mod entry;
 mod errno;
 mod ffi;
+mod flags;
 mod ids;
 mod layer;
+pub mod limits;
 #[cfg(feature = "script")]
 pub mod numbers;
 mod opcode;
@@ -79,15 +118,18 @@ mod refusal;
 mod reply;
 mod status;
 mod steps;
+mod taken;
 
+pub use driver::{Answer, Driver, Refused, Rejected, Served, dispatch};
 pub use effect::{Effect, EventFlags};
 pub use entry::{Cqe, ObtainFlags, Sqe, SqeFlags};
 pub use errno::{Errno, demux, mux};
 pub use ids::{
     Caller, Description, FileNumber, Handle, Identity, Payload, Pid, SchemeNumber, Span, Tag,
 };
-pub use layer::{Layer, Read, Request, Submitted, Wake, WhenEmpty, Written};
+pub use layer::{Killed, Layer, Read, Request, Submitted, Wake, WhenEmpty, Written};
 pub use opcode::Opcode;
 pub use refusal::Refusal;
 pub use reply::{Opened, Reply};
 pub use status::{Holds, Slot, SlotState, Status, StatusWord};
+pub use taken::{Call, MapRequest, Supply, Taken, Wants};

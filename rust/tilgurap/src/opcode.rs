@@ -1,6 +1,6 @@
 //! What a submission entry asks a driver for.
 
-use std::fmt::{self, Display, Formatter};
+use core::fmt::{self, Display, Formatter};
 
 /// What a driver is asked for, by the names of `syscall/src/schemev2.rs`.
 #[derive(Clone, Copy, Debug, PartialEq, Eq, Hash)]

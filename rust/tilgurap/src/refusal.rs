@@ -1,10 +1,10 @@
 //! Why an event is refused.
 
-use std::fmt::{self, Display, Formatter};
+use core::fmt::{self, Display, Formatter};
 
 /// Why an event was refused. A refused event has changed nothing, but for four of them:
 /// [`Esrch`](Refusal::Esrch), [`Eintr`](Refusal::Eintr), a refused
-/// [`move_list`](crate::Layer::move_list), and a refused entry [with a descriptor](crate::Cqe::descriptor).
+/// [`move_list`](crate::Layer::move_list), and a refused entry [with a descriptor](crate::Call::descriptor).
 ///
 /// ```
 /// use tilgurap::Refusal;
@@ -14,6 +14,7 @@ use std::fmt::{self, Display, Formatter};
 /// assert_eq!(Refusal::NoVacantSlot.to_string(), "no slot is vacant (202)");
 /// ```
 #[derive(Clone, Copy, Debug, PartialEq, Eq, Hash)]
+#[non_exhaustive]
 pub enum Refusal {
     /// 2: the call does not wait any more, or no description is listed.
     Enoent,
@@ -106,7 +107,7 @@ impl Display for Refusal {
     }
 }
 
-impl std::error::Error for Refusal {}
+impl core::error::Error for Refusal {}
 
 /// A refusal that the layer says: it has no others.
 pub(crate) fn refusal(number: u64) -> Refusal {

@@ -1,5 +1,7 @@
 //! A reply handed over, and the ways to read it.
 
+use alloc::vec::Vec;
+
 use crate::errno::{self, Errno};
 use crate::ffi;
 use crate::ids::Description;

@@ -1,5 +1,7 @@
 //! What a layer holds.
 
+use alloc::vec::Vec;
+
 use crate::ffi;
 use crate::ids::{Caller, Description, Span, Tag};
 use crate::reply::{Reply, descriptions};
@@ -21,6 +23,7 @@ pub enum SlotState {
 
 /// One slot.
 #[derive(Clone, Debug, PartialEq, Eq)]
+#[non_exhaustive]
 pub struct Slot {
     /// What it is used for.
     pub state: SlotState,
@@ -99,6 +102,7 @@ impl StatusWord {
 
 /// The four status words. A slot in none of them is vacant; outstanding calls are the waiting ones.
 #[derive(Clone, Copy, Debug, PartialEq, Eq)]
+#[non_exhaustive]
 pub struct Status {
     /// Given out, not submitted.
     pub placeholder: StatusWord,

@@ -1,6 +1,9 @@
 //! The state's words, and each event put to them in numbers.
 
+use alloc::boxed::Box;
+
 use crate::ffi;
+use crate::limits::ABI;
 
 /// What `generic` and `stdfs` carry.
 pub(crate) struct GenericCall<'a> {
@@ -34,6 +37,10 @@ type CallGeneric = unsafe extern "C" fn(
 impl Steps {
     /// A fresh state, given the scheme's number.
     pub fn new(scheme: u64) -> Steps {
+        // SAFETY: it takes nothing.
+        let abi = unsafe { ffi::tilgurap_abi() };
+        // the build has looked already, where it could run the library
+        assert_eq!(abi, ABI, "libtilgurap.a has another interface");
         let mut steps = Steps {
             words: Box::new([0; 2060]),
         };
@@ -233,6 +240,6 @@ impl Steps {
         let mut out = [0; 8];
         // SAFETY: the words are the layer's own, the others are there to be written.
         unsafe { ffi::tilgurap_status(&raw const *self.words, &raw mut out) };
-        std::array::from_fn(|of| (out[2 * of], out[2 * of + 1]))
+        core::array::from_fn(|of| (out[2 * of], out[2 * of + 1]))
     }
 }

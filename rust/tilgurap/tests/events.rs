@@ -1,9 +1,9 @@
 //! Each event through the crate's types: what it answers, what it asks the host to do, what it leaves.
 
 use tilgurap::{
-    Caller, Cqe, Description, Effect, Errno, EventFlags, FileNumber, Handle, Holds, Identity,
-    Layer, ObtainFlags, Opcode, Opened, Payload, Pid, Read, Refusal, Reply, Request, SchemeNumber,
-    SlotState, Span, Sqe, SqeFlags, Submitted, Tag, Wake, WhenEmpty,
+    Call, Caller, Cqe, Description, Effect, Errno, EventFlags, FileNumber, Handle, Holds, Identity,
+    Killed, Layer, ObtainFlags, Opcode, Opened, Payload, Pid, Read, Refusal, Reply, Request,
+    SchemeNumber, SlotState, Span, Sqe, SqeFlags, Submitted, Tag, Taken, Wake, WhenEmpty,
 };
 
 const CALLER: Caller = Caller(100);
@@ -17,12 +17,20 @@ const READABLE: Effect = Effect::Readable {
     flags: EventFlags::READ,
 };
 
+/// Of a close, as in the Rust.
+fn told() -> Effect {
+    Effect::Readable {
+        scheme: SchemeNumber(7),
+        flags: EventFlags::READ | EventFlags::HUP,
+    }
+}
+
 fn layer() -> Layer {
     Layer::new(SchemeNumber(7))
 }
 
-/// A call that its driver has read, with this list.
-fn waiting(list: &[u64]) -> (Layer, Tag) {
+/// A call that its driver has taken, with this list.
+fn waiting(list: &[u64]) -> (Layer, Tag, Call) {
     let mut layer = layer();
     let list: Vec<Description> = list.iter().map(|d| Description(*d)).collect();
     for description in &list {
@@ -30,8 +38,31 @@ fn waiting(list: &[u64]) -> (Layer, Tag) {
     }
     let called = layer.call(CALLER, Opcode::Read, [0; 5], WHO, &list);
     let tag = called.unwrap().tag;
-    layer.next_entry().unwrap();
-    (layer, tag)
+    let Some(Taken::Call(call)) = layer.next_entry() else {
+        panic!("a call is queued")
+    };
+    (layer, tag, call)
+}
+
+/// What an entry was refused with, which was the only one.
+fn refused(layer: &mut Layer, entry: Cqe) -> Refusal {
+    let served = layer.answer(entry);
+    assert_eq!((served.effects.len(), served.refused.len()), (0, 1));
+    served.refused[0].why
+}
+
+/// The effects of an entry that is accepted.
+fn accepted(layer: &mut Layer, entry: Cqe) -> Vec<Effect> {
+    let served = layer.answer(entry);
+    assert!(served.refused.is_empty(), "{:?}", served.refused);
+    served.effects
+}
+
+/// A success for any tag, as a driver elsewhere may write it.
+fn ok_bytes(tag: u32) -> [u8; 16] {
+    let mut bytes = [0; 16];
+    bytes[4..8].copy_from_slice(&tag.to_le_bytes());
+    bytes
 }
 
 fn reply(layer: &mut Layer, tag: Tag) -> Reply {
@@ -106,7 +137,9 @@ fn reserve_then_submit() {
         pid: Pid(9),
     };
     assert_eq!(layer.unread(), [entry]);
-    assert_eq!(layer.next_entry(), Some(entry));
+    let taken = Taken::from_bytes(&entry.to_bytes());
+    assert!(taken.wants_reply() && entry.wants_reply());
+    assert_eq!(layer.next_entry(), Some(taken));
     assert_eq!(layer.next_entry(), None);
     assert_eq!(Sqe::from_bytes(&entry.to_bytes()), entry);
 }
@@ -132,8 +165,8 @@ fn calls_in_each_form() {
     let mapped = layer.request_fmap(CALLER, FileNumber(9), 2, 3, WHO);
     assert_eq!(mapped.unwrap().tag, Tag(4));
     assert_eq!(layer.slot(Tag(4)).state, SlotState::Fmap);
-    layer.close(FileNumber(30)).unwrap();
-    layer.detach(FileNumber(31), Pid(9)).unwrap();
+    assert_eq!(layer.close(FileNumber(30)), Ok(told()));
+    assert_eq!(layer.detach(FileNumber(31), Pid(9)), Ok(READABLE));
     let read = layer.unread();
     let told: Vec<_> = (read.iter())
         .map(|entry| (entry.opcode().unwrap(), entry.tag.0, entry.args))
@@ -162,7 +195,7 @@ fn no_slot_and_no_room() {
     }
     assert_eq!(layer.reserve(CALLER), Err(Refusal::NoVacantSlot));
     for _ in 0..128 {
-        layer.close(FileNumber(1)).unwrap();
+        assert_eq!(layer.close(FileNumber(1)), Ok(told()));
     }
     assert_eq!(layer.close(FileNumber(1)), Err(Refusal::QueueFull));
     assert_eq!(layer.unread().len(), 128);
@@ -184,186 +217,181 @@ fn reads() {
         Err(Refusal::Einval)
     );
     assert_eq!(bytes, [0xa5; 100]);
-    layer.close(FileNumber(1)).unwrap();
-    layer.close(FileNumber(2)).unwrap();
+    assert_eq!(layer.close(FileNumber(1)), Ok(told()));
+    assert_eq!(layer.close(FileNumber(2)), Ok(told()));
     assert_eq!(
         layer.read(&mut bytes, WhenEmpty::Wait),
         Ok(Read::Stored(100))
     );
-    assert_eq!(layer.next_entry().unwrap().args[0], 2);
+    let second = Taken::Close {
+        file: FileNumber(2),
+    };
+    assert_eq!(layer.next_entry(), Some(second));
 }
 
 #[test]
 fn each_kind_of_completion() {
     // 0 and 5: words and errors
-    for (entry, wanted) in [
-        (Cqe::ok(Tag(0), 7), regular(Ok(7))),
-        (Cqe::err(Tag(0), Errno::ENOSPC), regular(Err(Errno::ENOSPC))),
-        (Cqe::err(Tag(0), Errno::EINTR), regular(Err(Errno::EIO))),
+    type Answered = fn(Call) -> Cqe;
+    let noticed = Reply::Regular {
+        result: Err(Errno::ENOENT),
+        extra0: 3,
+        notice: true,
+    };
+    let with_notice = Reply::Regular {
+        result: Ok(7),
+        extra0: 0,
+        notice: true,
+    };
+    let cases: [(Answered, Reply); 5] = [
+        (|call| call.ok(7), regular(Ok(7))),
+        (|call| call.err(Errno::ENOSPC), regular(Err(Errno::ENOSPC))),
+        (|call| call.err(Errno::EINTR), regular(Err(Errno::EIO))),
         (
-            Cqe::err_with_notice(Tag(0), Errno::ENOENT).with_extra([3, 0, 0]),
-            Reply::Regular {
-                result: Err(Errno::ENOENT),
-                extra0: 3,
-                notice: true,
-            },
+            |call| call.err_with_notice(Errno::ENOENT).with_extra([3, 0, 0]),
+            noticed,
         ),
-        (
-            Cqe::ok_with_notice(Tag(0), 7),
-            Reply::Regular {
-                result: Ok(7),
-                extra0: 0,
-                notice: true,
-            },
-        ),
-    ] {
-        let (mut layer, tag) = waiting(&[]);
-        let written = layer.complete(entry);
-        assert_eq!(written.answer, Ok(16));
-        assert_eq!(
-            written.effects,
-            [Effect::Wake {
-                caller: CALLER,
-                tag
-            }]
-        );
+        (|call| call.ok_with_notice(7), with_notice),
+    ];
+    for (answered, wanted) in cases {
+        let (mut layer, tag, call) = waiting(&[]);
+        let wake = Effect::Wake {
+            caller: CALLER,
+            tag,
+        };
+        assert_eq!(accepted(&mut layer, answered(call)), [wake]);
         assert_eq!(layer.slot(tag).reply.as_ref(), Some(&wanted));
         assert_eq!(reply(&mut layer, tag), wanted);
         assert_eq!(layer.slot(tag).state, SlotState::Vacant);
         assert_eq!(layer.wake(tag, CALLER), Err(Refusal::Ebadfd));
     }
 
-    // 1: the description in a handle
-    let (mut layer, tag) = waiting(&[1]);
+    // 1: the description in a handle; a call whose reply is refused comes back
+    let (mut layer, tag, call) = waiting(&[1]);
     layer.open(Description(2)).unwrap();
     layer.put(Description(2), Handle(6)).unwrap();
-    let empty = layer.complete(Cqe::descriptor(tag, Handle(7)));
-    assert_eq!(empty.answer, Err(Refusal::Einval));
-    let written = layer.complete(Cqe::descriptor(tag, Handle(6)));
+    let empty = layer.answer(call.descriptor(Handle(7)));
+    let [refusal] = <[_; 1]>::try_from(empty.refused).unwrap();
+    assert_eq!(refusal.why, Refusal::Einval);
+    let call = refusal.call.expect("it still waits");
+    let wake = Effect::Wake {
+        caller: CALLER,
+        tag,
+    };
     let closed = Effect::Close {
         description: Description(1),
     };
+    let effects = accepted(&mut layer, call.descriptor(Handle(6)));
+    assert_eq!(effects, [wake, closed]);
     assert_eq!(
-        written.effects,
-        [
-            Effect::Wake {
-                caller: CALLER,
-                tag
-            },
-            closed
-        ]
+        layer.write(&ok_bytes(tag.0 as u32)).answer,
+        Err(Refusal::Einval)
     );
-    let twice = layer.complete(Cqe::ok(tag, 0));
-    assert_eq!(twice.answer, Err(Refusal::Einval));
     assert_eq!(reply(&mut layer, tag), Reply::Descriptor(Description(2)));
 
     // 2: an event
-    let written = layer.complete(Cqe::event(33, EventFlags::WRITE));
     let event = Effect::Event {
         number: 33,
         flags: EventFlags::WRITE,
     };
-    assert_eq!((written.answer, written.effects), (Ok(16), vec![event]));
-    let unknown = layer.complete(Cqe::event(33, EventFlags(1 << 40)));
-    assert_eq!(unknown.answer, Err(Refusal::Einval));
+    let sent = Cqe::event(33, EventFlags::WRITE);
+    assert_eq!(accepted(&mut layer, sent), [event]);
+    let unknown = Cqe::event(33, EventFlags::from_bits(1 << 40));
+    assert_eq!(refused(&mut layer, unknown), Refusal::Einval);
 
     // 3: the first description to a handle; 4: the others as the reply
-    let (mut layer, tag) = waiting(&[1, 2, 3]);
-    let obtain = Cqe::obtain(tag, Handle(0), ObtainFlags::CLOEXEC);
+    let (mut layer, tag, call) = waiting(&[1, 2, 3]);
+    let obtain = call.obtain(Handle(0), ObtainFlags::CLOEXEC | ObtainFlags::MANUAL_FD);
     assert_eq!(
         (obtain.kind(), obtain.tag(), obtain.parse()),
         (3, tag, Ok(()))
     );
-    assert_eq!(layer.complete(obtain).answer, Ok(16));
+    assert_eq!(accepted(&mut layer, obtain), []);
     assert_eq!(layer.handle(Handle(0)), Some(Description(1)));
-    assert_eq!(layer.complete(Cqe::many(tag)).answer, Ok(16));
+    let unknown = call.obtain(Handle(0), ObtainFlags::from_bits(16));
+    assert_eq!(unknown.parse(), Err(Refusal::Einval));
+    assert_eq!(refused(&mut layer, unknown), Refusal::Einval);
+    assert_eq!(accepted(&mut layer, call.many()).len(), 1);
     let many = Reply::Many(vec![Description(2), Description(3)]);
     assert_eq!(reply(&mut layer, tag), many);
-    let unknown = Cqe::obtain(tag, Handle(0), ObtainFlags(16));
-    assert_eq!(unknown.parse(), Err(Refusal::Einval));
 
-    // a good entry, a bad one, one that is not looked at
-    let (mut layer, tag) = waiting(&[]);
-    let entries = [
-        Cqe::ok(tag, 1),
-        Cqe::ok(Tag(9), 1),
-        Cqe::event(1, EventFlags::READ),
-    ];
-    let written = layer.write(&entries.map(Cqe::to_bytes).concat());
+    // bytes: a good entry, a bad one, one that is not looked at
+    let (mut layer, tag, call) = waiting(&[]);
+    let event = Cqe::event(1, EventFlags::READ);
+    let entries = [call.ok(1).into_bytes(), ok_bytes(9), event.into_bytes()];
+    let written = layer.write(&entries.concat());
     assert_eq!(written.answer, Ok(16));
+    let wake = Effect::Wake {
+        caller: CALLER,
+        tag,
+    };
+    assert_eq!(written.effects, [wake]);
     assert_eq!(
-        written.effects,
-        [Effect::Wake {
-            caller: CALLER,
-            tag
-        }]
-    );
-    assert_eq!(
-        layer.complete(Cqe::ok(Tag(1 << 40), 1)).answer,
+        layer.write(&ok_bytes(u32::MAX)).answer,
         Err(Refusal::Ebadfd)
     );
 }
 
 #[test]
 fn woken_too_early_and_killed() {
-    let (mut layer, tag) = waiting(&[]);
+    let (mut layer, tag, call) = waiting(&[]);
     assert_eq!(layer.wake(tag, Caller(101)), Err(Refusal::NotThisCallers));
     assert_eq!(layer.wake(tag, CALLER), Ok(Wake::Blocked(Some(READABLE))));
     assert_eq!(layer.wake(tag, CALLER), Ok(Wake::Blocked(None)));
     assert!(layer.slot(tag).cancelling);
-    let cancel = layer.next_entry().unwrap();
-    assert_eq!((cancel.opcode(), cancel.tag), (Some(Opcode::Cancel), tag));
+    assert_eq!(layer.next_entry(), Some(Taken::Cancel { tag }));
     let span = Span { base: 5, count: 2 };
-    assert_eq!(layer.wake_killed(tag, CALLER, span), Err(Refusal::Eintr));
+    assert_eq!(layer.wake_killed(tag, CALLER, span), Ok(Killed::Returned));
     assert_eq!(
         (layer.slot(tag).returned, layer.slot(tag).span),
         (true, span)
     );
-    let written = layer.complete(Cqe::err(tag, Errno::ECANCELED));
+    let again = layer.wake_killed(tag, CALLER, span);
+    assert_eq!(again, Err(Refusal::NotThisCallers));
     let wake = Effect::Wake {
         caller: CALLER,
         tag,
     };
-    assert_eq!(written.effects, [wake, Effect::Unmap { span }]);
+    let effects = accepted(&mut layer, call.err(Errno::ECANCELED));
+    assert_eq!(effects, [wake, Effect::Unmap { span }]);
     assert_eq!(layer.status().responded.tags().collect::<Vec<_>>(), [tag]);
 
-    let (mut layer, tag) = waiting(&[]);
-    let written = layer.complete(Cqe::ok(tag, 8));
-    assert_eq!(written.answer, Ok(16));
-    assert_eq!(layer.wake_killed(tag, CALLER, span), Ok(regular(Ok(8))));
+    let (mut layer, tag, call) = waiting(&[]);
+    assert_eq!(accepted(&mut layer, call.ok(8)).len(), 1);
+    let killed = layer.wake_killed(tag, CALLER, span);
+    assert_eq!(killed, Ok(Killed::Replied(regular(Ok(8)))));
 }
 
 #[test]
 fn layers_are_equal_by_their_words() {
-    let (mut layer, tag) = waiting(&[1]);
+    let (mut layer, tag, _call) = waiting(&[1]);
     let before = layer.clone();
     assert_eq!(layer.wake(tag, Caller(101)), Err(Refusal::NotThisCallers));
     assert_eq!(layer, before);
-    layer.close(FileNumber(1)).unwrap();
+    assert_eq!(layer.close(FileNumber(1)), Ok(told()));
     assert_ne!(layer, before);
     assert_eq!((layer.unread().len(), before.unread().len()), (1, 0));
     assert_eq!(layer.scheme(), before.scheme());
     // an entry that was read stands there until another takes its place
-    layer.next_entry().unwrap();
+    assert!(layer.next_entry().is_some());
     assert_ne!(layer, before);
 }
 
 #[test]
 fn an_ended_caller() {
-    let (mut layer, tag) = waiting(&[1]);
+    let (mut layer, tag, call) = waiting(&[1]);
     layer.ended(CALLER);
     assert!(layer.slot(tag).ended);
-    let written = layer.complete(Cqe::ok(tag, 0));
     let closed = Effect::Close {
         description: Description(1),
     };
-    assert_eq!(written.effects, [closed]);
+    assert_eq!(accepted(&mut layer, call.ok(0)), [closed]);
     assert_eq!(layer.slot(tag).state, SlotState::Vacant);
 }
 
 #[test]
 fn lists_moved_and_obtained() {
-    let (mut layer, tag) = waiting(&[1, 2]);
+    let (mut layer, tag, call) = waiting(&[1, 2]);
     assert_eq!(
         layer.slot(tag).descriptions,
         [Description(1), Description(2)]
@@ -377,7 +405,7 @@ fn lists_moved_and_obtained() {
     );
     // what a refused move brought is gone
     assert_eq!(layer.holds(Description(1)).all, 0);
-    assert_eq!(layer.complete(Cqe::many(tag)).answer, Ok(16));
+    assert_eq!(accepted(&mut layer, call.many()).len(), 1);
     assert_eq!(layer.obtain_list(tag), Err(Refusal::Enoent));
 }
 
@@ -388,7 +416,10 @@ fn a_map_request() {
         .request_fmap(CALLER, FileNumber(9), 1, 0, WHO)
         .unwrap()
         .tag;
-    assert_eq!(layer.complete(Cqe::ok(tag, 0)).answer, Err(Refusal::Einval));
+    assert_eq!(
+        layer.write(&ok_bytes(tag.0 as u32)).answer,
+        Err(Refusal::Einval)
+    );
     assert_eq!(layer.provide_mmap(tag, 0, 4095, 1), Err(Refusal::Einval));
     assert_eq!(layer.provide_mmap(tag, 0, 4096, 1), Ok(()));
     let tag = layer

@@ -1,6 +1,6 @@
 //! A layer whose events take and answer a script's numbers.
 
-use std::array;
+use core::array;
 
 use script::{Answer, Effect, Payload, Phase, Reply, State};
 

@@ -1,14 +1,17 @@
 //! The events of a script as steps of a layer.
 
+use alloc::boxed::Box;
+use alloc::vec;
+use alloc::vec::Vec;
+
 use script::{Answer, Effect, Event, Line, OutputLine, Script};
 
+use crate::entry::{Cqe, Sqe};
+use crate::limits::{EFFECT_WORDS, QUEUE_ENTRIES};
 use crate::numbers::{Layer, Outcome};
 
-/// The words that a whole completion entry may make.
-const EFFECT_WORDS: u64 = 54;
-const ENTRY: usize = 16;
 /// The bytes of a full queue. No read stores more, so a longer one is lent no more.
-const QUEUE_BYTES: u64 = 8_192;
+const QUEUE_BYTES: u64 = (QUEUE_ENTRIES * Sqe::BYTES) as u64;
 
 impl From<Outcome> for Line {
     fn from(outcome: Outcome) -> Line {
@@ -84,7 +87,7 @@ impl Layer {
             }
             Event::Write { words, bytes } => {
                 // what is lent beyond that is never used
-                let most = EFFECT_WORDS * (bytes.len() / ENTRY) as u64;
+                let most = (EFFECT_WORDS * (bytes.len() / Cqe::BYTES)) as u64;
                 let mut fx = vec![0; (*words).min(most) as usize];
                 self.write_line(&mut fx, bytes)
             }

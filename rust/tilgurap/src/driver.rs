@@ -1,0 +1,344 @@
+//! A driver, a method for each opcode, and the turn that it takes at its layer.
+
+use alloc::vec::Vec;
+use core::fmt::{self, Display, Formatter};
+
+use crate::effect::Effect;
+use crate::entry::Cqe;
+use crate::errno::{Errno, mux};
+use crate::ids::{FileNumber, Pid, Tag};
+use crate::layer::{Layer, Written};
+use crate::opcode::Opcode;
+use crate::refusal::Refusal;
+use crate::status::SlotState;
+use crate::taken::{Call, MapRequest, Supply, Taken};
+
+/// What a driver gives back.
+#[derive(Debug, PartialEq, Eq)]
+#[must_use = "it is to be put to the layer"]
+pub enum Answer {
+    /// Nothing now: a call or a map request is kept for later, a notice wants nothing.
+    Nothing,
+    /// An entry: the reply to this call or to one that was kept, or an event.
+    Entry(Cqe),
+    /// Several, in order.
+    Entries(Vec<Cqe>),
+    /// A map request's page.
+    Supply(Supply),
+}
+
+impl From<Cqe> for Answer {
+    fn from(entry: Cqe) -> Answer {
+        Answer::Entry(entry)
+    }
+}
+
+impl From<Vec<Cqe>> for Answer {
+    fn from(entries: Vec<Cqe>) -> Answer {
+        Answer::Entries(entries)
+    }
+}
+
+impl From<Supply> for Answer {
+    fn from(supply: Supply) -> Answer {
+        Answer::Supply(supply)
+    }
+}
+
+/// What a driver's answers came to. The effects have to be carried out, in order.
+#[derive(Debug, Default, PartialEq, Eq)]
+#[must_use = "its effects are the host's to carry out"]
+pub struct Served {
+    /// What the host has to do.
+    pub effects: Vec<Effect>,
+    /// What the layer refused. It hid nothing: all else was put to the layer.
+    pub refused: Vec<Refused>,
+}
+
+/// What the layer refused of a driver's answers.
+#[derive(Debug, PartialEq, Eq)]
+pub struct Refused {
+    /// What it was.
+    pub what: Rejected,
+    /// Why.
+    pub why: Refusal,
+    /// The call that still wants a reply, where it was one that was refused: a descriptor from an empty
+    /// handle, say.
+    pub call: Option<Call>,
+}
+
+/// Something that the layer refused.
+#[derive(Clone, Copy, Debug, PartialEq, Eq)]
+pub enum Rejected {
+    /// An entry, as [`Cqe::from_bytes`] reads it.
+    Entry([u8; Cqe::BYTES]),
+    /// The supply of the map request with this tag.
+    Supply(Tag),
+}
+
+impl Display for Refused {
+    fn fmt(&self, f: &mut Formatter) -> fmt::Result {
+        match &self.what {
+            Rejected::Entry(bytes) => {
+                let entry = Cqe::from_bytes(bytes);
+                write!(
+                    f,
+                    "an entry of kind {} with tag {}",
+                    entry.kind(),
+                    entry.tag()
+                )?;
+            }
+            Rejected::Supply(tag) => write!(f, "the supply to tag {tag}")?,
+        }
+        write!(f, " was refused: {}", self.why)
+    }
+}
+
+/// The trait's methods for calls and their dispatch, from one table.
+macro_rules! calls {
+    ($($(#[$doc:meta])* $method:ident = $opcode:ident;)*) => {
+        /// A driver: a method for each opcode. A call comes as a [`Call`], which its reply uses up; what wants
+        /// no reply comes without one. A driver that is not done with a call keeps it, answers
+        /// [`Nothing`](Answer::Nothing), and puts the reply to its layer later ([`Layer::answer`]).
+        ///
+        /// A call whose method is not written gets [`EOPNOTSUPP`](Errno::EOPNOTSUPP). The arguments named below
+        /// are those that the Redox kernel sends along; the layer passes any on, and the sixth is the caller's
+        /// uid and gid (gid times 2^32).
+        ///
+        /// ```
+        /// use tilgurap::{
+        ///     Answer, Call, Caller, Driver, Effect, FileNumber, Identity, Layer, Opcode, Pid, Reply,
+        ///     SchemeNumber, Tag, Wake,
+        /// };
+        ///
+        /// /// Doses come to an end later, the gauge is read at once.
+        /// #[derive(Default)]
+        /// struct Plant {
+        ///     dosing: Vec<Call>,
+        /// }
+        ///
+        /// impl Driver for Plant {
+        ///     fn read(&mut self, call: Call) -> Answer {
+        ///         call.ok(34).into()
+        ///     }
+        ///
+        ///     fn write(&mut self, call: Call) -> Answer {
+        ///         self.dosing.push(call);
+        ///         Answer::Nothing
+        ///     }
+        /// }
+        ///
+        /// let (mut layer, mut plant) = (Layer::new(SchemeNumber(7)), Plant::default());
+        /// let who = Identity { uid: 0, gid: 0, pid: Pid(100) };
+        /// let dose = layer.call(Caller(100), Opcode::Write, [2, 20, 0, 0, 0], who, &[])?.tag;
+        /// let gauge = layer.call(Caller(101), Opcode::Read, [3, 0, 0, 0, 0], who, &[])?.tag;
+        /// assert!(layer.close(FileNumber(3)).is_ok());
+        ///
+        /// // the driver's turn: of three entries one is replied to, one kept, one wants nothing
+        /// let served = layer.serve(&mut plant);
+        /// assert_eq!(served.effects, [Effect::Wake { caller: Caller(101), tag: gauge }]);
+        ///
+        /// // later
+        /// let done = plant.dosing.remove(0).ok(20);
+        /// let served = layer.answer(done);
+        /// assert_eq!(served.effects, [Effect::Wake { caller: Caller(100), tag: dose }]);
+        /// # Ok::<(), tilgurap::Refusal>(())
+        /// ```
+        pub trait Driver {
+            $(
+                $(#[$doc])*
+                fn $method(&mut self, call: Call) -> Answer {
+                    call.err(Errno::EOPNOTSUPP).into()
+                }
+            )*
+
+            /// A map request: it wants a page, now or later. A driver that lets its files be mapped writes this one:
+            /// a request that is dropped leaves its caller waiting and its slot taken.
+            fn request_mmap(&mut self, _request: MapRequest) -> Answer {
+                Answer::Nothing
+            }
+
+            /// The call with this tag is to be given up: a driver that has kept it may reply to it now, with
+            /// [`ECANCELED`](Errno::ECANCELED) or as it was asked to. The call wants its reply in any case.
+            fn on_cancel(&mut self, _tag: Tag) -> Answer {
+                Answer::Nothing
+            }
+
+            /// A file's last descriptor was closed.
+            fn on_close(&mut self, _file: FileNumber) -> Answer {
+                Answer::Nothing
+            }
+
+            /// A descriptor was detached from its file.
+            fn on_detach(&mut self, _file: FileNumber, _pid: Pid) -> Answer {
+                Answer::Nothing
+            }
+
+            /// The reply to this call was refused, and the call still waits.
+            fn on_refused(&mut self, call: Call, _why: Refusal) -> Answer {
+                call.err(Errno::EIO).into()
+            }
+        }
+
+        fn dispatch_call<D: Driver + ?Sized>(driver: &mut D, call: Call) -> Answer {
+            match call.opcode() {
+                $(Some(Opcode::$opcode) => driver.$method(call),)*
+                // those that are no calls, and numbers that are no opcodes
+                _ => call.err(Errno::EOPNOTSUPP).into(),
+            }
+        }
+    };
+}
+
+calls! {
+    /// Close: file.
+    close = Close;
+    /// Open again: file, address, length.
+    dup = Dup;
+    /// Read: file, address, length, offset, flags.
+    read = Read;
+    /// Write: file, address, length, offset, flags.
+    write = Write;
+    /// A file's size: file.
+    fsize = Fsize;
+    /// Change the mode: file, mode.
+    fchmod = Fchmod;
+    /// Change the owner: file, uid, gid.
+    fchown = Fchown;
+    /// File control: file, command, argument.
+    fcntl = Fcntl;
+    /// Ask for events: file, flags.
+    fevent = Fevent;
+    /// Descriptors are sent along: file, flags, the first metadata word, how many.
+    sendfd = Sendfd;
+    /// A file's path: file, address, length.
+    fpath = Fpath;
+    /// Rename: file, address, length.
+    frename = Frename;
+    /// A file's data: file, address, length.
+    fstat = Fstat;
+    /// A file system's data: file, address, length.
+    fstatvfs = Fstatvfs;
+    /// Write out what is buffered: file.
+    fsync = Fsync;
+    /// Set the length: file, length.
+    ftruncate = Ftruncate;
+    /// Set the times: file, address, length.
+    futimens = Futimens;
+    /// Get ready to map: file, size, flags, offset.
+    mmap_prep = MmapPrep;
+    /// Map anew.
+    mremap = Mremap;
+    /// Unmap: file, size, flags, offset.
+    munmap = Munmap;
+    /// Write a mapping out.
+    msync = Msync;
+    /// List a folder: file, address, length.
+    getdents = Getdents;
+    /// A call of the driver's own: file, address, length, metadata.
+    call = Call;
+    /// Open a path: file, address, length, flags, descriptor flags.
+    openat = OpenAt;
+    /// Link: file, address, length.
+    flink = Flink;
+    /// Descriptors are asked for: file, flags, how many, two metadata words.
+    recvfd = Recvfd;
+    /// Remove a path: file, address, length.
+    unlinkat = UnlinkAt;
+    /// A standard file system call: file, address, length, kind, two arguments.
+    std_fs_call = StdFsCall;
+}
+
+/// Hands what a driver has taken to the method for it. [`Layer::serve`] does that for a whole turn; a host with threads
+/// does it while the layer is free for others.
+pub fn dispatch<D: Driver + ?Sized>(driver: &mut D, taken: Taken) -> Answer {
+    match taken {
+        Taken::Call(call) => dispatch_call(driver, call),
+        Taken::MapRequest(request) => driver.request_mmap(request),
+        Taken::Cancel { tag } => driver.on_cancel(tag),
+        Taken::Close { file } => driver.on_close(file),
+        Taken::Detach { file, pid } => driver.on_detach(file, pid),
+    }
+}
+
+impl Layer {
+    /// A driver's turn: it takes every entry that is queued, and what it answers is put to the layer. What is refused
+    /// is passed and reported; the driver may answer a call that still waits otherwise
+    /// ([`on_refused`](Driver::on_refused)).
+    pub fn serve<D: Driver + ?Sized>(&mut self, driver: &mut D) -> Served {
+        let mut served = Served::default();
+        while let Some(taken) = self.next_entry() {
+            let mut looked_at = served.refused.len();
+            self.put_answer(dispatch(driver, taken), &mut served);
+            let first = served.refused.len();
+            while let Some(refused) = served.refused.get_mut(looked_at) {
+                if let Some(call) = refused.call.take() {
+                    // asked once: a reply with an error is not refused
+                    let again = if looked_at < first {
+                        driver.on_refused(call, refused.why)
+                    } else {
+                        call.err(Errno::EIO).into()
+                    };
+                    self.put_answer(again, &mut served);
+                }
+                looked_at += 1;
+            }
+        }
+        served
+    }
+
+    /// Puts to the layer what a driver answers: a reply, several, an event, a page. Each entry is an event of its own,
+    /// so that a refused one hides none behind it.
+    pub fn answer(&mut self, answer: impl Into<Answer>) -> Served {
+        let mut served = Served::default();
+        self.put_answer(answer.into(), &mut served);
+        served
+    }
+
+    /// The driver is gone with the calls that it had taken: what it has not read is removed, and every call that
+    /// waits gets this error. A driver that takes its place begins with an empty queue. Map requests stay: only a
+    /// [supply](Layer::provide_mmap) ends one, also where its caller has ended.
+    pub fn driver_gone(&mut self, errno: Errno) -> Served {
+        while self.next_entry().is_some() {}
+        let mut served = Served::default();
+        for tag in self.status().waiting.tags() {
+            self.put_entry(Cqe::new(0, tag, mux(Err(errno))), &mut served);
+        }
+        served
+    }
+
+    fn put_answer(&mut self, answer: Answer, served: &mut Served) {
+        match answer {
+            Answer::Nothing => {}
+            Answer::Entry(entry) => self.put_entry(entry, served),
+            Answer::Entries(entries) => {
+                for entry in entries {
+                    self.put_entry(entry, served);
+                }
+            }
+            Answer::Supply(Supply { tag, offset, base }) => {
+                if let Err(why) = self.provide_mmap(tag, offset, base, 1) {
+                    served.refused.push(Refused {
+                        what: Rejected::Supply(tag),
+                        why,
+                        call: None,
+                    });
+                }
+            }
+        }
+    }
+
+    fn put_entry(&mut self, entry: Cqe, served: &mut Served) {
+        let bytes = entry.bytes();
+        let Written { answer, effects } = self.write(&bytes);
+        served.effects.extend(effects);
+        if let Err(why) = answer {
+            let waits = |call: &Call| self.slot(call.tag()).state == SlotState::Waiting;
+            served.refused.push(Refused {
+                what: Rejected::Entry(bytes),
+                why,
+                call: entry.call.filter(waits),
+            });
+        }
+    }
+}

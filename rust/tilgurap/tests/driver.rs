@@ -1,0 +1,483 @@
+//! A driver at its layer: what an entry wants, each opcode's method, replies made once, refused entries passed.
+
+use tilgurap::{
+    Answer, Call, Caller, Cqe, Driver, Effect, Errno, EventFlags, FileNumber, Handle, Identity,
+    Layer, MapRequest, ObtainFlags, Opcode, Pid, Refusal, Rejected, Request, SchemeNumber, Served,
+    SlotState, SqeFlags, Tag, Taken, Wake, Wants, limits,
+};
+
+const WHO: Identity = Identity {
+    uid: 1,
+    gid: 2,
+    pid: Pid(9),
+};
+const LAYERS_OWN: [Opcode; 4] = [
+    Opcode::RequestMmap,
+    Opcode::Cancel,
+    Opcode::CloseMsg,
+    Opcode::Detach,
+];
+
+fn layer() -> Layer {
+    Layer::new(SchemeNumber(7))
+}
+
+fn call(layer: &mut Layer, caller: u32, opcode: Opcode, file: u64) -> Tag {
+    let called = layer.call(Caller(caller), opcode, [file, 0, 0, 0, 0], WHO, &[]);
+    called.unwrap().tag
+}
+
+fn opcodes() -> impl Iterator<Item = Opcode> {
+    (0..256).filter_map(Opcode::new)
+}
+
+/// What the caller reads.
+fn read(layer: &mut Layer, tag: Tag, caller: u32) -> Result<u64, Errno> {
+    match layer.wake(tag, Caller(caller)) {
+        Ok(Wake::Replied(reply)) => reply.into_regular(),
+        other => panic!("{other:?}"),
+    }
+}
+
+fn woken(served: &Served) -> Vec<(u32, u64)> {
+    let of = |effect: &Effect| match effect {
+        Effect::Wake { caller, tag } => (caller.0, tag.0),
+        other => panic!("{other:?}"),
+    };
+    served.effects.iter().map(of).collect()
+}
+
+/// Doses are kept until they are finished, a valve answers at once; closes and cancels are noted.
+#[derive(Default)]
+struct Plant {
+    dosing: Vec<Call>,
+    maps: Vec<MapRequest>,
+    valve_opened: bool,
+    noted: Vec<String>,
+}
+
+const VALVE: u64 = 1;
+const DOSER: u64 = 2;
+const GAUGE: u64 = 3;
+
+impl Driver for Plant {
+    fn write(&mut self, call: Call) -> Answer {
+        match call.file().0 {
+            VALVE => {
+                self.valve_opened = true;
+                call.ok(1).into()
+            }
+            DOSER => {
+                self.dosing.push(call);
+                Answer::Nothing
+            }
+            _ => call.err(Errno::ENOENT).into(),
+        }
+    }
+
+    fn request_mmap(&mut self, request: MapRequest) -> Answer {
+        self.maps.push(request);
+        Answer::Nothing
+    }
+
+    fn on_cancel(&mut self, tag: Tag) -> Answer {
+        self.noted.push(format!("cancel {tag}"));
+        match self.dosing.iter().position(|call| call.tag() == tag) {
+            Some(place) => self.dosing.remove(place).err(Errno::ECANCELED).into(),
+            None => Answer::Nothing,
+        }
+    }
+
+    fn on_close(&mut self, file: FileNumber) -> Answer {
+        self.noted.push(format!("close {file}"));
+        Answer::Nothing
+    }
+
+    fn on_detach(&mut self, file: FileNumber, pid: Pid) -> Answer {
+        self.noted.push(format!("detach {file} {pid}"));
+        Answer::Nothing
+    }
+}
+
+/// The story that went wrong: a driver that answered the close by its tag failed the dosing call, whose late reply then
+/// told the valve call that it was done.
+#[test]
+fn a_close_reaches_no_call() {
+    let (mut layer, mut plant) = (layer(), Plant::default());
+    let dose = call(&mut layer, 100, Opcode::Write, DOSER);
+    assert_eq!(dose, Tag(0));
+    assert_eq!(layer.serve(&mut plant), Served::default());
+
+    assert!(layer.close(FileNumber(GAUGE)).is_ok());
+    assert_eq!(layer.unread()[0].tag, dose);
+    assert_eq!(layer.serve(&mut plant), Served::default());
+    assert_eq!(plant.noted, ["close 3"]);
+    assert_eq!(layer.slot(dose).state, SlotState::Waiting);
+
+    let valve = call(&mut layer, 200, Opcode::Write, VALVE);
+    assert_ne!(valve, dose);
+    assert!(!plant.valve_opened);
+    assert_eq!(woken(&layer.serve(&mut plant)), [(200, valve.0)]);
+    assert!(plant.valve_opened);
+    assert_eq!(read(&mut layer, valve, 200), Ok(1));
+
+    let done = plant.dosing.remove(0).ok(20);
+    assert_eq!(woken(&layer.answer(done)), [(100, dose.0)]);
+    assert_eq!(read(&mut layer, dose, 100), Ok(20));
+    assert!(layer.occupied().is_empty());
+}
+
+#[test]
+fn what_each_entry_wants() {
+    for opcode in opcodes() {
+        let wants = match opcode {
+            Opcode::RequestMmap => Wants::Supply,
+            Opcode::Cancel | Opcode::CloseMsg | Opcode::Detach => Wants::Nothing,
+            _ => Wants::Reply,
+        };
+        let mut bytes = [0; 64];
+        bytes[0] = opcode.number();
+        assert_eq!(tilgurap::Sqe::from_bytes(&bytes).wants(), wants);
+        let taken = Taken::from_bytes(&bytes);
+        assert_eq!(taken.wants(), wants);
+        assert_eq!(taken.wants_reply(), wants == Wants::Reply);
+        // the flag of a Cancel does not make a call one that wants nothing
+        bytes[1] = SqeFlags::ONEWAY.bits();
+        assert_eq!(Taken::from_bytes(&bytes).wants(), wants);
+    }
+    // a number that is no opcode is answered too, or its caller would wait for good
+    let mut plant = Plant::default();
+    let Answer::Entry(reply) = tilgurap::dispatch(&mut plant, Taken::from_bytes(&[200; 64])) else {
+        panic!("no reply")
+    };
+    let wanted = tilgurap::mux(Err(Errno::EOPNOTSUPP));
+    assert_eq!((reply.kind(), reply.result()), (0, wanted));
+}
+
+#[test]
+fn opcodes_of_the_layers_own_are_refused() {
+    for opcode in LAYERS_OWN {
+        let mut layer = layer();
+        let before = layer.clone();
+        let called = layer.call(Caller(1), opcode, [0; 5], WHO, &[]);
+        assert_eq!(called, Err(Refusal::Einval));
+        assert_eq!(layer, before);
+        let tag = layer.reserve(Caller(1)).unwrap();
+        let before = layer.clone();
+        let request = Request {
+            opcode,
+            flags: SqeFlags::NONE,
+            args: [0; 6],
+            pid: Pid(0),
+        };
+        let submitted = layer.submit(tag, Caller(1), request, &[]);
+        assert_eq!(submitted, Err(Refusal::Einval));
+        assert_eq!(layer, before);
+    }
+}
+
+/// Answers each call with its method's own opcode.
+struct Numbered;
+
+macro_rules! numbered {
+    ($($method:ident = $opcode:ident),*) => {
+        impl Driver for Numbered {
+            $(fn $method(&mut self, call: Call) -> Answer {
+                call.ok(u64::from(Opcode::$opcode.number())).into()
+            })*
+        }
+    };
+}
+
+numbered! {
+    close = Close, dup = Dup, read = Read, write = Write, fsize = Fsize, fchmod = Fchmod, fchown = Fchown,
+    fcntl = Fcntl, fevent = Fevent, sendfd = Sendfd, fpath = Fpath, frename = Frename, fstat = Fstat,
+    fstatvfs = Fstatvfs, fsync = Fsync, ftruncate = Ftruncate, futimens = Futimens, mmap_prep = MmapPrep,
+    mremap = Mremap, munmap = Munmap, msync = Msync, getdents = Getdents, call = Call, openat = OpenAt,
+    flink = Flink, recvfd = Recvfd, unlinkat = UnlinkAt, std_fs_call = StdFsCall
+}
+
+#[test]
+fn each_opcode_has_its_method() {
+    let calls = || opcodes().filter(|opcode| !LAYERS_OWN.contains(opcode));
+    assert_eq!(calls().count(), 28);
+    for opcode in calls() {
+        let mut layer = layer();
+        let tag = call(&mut layer, 1, opcode, 0);
+        assert_eq!(woken(&layer.serve(&mut Numbered)), [(1, tag.0)]);
+        assert_eq!(read(&mut layer, tag, 1), Ok(u64::from(opcode.number())));
+        // and one that is not written says so
+        struct Idle;
+        impl Driver for Idle {}
+        let tag = call(&mut layer, 1, opcode, 0);
+        assert_eq!(woken(&layer.serve(&mut Idle)), [(1, tag.0)]);
+        assert_eq!(read(&mut layer, tag, 1), Err(Errno::EOPNOTSUPP));
+    }
+}
+
+#[test]
+fn a_cancelled_call_is_replied_to_once() {
+    let (mut layer, mut plant) = (layer(), Plant::default());
+    let dose = call(&mut layer, 100, Opcode::Write, DOSER);
+    let other = call(&mut layer, 101, Opcode::Write, DOSER);
+    assert_eq!(layer.serve(&mut plant), Served::default());
+    assert!(matches!(
+        layer.wake(other, Caller(101)),
+        Ok(Wake::Blocked(Some(_)))
+    ));
+    assert!(layer.detach(FileNumber(GAUGE), Pid(5)).is_ok());
+    assert_eq!(woken(&layer.serve(&mut plant)), [(101, other.0)]);
+    assert_eq!(plant.noted, ["cancel 1", "detach 3 5"]);
+    assert_eq!(read(&mut layer, other, 101), Err(Errno::EINTR));
+    assert_eq!(layer.slot(dose).state, SlotState::Waiting);
+    assert_eq!(plant.dosing.len(), 1);
+}
+
+#[test]
+fn a_map_request_is_supplied() {
+    let (mut layer, mut plant) = (layer(), Plant::default());
+    let request = |layer: &mut Layer| {
+        let queued = layer.request_fmap(Caller(1), FileNumber(9), 2, 3, WHO);
+        queued.unwrap().tag
+    };
+    let tag = request(&mut layer);
+    assert_eq!(layer.serve(&mut plant), Served::default());
+    let map = plant.maps.remove(0);
+    assert_eq!(
+        (map.tag(), map.file(), map.pid()),
+        (tag, FileNumber(9), Pid(9))
+    );
+    assert_eq!((map.flags(), map.pages()), (3, 2));
+    // off a page it comes back
+    let map = map
+        .supply(1, 4096)
+        .unwrap_err()
+        .supply(0, 4095)
+        .unwrap_err();
+    let supply = map.supply(0, 4096).unwrap();
+    assert_eq!(layer.answer(supply), Served::default());
+    assert_eq!(layer.slot(tag).state, SlotState::Vacant);
+
+    let tag = request(&mut layer);
+    assert_eq!(layer.serve(&mut plant), Served::default());
+    layer.ended(Caller(1));
+    let supply = plant.maps.remove(0).supply(0, 4096).unwrap();
+    let refused = layer.answer(supply).refused;
+    assert_eq!(
+        (refused[0].what, refused[0].why),
+        (Rejected::Supply(tag), Refusal::Esrch)
+    );
+    assert_eq!(
+        refused[0].to_string(),
+        "the supply to tag 0 was refused: the caller has ended (3)"
+    );
+}
+
+/// A bad entry hides none of the others, wherever it stands.
+#[test]
+fn a_refused_entry_is_passed() {
+    for place in 0..3 {
+        let mut layer = layer();
+        let tags = [100, 101].map(|caller| call(&mut layer, caller, Opcode::Read, 0));
+        let mut calls = Vec::new();
+        while let Some(Taken::Call(call)) = layer.next_entry() {
+            calls.push(call);
+        }
+        let mut entries: Vec<Cqe> = calls.into_iter().map(|call| call.ok(4)).collect();
+        entries.insert(place, Cqe::event(1, EventFlags::from_bits(1 << 20)));
+        let served = layer.answer(entries);
+        assert_eq!(woken(&served), [(100, tags[0].0), (101, tags[1].0)]);
+        let [refused] = <[_; 1]>::try_from(served.refused).unwrap();
+        assert_eq!((refused.why, &refused.call), (Refusal::Einval, &None));
+        let Rejected::Entry(bytes) = refused.what else {
+            panic!("an entry was refused")
+        };
+        assert_eq!(Cqe::from_bytes(&bytes).kind(), 2);
+        assert_eq!(
+            refused.to_string(),
+            "an entry of kind 2 with tag 1048576 was refused: not valid there (22)"
+        );
+        for (tag, caller) in tags.into_iter().zip([100, 101]) {
+            assert_eq!(read(&mut layer, tag, caller), Ok(4));
+        }
+    }
+}
+
+/// Replies with a handle that is empty, and with what it is told to when that is refused.
+struct Fumbling {
+    again: fn(Call) -> Answer,
+    refused: usize,
+}
+
+impl Driver for Fumbling {
+    fn openat(&mut self, call: Call) -> Answer {
+        call.descriptor(Handle(5)).into()
+    }
+
+    fn read(&mut self, call: Call) -> Answer {
+        call.ok(4).into()
+    }
+
+    fn on_refused(&mut self, call: Call, why: Refusal) -> Answer {
+        assert_eq!(why, Refusal::Einval);
+        self.refused += 1;
+        (self.again)(call)
+    }
+}
+
+/// In a driver's turn too, first, in the middle and last; and the call whose reply it was is not left waiting.
+#[test]
+fn a_refused_reply_is_made_again() {
+    type Again = fn(Call) -> Answer;
+    let otherwise: [(Again, Result<u64, Errno>, usize); 2] = [
+        (|call| call.err(Errno::ENOSPC).into(), Err(Errno::ENOSPC), 1),
+        // refused a second time
+        (|call| call.descriptor(Handle(6)).into(), Err(Errno::EIO), 2),
+    ];
+    for (again, wanted, times) in otherwise {
+        for place in 0..3 {
+            let mut layer = layer();
+            let opcode = |at| {
+                if at == place {
+                    Opcode::OpenAt
+                } else {
+                    Opcode::Read
+                }
+            };
+            let tags = [0, 1, 2].map(|at| call(&mut layer, 100 + at as u32, opcode(at), 0));
+            let mut driver = Fumbling { again, refused: 0 };
+            let served = layer.serve(&mut driver);
+            assert_eq!(woken(&served), [(100, 0), (101, 1), (102, 2)]);
+            assert_eq!((served.refused.len(), driver.refused), (times, 1));
+            assert!(served.refused.iter().all(|refused| refused.call.is_none()));
+            for (at, tag) in tags.into_iter().enumerate() {
+                let wanted = if at == place { wanted } else { Ok(4) };
+                assert_eq!(read(&mut layer, tag, 100 + at as u32), wanted);
+            }
+        }
+    }
+    // as it is where a driver says nothing about it
+    struct Plain;
+    impl Driver for Plain {
+        fn openat(&mut self, call: Call) -> Answer {
+            call.descriptor(Handle(5)).into()
+        }
+    }
+    let mut layer = layer();
+    let tag = call(&mut layer, 100, Opcode::OpenAt, 0);
+    assert_eq!(layer.serve(&mut Plain).refused.len(), 1);
+    assert_eq!(read(&mut layer, tag, 100), Err(Errno::EIO));
+}
+
+#[test]
+fn a_driver_that_is_gone() {
+    let (mut layer, mut plant) = (layer(), Plant::default());
+    let taken = call(&mut layer, 100, Opcode::Write, DOSER);
+    let map = layer.request_fmap(Caller(101), FileNumber(9), 1, 0, WHO);
+    let map = map.unwrap().tag;
+    assert_eq!(layer.serve(&mut plant), Served::default());
+    let unread = call(&mut layer, 102, Opcode::Write, VALVE);
+    let reserved = layer.reserve(Caller(103)).unwrap();
+    drop(plant);
+
+    let served = layer.driver_gone(Errno::EIO);
+    assert_eq!(woken(&served), [(100, taken.0), (102, unread.0)]);
+    assert!(served.refused.is_empty() && layer.unread().is_empty());
+    assert_eq!(read(&mut layer, taken, 100), Err(Errno::EIO));
+    assert_eq!(read(&mut layer, unread, 102), Err(Errno::EIO));
+    assert_eq!(layer.slot(map).state, SlotState::Fmap);
+    assert_eq!(layer.slot(reserved).state, SlotState::Placeholder);
+    // the next one serves
+    let mut plant = Plant::default();
+    let valve = call(&mut layer, 100, Opcode::Write, VALVE);
+    assert_eq!(woken(&layer.serve(&mut plant)), [(100, valve.0)]);
+}
+
+/// A scheduler and a driver on threads of their own: the layer is free while the driver works.
+#[test]
+fn threads_take_turns() {
+    use std::sync::Mutex;
+
+    fn is_shared<T: Send + Sync>() {}
+    is_shared::<Layer>();
+    fn is_sent<T: Send>() {}
+    is_sent::<(Call, MapRequest, Cqe, Answer, Served)>();
+
+    let layer = Mutex::new(layer());
+    let calls = 2_000;
+    std::thread::scope(|threads| {
+        let driver = threads.spawn(|| {
+            let mut left = calls;
+            while left > 0 {
+                let taken = layer.lock().unwrap().next_entry();
+                let Some(taken) = taken else {
+                    std::thread::yield_now();
+                    continue;
+                };
+                let answer = tilgurap::dispatch(&mut Numbered, taken);
+                let served = layer.lock().unwrap().answer(answer);
+                assert_eq!((served.effects.len(), served.refused.len()), (1, 0));
+                left -= 1;
+            }
+        });
+        for caller in [1, 2] {
+            let layer = &layer;
+            threads.spawn(move || {
+                for _ in 0..calls / 2 {
+                    let tag = call(&mut layer.lock().unwrap(), caller, Opcode::Fsync, 0);
+                    loop {
+                        let mut layer = layer.lock().unwrap();
+                        if layer.slot(tag).state == SlotState::Responded {
+                            let wanted = u64::from(Opcode::Fsync.number());
+                            assert_eq!(read(&mut layer, tag, caller), Ok(wanted));
+                            break;
+                        }
+                        drop(layer);
+                        std::thread::yield_now();
+                    }
+                }
+            });
+        }
+        driver.join().unwrap();
+    });
+    assert!(layer.into_inner().unwrap().occupied().is_empty());
+}
+
+#[test]
+fn flags_and_limits() {
+    let both = EventFlags::READ | EventFlags::HUP;
+    assert!(both.contains(EventFlags::READ) && both.contains(EventFlags::HUP));
+    assert!(!both.contains(EventFlags::WRITE) && !EventFlags::READ.contains(both));
+    assert!(both.contains(EventFlags::NONE) && EventFlags::default() == EventFlags::NONE);
+    let mut flags = ObtainFlags::NONE;
+    flags |= ObtainFlags::CLOEXEC;
+    assert_eq!((flags.bits(), SqeFlags::MULTIPLE_IDS.bits()), (8, 2));
+
+    let mut layer = layer();
+    for _ in 0..limits::SLOTS {
+        assert!(layer.reserve(Caller(1)).is_ok());
+    }
+    assert_eq!(layer.reserve(Caller(1)), Err(Refusal::NoVacantSlot));
+    for _ in 0..limits::QUEUE_ENTRIES {
+        assert!(layer.close(FileNumber(1)).is_ok());
+    }
+    assert_eq!(layer.close(FileNumber(1)), Err(Refusal::QueueFull));
+    let last = tilgurap::Description(limits::DESCRIPTIONS as u64 - 1);
+    assert!(layer.open(last).is_ok());
+    let beyond = tilgurap::Description(limits::DESCRIPTIONS as u64);
+    assert_eq!(layer.open(beyond), Err(Refusal::OutOfRules));
+    assert!(layer.put(last, Handle(limits::HANDLES as u64 - 1)).is_ok());
+    assert!(layer.open(tilgurap::Description(0)).is_ok());
+    for _ in 1..limits::HOLDS {
+        assert!(layer.copy(tilgurap::Description(0)).is_ok());
+    }
+    let full = layer.copy(tilgurap::Description(0));
+    assert_eq!(full, Err(Refusal::HoldsFull));
+    let list = [tilgurap::Description(0); limits::LIST + 1];
+    assert_eq!(
+        layer.move_list(Tag(0), &list),
+        Err(Refusal::ManyDescriptions)
+    );
+    assert_eq!(layer.move_list(Tag(0), &list[1..]), Err(Refusal::Enoent));
+    assert_eq!(limits::EFFECT_WORDS, 3 * limits::EFFECTS);
+}
