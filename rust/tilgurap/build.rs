@@ -100,23 +100,20 @@ fn abi_of(dir: &Path) -> Result<String, String> {
         .output())
     .map_err(|why| format!("rustc does not run: {why}"))?;
     if !built.status.success() {
-        // what the linker says is long: its first line with a word on it is enough
         let said = String::from_utf8_lossy(&built.stderr);
-        let word = said.lines().map(str::trim).find(|line| {
-            [
-                "undefined",
-                "incompatible",
-                "could not",
-                "not recognized",
-                "unknown",
-            ]
-            .iter()
-            .any(|of| line.contains(of))
-        });
-        return Err(format!(
-            "the library is an old one or for another machine ({})",
-            word.unwrap_or("it does not link")
-        ));
+        let has = |word: &str| {
+            said.lines()
+                .any(|line| line.contains(word) && !line.contains("\"-l"))
+        };
+        if has("incompatible") {
+            return Err("the library is for another machine".into());
+        }
+        if has("undefined") {
+            return Err("the library is an old one, which does not answer its number".into());
+        }
+        let log = out.join("probe.log");
+        fs::write(&log, &built.stderr).map_err(|why| why.to_string())?;
+        return Err(format!("the library does not link: see {}", log.display()));
     }
     let asked = Command::new(&program)
         .output()
