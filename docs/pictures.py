@@ -2,9 +2,10 @@
 """Draws docs/layers.svg, from the sections of crates.txt, and docs/call.svg, one call's life.
 
     docs/pictures.py            draws both
-    docs/pictures.py --check    fails where one is not what it would draw, or a crate on a call's way is none
+    docs/pictures.py --check    fails where one is not what it would draw, or no code on a call's way names the next crate
 """
 import pathlib
+import re
 import sys
 import textwrap
 from xml.sax.saxutils import escape
@@ -13,11 +14,11 @@ DOCS = pathlib.Path(__file__).resolve().parent
 SANS, MONO = "DejaVu Sans, Helvetica, Arial, sans-serif", "DejaVu Sans Mono, Menlo, Consolas, monospace"
 # One call's way through the layers: who, the export that it calls, and the crates on the way.
 WAYS = [
-    ("the scheduler calls", "tilgurap_call", ["answer_words", "call", "step", "slot_store", "take_holds", "slot"]),
+    ("the scheduler calls", "tilgurap_call", ["answer_words", "call", "ask", "hold_words", "step", "slot_store", "take_holds", "slot"]),
     ("the driver reads", "tilgurap_read", ["read", "queue_words", "wait_queue_receive"]),
     ("the driver replies", "tilgurap_write", ["write", "carry_out", "slot_store", "wish", "plan", "parse_cqe"]),
     ("the caller is woken", "tilgurap_wake",
-     ["answer_words", "call_inner", "slot_load", "slot_store", "wake_decision", "slot", "counts"]),
+     ["answer_words", "call_inner", "slot_load", "slot_store", "hold_words", "wake_decision", "slot", "counts"]),
 ]
 
 
@@ -66,6 +67,22 @@ def sections():
     return found[::-1]
 
 
+def named(crate):
+    """The crates that a crate's code names."""
+    code = (DOCS.parent / f"crates/{crate}/src/lib.rt").read_text(encoding="utf-8")
+    return set(re.findall(r"\b(\w+)::", "\n".join(line for line in code.split("\n") if not line.startswith(("ghost", "//")))))
+
+
+def lost():
+    """The crates on a call's way that none before them on it names."""
+    for who, _, way in WAYS:
+        reached = {"tilgurap"} | named("tilgurap")
+        for crate in way:
+            if crate not in reached:
+                yield f"docs/pictures.py: no code on the way of `{who}` names {crate}"
+            reached |= named(crate)
+
+
 def layers():
     left, wide, column, row, top = 20, 565, 165, 82, 92
     found = sections()
@@ -83,8 +100,6 @@ def layers():
         x = left + wide + column * n + 20
         stops = {}
         for crate in ["tilgurap", *way]:
-            if crate not in at:
-                sys.exit(f"docs/pictures.py: {crate}, on the way of `{who}`, is no crate")
             stops.setdefault(at[crate], []).append(export if crate == "tilgurap" else crate)
         picture.text(x - 8, 60, f"{n + 1}. {who}", 12.5, True)
         picture.line(x, top + row * min(stops) + 34, x, top + row * max(stops) + 34)
@@ -166,7 +181,7 @@ def call():
 
 def main():
     pictures = {"layers.svg": layers(), "call.svg": call()}
-    wrong = 0
+    wrong = len([print(line) for line in lost()])
     for name, drawn in pictures.items():
         file = DOCS / name
         if sys.argv[1:] != ["--check"]:

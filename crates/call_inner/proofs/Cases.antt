@@ -10,7 +10,7 @@ use borrow.Author.Tests.{lt-ltb, le-ltb, ltb-true}
 use Rattle.answer.specs.declared.Answer.{Answer as Case}
 use Rattle.counts.specs.Counts.{moreAll}
 use Rattle.fd_list.specs.declared.List.{List as Fds}
-use Rattle.fd_list.specs.Lists.{numbers}
+use Rattle.fd_list.specs.Lists.{numbers, listOf}
 use Rattle.holds.specs.declared.Holds.{Holds}
 use Rattle.holds.specs.Holds.{outsideOf}
 use Rattle.ids.specs.declared.SlotNo.{SlotNo}
@@ -38,6 +38,8 @@ use Rattle.wake_decision.specs.declared.Decided.{Decided}
 use Rattle.wake_decision.specs.declared.Turn.{Turn}
 use Rattle.wake_decision.specs.declared.Turn.the-variants.{Stay, Interrupt, Cancel, HandOver}
 use Rattle.wake_decision.specs.Wake.{decidedOf}
+use Rattle.call_inner.specs.declared.Stored.{Stored}
+use Rattle.call_inner.specs.Stored.{listBeside, keptIn}
 
 -- what each turn comes to, and what it stores
 abbrev said : Turn → Case → World → ℕ → PageSpan → Response → Outcome
@@ -218,16 +220,34 @@ module _ (ws : List ℕ) (n : Tag) (c killed base count : ℕ) where
         does (responseOf v) HandOver et ys a fx ea ef
         (ey ∙ λ i. stored ((ex ∙ ap (λ (z : List ℕ). stored ws (outside z)) h) i) (vacate (j i)))
 
--- only many have a list
-pub no-list : (r : Reply) (l m : Fds) → r .kind < 3 → responseFrom r l ≡ responseFrom r m
-no-list r l m h = go (r .kind) h
+-- a slot's reply, by its kind
+pub kept-alone : (v : Slot) → v .reply .kind < 3 → record { reply = v .reply; fds = listOf [] } ≡ keptIn v
+kept-alone v h = ap (λ (l : Fds). record { reply = v .reply; fds = l }) (go (v .reply .kind) h)
   where
-    go : (k : ℕ) → k < 3 → responseBy k r l ≡ responseBy k r m
+    go : (k : ℕ) → k < 3 → listOf [] ≡ listBeside k (v .fds)
     go zero h = refl
     go (suc zero) h = refl
     go (suc (suc zero)) h = refl
     go (suc (suc (suc k))) h = absurd (omega (arith, h))
 
+pub kept-many : (v : Slot) → 3 ≤ v .reply .kind → record { reply = v .reply; fds = v .fds } ≡ keptIn v
+kept-many v h = ap (λ (l : Fds). record { reply = v .reply; fds = l }) (go (v .reply .kind) h)
+  where
+    go : (k : ℕ) → 3 ≤ k → v .fds ≡ listBeside k (v .fds)
+    go zero h = absurd (omega (arith, h))
+    go (suc zero) h = absurd (omega (arith, h))
+    go (suc (suc zero)) h = absurd (omega (arith, h))
+    go (suc (suc (suc k))) h = refl
+
+kept-response : (v : Slot) → responseFrom (keptIn v .reply) (keptIn v .fds) ≡ responseOf v
+kept-response v = go (v .reply .kind)
+  where
+    go : (k : ℕ) → responseBy k (v .reply) (listBeside k (v .fds)) ≡ responseBy k (v .reply) (v .fds)
+    go zero = refl
+    go (suc zero) = refl
+    go (suc (suc zero)) = refl
+    go (suc (suc (suc k))) = refl
+
 -- a reply that was looked at before the wake is the one that it hands over
-pub looked-before : (ws xs : List ℕ) (v : Event) (fx : List ℕ) (a : Case) (r s : Response) → r ≡ s → Does ws xs v (saidWith s a) fx → Does ws xs v (saidWith r a) fx
-looked-before ws xs v fx a r s q d = subst (λ (x : Response). Does ws xs v (saidWith x a) fx) (sym q) d
+pub looked-before : (ws xs : List ℕ) (v : Event) (fx : List ℕ) (a : Case) (r : Stored) (s : Slot) → r ≡ keptIn s → Does ws xs v (saidWith (responseOf s) a) fx → Does ws xs v (saidWith (responseFrom (r .reply) (r .fds)) a) fx
+looked-before ws xs v fx a r s q d = subst (λ (x : Response). Does ws xs v (saidWith x a) fx) (sym (ap (λ (x : Stored). responseFrom (x .reply) (x .fds)) q ∙ kept-response s)) d

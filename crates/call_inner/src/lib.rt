@@ -9,11 +9,12 @@ use wake_decision::Turn;
 ghost use mathlib.Core.Path.{_≡_};
 ghost use Rattle.effect.specs.Effect.{effectWords};
 ghost use Rattle.events.specs.Outcome.{saidWith};
-ghost use Rattle.events.specs.Wake.{responseFrom, responseOf};
+ghost use Rattle.events.specs.Wake.{responseOf};
 ghost use Rattle.events.specs.Event.{on, wake as wakeEvent};
 ghost use Rattle.events.specs.World.{slotIn};
 ghost use Rattle.layout.specs.Layout.{plainOf};
 ghost use Rattle.step.specs.Does.{Does};
+ghost use Rattle.call_inner.specs.Stored.{keptIn};
 
 // The reply in a tag's slot, with its list where it is one of many: what a wake hands over, to be looked at before it. The wake
 // does not hand it back itself, since a struct that is stored to be taken apart again costs as much as the wake.
@@ -23,7 +24,7 @@ pub struct Stored {
 }
 
 pub fn stored_reply(s: &[u64; 2060], tag: Tag) -> Stored
-    ensures { λ r. ⌜ responseFrom (r .reply) (r .fds) ≡ responseOf (slotIn (plainOf (now (s .entry))) (tag .0)) ⌝ }
+    ensures { λ r. ⌜ r ≡ keptIn (slotIn (plainOf (now (s .entry))) (tag .0)) ⌝ }
 {
     let v = slot_load::load(s, ids::slot_of(tag));
     let reply = v.reply;

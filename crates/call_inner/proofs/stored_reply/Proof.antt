@@ -2,10 +2,11 @@
 use mathlib.Core.Path.{ap, _∙_}
 use Rattle.ids.specs.declared.SlotNo.{SlotNo}
 use Rattle.events.specs.World.{slotIn}
-use Rattle.events.specs.Wake.{responseOf}
+use Rattle.fd_list.specs.declared.List.{List as Fds}
 use Rattle.layout.specs.Layout.{plainOf}
 use Rattle.step.proofs.Tests.{slot-of-in}
-use Rattle.call_inner.proofs.Cases.{no-list}
+use Rattle.call_inner.specs.Stored.{keptIn}
+use Rattle.call_inner.proofs.Cases.{kept-alone, kept-many}
 use borrow.Author.Needs.{needs}
 use Rattle.call_inner.proofs.stored_reply.Statement.{statement}
 use Rattle.call_inner.proofs.stored_reply.Tie as tie
@@ -26,15 +27,15 @@ returns : tie.Need-returns
 returns c =
     let a = c .before .before .before .before .before .before .args in
     let w = plainOf (a .s .now) in
-    let e = ap responseOf (c .before .before .before .before .load .ensures ∙ ap (λ (y : SlotNo). slotIn w (y .0)) (c .before .before .before .before .before .slot-of .ensures) ∙ slot-of-in w (a .tag .0)) in
-    no-list (c .before .before .before .before .load .result .reply) _ (c .before .before .before .before .load .result .fds) (c .before .if1 .taken) ∙ e
+    let e = ap keptIn (c .before .before .before .before .load .ensures ∙ ap (λ (y : SlotNo). slotIn w (y .0)) (c .before .before .before .before .before .slot-of .ensures) ∙ slot-of-in w (a .tag .0)) in
+    ap (λ (l : Fds). record { reply = c .before .before .before .before .load .result .reply; fds = l }) (c .empty .ensures) ∙ kept-alone (c .before .before .before .before .load .result) (c .before .if1 .taken) ∙ e
 
 returns-2 : tie.Need-returns-2
 returns-2 c =
     let a = c .before .before .before .before .before .before .args in
     let w = plainOf (a .s .now) in
-    let e = ap responseOf (c .before .before .before .before .load .ensures ∙ ap (λ (y : SlotNo). slotIn w (y .0)) (c .before .before .before .before .before .slot-of .ensures) ∙ slot-of-in w (a .tag .0)) in
-    e
+    let e = ap keptIn (c .before .before .before .before .load .ensures ∙ ap (λ (y : SlotNo). slotIn w (y .0)) (c .before .before .before .before .before .slot-of .ensures) ∙ slot-of-in w (a .tag .0)) in
+    kept-many (c .before .before .before .before .load .result) (c .before .if1 .left) ∙ e
 
 pub stored-reply-spec : {M : Type 1} → statement M
 stored-reply-spec =

@@ -1,5 +1,7 @@
 -- `run::wake_turn` meets its contract. Assumes nothing.
 use Rattle.call_inner.proofs.Cases.{looked-before}
+use Rattle.events.specs.World.{slotIn}
+use Rattle.layout.specs.Layout.{plainOf}
 use Rattle.run.proofs.ByKind.{wake-told}
 use borrow.Author.Needs.{needs}
 use Rattle.run.proofs.wake_turn.Statement.{statement}
@@ -27,7 +29,7 @@ same-length c = search needs
 returns : tie.Need-returns
 returns c =
     let a = c .before .before .before .before .before .before .before .before .before .before .before .before .args in
-    let d = looked-before _ _ _ _ (c .before .before .before .before .wake .result .answer) _ _ (c .before .before .before .before .before .before .stored-reply .ensures) (c .before .before .before .before .wake .ensures) in
+    let d = looked-before _ _ _ _ (c .before .before .before .before .wake .result .answer) _ (slotIn (plainOf (a .s .now)) (a .r .words .0)) (c .before .before .before .before .before .before .stored-reply .ensures) (c .before .before .before .before .wake .ensures) in
     let p = c .before .before .put-woken .ensures in
     (wake-told (a .s .now) _ (a .r) _ _ (a .out .now) _ _ (c .before .before .before .before .before .before .before .before .before .sized .ensures) d (p .0) (p .1 .0), p .1 .1)
 
