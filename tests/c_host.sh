@@ -1,7 +1,8 @@
 #!/usr/bin/env bash
 # The header for hosts in C compiles by itself, as C99, C11 and C++17; examples/host.c, compiled without a warning and linked with
 # the static library, tells the story in examples/host.expected. The same host fails where its driver answers every entry, and
-# stops at once where the header's interface is not the library's. Each compiler that is there is asked; what is skipped says so.
+# stops at once where the header's interface is not the library's. tests/c_calls.c calls every exported function and finds what
+# the header says of it. Each compiler that is there is asked; what is skipped says so.
 set -euo pipefail
 cd "$(dirname "$0")/.."
 
@@ -25,12 +26,12 @@ header_compiles() { # LANGUAGE STANDARD COMPILER FLAG..
     done
 }
 
-# Compiles the host against the header in a folder and runs it: its output and its status.
-run_host() { # COMPILER FOLDER FLAG..
-    "$1" -std=c11 "${c_warnings[@]}" -I "$2" "${@:3}" examples/host.c "$library" -o "$made/host" ||
-        fail "$1: the host does not compile"
+# Compiles a program against the header in a folder and runs it: its output and its status.
+run_program() { # FILE COMPILER FOLDER FLAG..
+    "$2" -std=c11 "${c_warnings[@]}" -I "$3" "${@:4}" -c "$1" -o "$made/program.o" || fail "$2: $1 does not compile"
+    "$2" "$made/program.o" "$library" -o "$made/program" || fail "$2: $1 is not linked"
     status=0
-    "$made/host" > "$made/told" || status=$?
+    "$made/program" > "$made/told" || status=$?
 }
 
 asked=0
@@ -47,19 +48,26 @@ for compiler in gcc clang; do
         echo "skipped: the host in C by $compiler, since $library is not built"
         continue
     fi
-    run_host "$compiler" include
+    run_program examples/host.c "$compiler" include
     [ "$status" = 0 ] || fail "$compiler: the host ends with $status"
     diff examples/host.expected "$made/told" || fail "$compiler: the host tells another story"
 
-    run_host "$compiler" include -DANSWER_EVERYTHING
+    run_program examples/host.c "$compiler" include -DANSWER_EVERYTHING
     [ "$status" = 1 ] || fail "$compiler: a driver that answers every entry ends with $status"
     [ "$(grep -c 'DID NOT GET ITS OWN REPLY' "$made/told")" = 2 ] || fail "$compiler: the accident is not told"
 
     mkdir -p "$made/other"
     sed 's/^#define TILGURAP_ABI .*/#define TILGURAP_ABI 1000/' include/tilgurap.h > "$made/other/tilgurap.h"
-    run_host "$compiler" "$made/other"
+    run_program examples/host.c "$compiler" "$made/other"
     [ "$status" = 2 ] || fail "$compiler: a host for another interface ends with $status"
     [ "$(wc -l < "$made/told")" = 1 ] || fail "$compiler: a host for another interface goes on"
+
+    run_program tests/c_calls.c "$compiler" include
+    [ "$status" = 0 ] || fail "$compiler: the functions called from C: $(cat "$made/told")"
+    called=$(nm "$made/program.o" | awk '$1 == "U" && $2 ~ /^tilgurap_/ { print $2 }' | sort)
+    exported=$(nm "$library" 2> /dev/null | awk '$2 == "T" && $3 ~ /^tilgurap_/ { print $3 }' | sort)
+    diff <(echo "$exported") <(echo "$called") || fail "$compiler: a function that is exported is not called from C"
+    cat "$made/told"
 done
 for compiler in g++ clang++; do
     if ! command -v "$compiler" > /dev/null; then

@@ -8,8 +8,9 @@ and offsets that the Rust compiler gives to those of ffi.rs.
     tests/declarations.py               hold them against each other
     tests/declarations.py --self-test   try edits of each of the three, every one of which has to be found
 
-Not held against the crates, since no single line there says them: the kinds of an effect, of a reply and of an opened file (the
-first is held against effect.rs, the others stand in the header alone), and the errors by name (held against errno.rs).
+Not held against the crates, since no single line there says them: the kinds of an effect (held against effect.rs), the errors by
+name (against errno.rs), and the kinds of a reply and of an opened file, which stand in the header alone. tests/c_calls.c asks the
+library about all of them.
 """
 import pathlib
 import re
