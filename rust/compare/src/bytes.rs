@@ -1,11 +1,11 @@
-//! The same events through `tilgurap_run`: its whole output held against what the kernel told.
+//! The same events through `tilgurap_run`: its whole output held against what was told before.
 //! Damaged records, too: the run has to turn them down before it starts.
 
 use generate::Draw;
+use reasons::{EFFECT_WORDS, ENTRY};
 use script::{Event, Line, State};
 
 use crate::beside::Taken;
-use crate::known::{EFFECT_WORDS, ENTRY};
 
 /// What docs/FORMAT.md asks of an output's length.
 const LAST: usize = 1_608;
@@ -143,7 +143,7 @@ impl Records {
     }
 }
 
-/// A run's events as they were told: those that the kernel took, and those that the port took.
+/// A run's events as the port told them: what the kernel was given, and what the port took.
 #[derive(Default)]
 pub struct Told {
     kernel: Records,
@@ -157,12 +157,16 @@ impl Told {
                 self.kernel.add(event, line);
                 self.port.add(event, line);
             }
+            Taken::Cut(given, line) => {
+                self.kernel.add(given, line);
+                self.port.add(event, line);
+            }
             Taken::Skipped(line) => self.port.add(event, line),
             Taken::Known => {}
         }
     }
 
-    /// Runs both lists. Events that the kernel skipped change nothing, so both leave this state.
+    /// Runs both lists. What the kernel was not given changes nothing, so both leave this state.
     pub fn check(&self, scheme: u64, state: &State) -> Result<(), String> {
         self.kernel.check(scheme, state)?;
         self.port.check(scheme, state)?;

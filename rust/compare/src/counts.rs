@@ -3,17 +3,18 @@
 use std::collections::BTreeMap;
 use std::fmt::{self, Display, Formatter};
 
+use reasons::{EFFECT_WORDS, ENTRY, Tally};
 use script::{Answer, Event, Line, Phase, Reply, State};
 use tilgurap::numbers::Layer;
 
 use crate::beside::Taken;
-use crate::known::{EFFECT_WORDS, ENTRY};
 
 #[derive(Default)]
 pub struct Counts {
     pub compared: u64,
     pub skipped: u64,
-    pub known: u64,
+    /// The reasons that showed and were confirmed.
+    pub shown: Tally,
     answers: BTreeMap<(&'static str, String), u64>,
     effects: BTreeMap<(&'static str, u64), u64>,
     phases: BTreeMap<(&'static str, &'static str), u64>,
@@ -64,7 +65,7 @@ impl Counts {
     /// What an event came to, on the layer that it was put to.
     pub fn add(&mut self, before: &Layer, event: &Event, taken: &Taken) {
         let (line, mark) = match taken {
-            Taken::Same(line) => {
+            Taken::Same(line) | Taken::Cut(_, line) => {
                 self.compared += 1;
                 (line, "")
             }
@@ -72,10 +73,7 @@ impl Counts {
                 self.skipped += 1;
                 (line, " (the port alone)")
             }
-            Taken::Known => {
-                self.known += 1;
-                return;
-            }
+            Taken::Known => return,
         };
         let (kind, state) = (event.name(), before.state());
         more(&mut self.answers, (kind, answer(&line.answer) + mark));
@@ -128,17 +126,18 @@ impl Display for Counts {
     fn fmt(&self, f: &mut Formatter) -> fmt::Result {
         writeln!(
             f,
-            "{} events compared, {} skipped by the Rust ({} in 100), {} with the known difference",
+            "{} events compared, {} skipped by the Rust ({} in 100)",
             self.compared,
             self.skipped,
-            100 * self.skipped / (self.compared + self.skipped).max(1),
-            self.known
+            100 * self.skipped / (self.compared + self.skipped).max(1)
         )?;
         writeln!(
             f,
             "at most {} slots and {} queued entries",
             self.most_slots, self.most_queued
         )?;
+        writeln!(f, "\nreasons, and how often each showed and was confirmed")?;
+        write!(f, "{}", self.shown.lines(reasons::ALL))?;
         writeln!(f, "\nanswers")?;
         for ((kind, answer), count) in &self.answers {
             writeln!(f, "  {kind:8} {answer:26} {count:>10}")?;

@@ -60,18 +60,22 @@ fn main() -> ExitCode {
     }
     let limits = limits::compare();
     match &limits {
-        Ok(compared) => println!("compared: {compared} events up to 65,535 holds"),
+        Ok((compared, _)) => println!("compared: {compared} events up to 65,535 holds"),
         Err(what) => println!("they differ: {what}"),
     }
 
     let (mut counts, mut told) = (Counts::default(), Instant::now());
+    if let Ok((_, shown)) = &limits {
+        counts.shown.add_all(shown);
+    }
     for seed in first..first.saturating_add(seeds) {
         if interrupt::noted() {
             print!("{counts}");
             println!("\ninterrupted before seed {seed}: no difference so far in the runs");
             return ExitCode::from(interrupt::STATUS);
         }
-        if let Err(difference) = runs::compare(seed, events, &Layer::new, &mut counts) {
+        let compared = runs::compare(seed, events, &Layer::new, reasons::ALL, &mut counts);
+        if let Err(difference) = compared {
             show(&difference);
             return ExitCode::FAILURE;
         }

@@ -1,10 +1,11 @@
 //! The layer as a side, with an eye on what it is lent.
 
+use reasons::{EFFECT_WORDS, ENTRY};
 use script::{Event, Line, State};
 use tilgurap::numbers::Layer;
 
 /// The layer, or one with a slip in it.
-pub trait Port {
+pub trait Port: Clone {
     /// One event's line, or what was wrong with the lent bytes or words after it.
     fn step(&mut self, event: &Event) -> Result<Line, String>;
     fn layer(&self) -> &Layer;
@@ -17,8 +18,6 @@ pub trait Port {
 /// Lent beyond what an event can use, so that a store there shows.
 const SPARE: usize = 9;
 const QUEUE_BYTES: u64 = 8_192;
-const ENTRY: usize = 16;
-const EFFECT_WORDS: usize = 54;
 
 fn byte(place: usize) -> u8 {
     0xa5 ^ place as u8

@@ -3,6 +3,7 @@
 use std::panic::{AssertUnwindSafe, catch_unwind};
 
 use generate::Generator;
+use reasons::Reason;
 use script::{Event, Script};
 
 use crate::beside::{Beside, Taken, difference};
@@ -29,11 +30,12 @@ fn one_run<P: Port>(
     seed: u64,
     count: usize,
     fresh: &dyn Fn(u64) -> P,
+    reasons: &[Reason],
     counts: &mut Counts,
 ) -> Result<(), (u64, Stopped)> {
     let mut generator = Generator::new(seed, true);
     let scheme = generator.scheme();
-    let mut beside = Beside::new(scheme, fresh);
+    let mut beside = Beside::new(scheme, fresh(scheme), reasons);
     let (mut events, mut told) = (Vec::new(), Told::default());
     while let Some(event) = generator.event(count) {
         let before = beside.port().layer().clone();
@@ -48,22 +50,28 @@ fn one_run<P: Port>(
         };
         counts.add(&before, event, &taken);
         told.add(event, &taken);
-        if let Taken::Same(line) | Taken::Skipped(line) = &taken {
+        if let Taken::Same(line) | Taken::Cut(_, line) | Taken::Skipped(line) = &taken {
             generator.learn(event, line, beside.state());
         }
+        if beside.is_over() {
+            break;
+        }
     }
+    counts.shown.add_all(beside.shown());
     told.check(scheme, &beside.state())
         .map_err(|what| (scheme, Stopped { events, what }))
 }
 
-/// Runs a seed's events on both sides, and the same events through `tilgurap_run`.
+/// Runs a seed's events on both sides, and the same events through `tilgurap_run`. `reasons` says
+/// what may differ.
 pub fn compare<P: Port>(
     seed: u64,
     count: usize,
     fresh: &dyn Fn(u64) -> P,
+    reasons: &[Reason],
     counts: &mut Counts,
 ) -> Result<(), Box<Difference>> {
-    let Err((scheme, stopped)) = one_run(seed, count, fresh, counts) else {
+    let Err((scheme, stopped)) = one_run(seed, count, fresh, reasons, counts) else {
         return Ok(());
     };
     let place = stopped.events.len();
@@ -74,7 +82,7 @@ pub fn compare<P: Port>(
     };
     let found = |script: &Script| {
         let last = script.events.len().saturating_sub(1);
-        catch_unwind(AssertUnwindSafe(|| difference(script, fresh)))
+        catch_unwind(AssertUnwindSafe(|| difference(script, fresh, reasons)))
             .unwrap_or_else(|_| Some((last, "  rust: it panics".to_owned())))
     };
     let script = shrink(whole, &|script| found(script).is_some());

@@ -24,6 +24,7 @@ struct Slip {
     most: usize,
 }
 
+#[derive(Clone)]
 struct Slipped {
     layer: Layer,
     slip: Slip,
@@ -302,7 +303,8 @@ fn each_slip_is_found_and_its_script_is_short() {
             slip,
         };
         let counts = &mut Counts::default();
-        let found = (0..400).find_map(|seed| runs::compare(seed, 400, &fresh, counts).err());
+        let found =
+            (0..400).find_map(|seed| runs::compare(seed, 400, &fresh, reasons::ALL, counts).err());
         let Some(found) = found else {
             panic!("{}: not found in {} events", slip.name, counts.compared);
         };
@@ -310,9 +312,13 @@ fn each_slip_is_found_and_its_script_is_short() {
             "{}: seed {}, event {}\n{}{}\n",
             slip.name, found.seed, found.place, found.script, found.what
         );
-        assert!(difference(&found.script, &fresh).is_some(), "{}", slip.name);
+        assert!(
+            difference(&found.script, &fresh, reasons::ALL).is_some(),
+            "{}",
+            slip.name
+        );
         assert_eq!(
-            difference(&found.script, &Layer::new),
+            difference(&found.script, &Layer::new, reasons::ALL),
             None,
             "{}",
             slip.name
@@ -329,9 +335,9 @@ fn each_slip_is_found_and_its_script_is_short() {
 fn without_a_slip_there_is_no_difference() {
     let counts = &mut Counts::default();
     for seed in 0..40 {
-        let found = runs::compare(seed, 400, &Layer::new, counts).err();
+        let found = runs::compare(seed, 400, &Layer::new, reasons::ALL, counts).err();
         assert!(found.is_none(), "seed {seed}");
     }
     assert!(100 * counts.compared > 70 * (counts.compared + counts.skipped));
-    assert!(counts.known > 0);
+    assert!(counts.shown.of("occupied_handle") > 0);
 }

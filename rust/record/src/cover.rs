@@ -4,6 +4,7 @@
 use std::collections::BTreeMap;
 use std::fmt::{self, Display, Formatter};
 
+use reasons::Tally;
 use script::{Answer, Event, Line, Phase, Reply, State};
 
 const ENTRY: usize = 16;
@@ -242,11 +243,9 @@ fn by_phase() -> Table {
 #[derive(Default)]
 pub struct Cover {
     pub runs: u64,
-    /// Left out: what only 01 refuses, what the format or the program has no place for, and
-    /// writes that may obtain into an occupied handle.
-    pub skipped: u64,
+    /// Left out: by the reasons of rust/reasons, and what the format or the program has no place for.
+    pub left_out: Tally,
     pub no_place: u64,
-    pub occupied: u64,
     recorded: u64,
     events: Counts,
     entries: Counts,
@@ -327,9 +326,10 @@ impl Display for Cover {
         writeln!(f, "{} runs, {} events", self.runs, self.recorded)?;
         writeln!(
             f,
-            "left out: {} that only 01 refuses or that do not fit the kernel's types, {} with no place, {} that may find a handle occupied",
-            self.skipped, self.no_place, self.occupied
+            "left out: {} with no place, and by reason",
+            self.no_place
         )?;
+        write!(f, "{}", self.left_out.lines(reasons::ALL))?;
         for (counts, table) in self.tables() {
             for (row, answers) in table {
                 let cell = |answer: &&str| format!("{answer}: {}", counts.count(&row, answer));

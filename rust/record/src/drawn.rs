@@ -15,12 +15,12 @@ const EVENTS: usize = 320;
 pub fn record(file: &mut File, cover: &mut Cover) -> Outcome<()> {
     for seed in SEEDS {
         let mut generator = Generator::new(seed, false);
-        let mut kernel = Kernel::new(generator.scheme(), cover);
+        let mut kernel = Kernel::new(generator.scheme(), reasons::ALL, cover);
         while let Some(event) = generator.event(EVENTS) {
             let line = match kernel.step(&event)? {
                 Taken::Recorded(line) => line,
-                Taken::LeftOut => Line::answer(Answer::Skip),
-                Taken::Full => break,
+                Taken::Refused(_) | Taken::LeftOut => Line::answer(Answer::Skip),
+                Taken::Over => break,
             };
             generator.learn(&event, &line, kernel.state());
         }

@@ -3,12 +3,12 @@
 
 use std::path::Path;
 
-use oracle::Oracle;
 use script::{Answer, Event, Line, Phase, State};
 
 use crate::Outcome;
 use crate::cover::Cover;
 use crate::file::{File, Run};
+use crate::kernel::{Kernel, Taken};
 use crate::scripts::{parse, paths};
 
 /// The state that a short line says: what is not as in a fresh one, `D:N` for a number of a
@@ -44,27 +44,28 @@ fn state(text: &str) -> Outcome<State> {
     Ok(state)
 }
 
-/// Does the kernel skip what 01 alone refuses, and answer the same to all else?
+/// Does the kernel answer the same, but for what the reasons say that only 01 refuses, with the
+/// number that stands here? Behind a known difference it cannot follow.
 fn beside_the_kernel(scheme: u64, lines: &[(Event, Line)], state: &State) -> Outcome<()> {
-    let mut oracle = Oracle::new(scheme);
+    let mut beside = Cover::default();
+    let mut kernel = Kernel::new(scheme, reasons::ALL, &mut beside);
     for (event, line) in lines {
-        let found = oracle.step(event);
-        let same = match line.answer {
-            Answer::No(201..=207) => found.answer == Answer::Skip,
-            _ => found == *line,
+        let found = match kernel.step(event)? {
+            Taken::Recorded(found) => found,
+            Taken::Refused(number) => Line::answer(Answer::No(number)),
+            Taken::LeftOut | Taken::Over => return Ok(()),
         };
-        if !same {
-            return Err(format!("{event}: {line}, and the kernel: {found}").into());
+        if found != *line {
+            return Err(format!("{event}: {line}, and the kernel or its reason: {found}").into());
         }
     }
-    match oracle.state() == *state {
+    match kernel.state() == *state {
         true => Ok(()),
-        false => Err(format!("{state}, and the kernel: {}", oracle.state()).into()),
+        false => Err(format!("{state}, and the kernel: {}", kernel.state()).into()),
     }
 }
 
-/// A script and its lines as a run: a line for each event, then the state. In those that are named
-/// by a refusal's number the kernel answers the rest; the others are about where it differs.
+/// A script and its lines as a run: a line for each event, then the state.
 fn run(path: &Path, cover: &mut Cover) -> Outcome<Run> {
     let (text, script) = parse(path)?;
     let mut wanted = text.lines().filter_map(|line| line.strip_prefix("#= "));
@@ -86,10 +87,7 @@ fn run(path: &Path, cover: &mut Cover) -> Outcome<Run> {
     if let Some(line) = wanted.next() {
         return Err(format!("`{line}` follows the state").into());
     }
-    let name = path.file_stem().and_then(|name| name.to_str());
-    if name.is_some_and(|name| name.starts_with("20")) {
-        beside_the_kernel(script.scheme, &lines, &last)?;
-    }
+    beside_the_kernel(script.scheme, &lines, &last)?;
     Ok(run)
 }
 

@@ -32,10 +32,10 @@ pub fn parse(path: &Path) -> Outcome<(String, Script)> {
 pub fn record(folder: &Path, file: &mut File, cover: &mut Cover) -> Outcome<()> {
     for path in paths(folder)? {
         let (_, script) = parse(&path)?;
-        let mut kernel = Kernel::new(script.scheme, cover);
+        let mut kernel = Kernel::new(script.scheme, reasons::ALL, cover);
         for event in &script.events {
-            if let Taken::Full = kernel.step(event)? {
-                return Err(format!("{}: too long for one run", path.display()).into());
+            if let Taken::Over = kernel.step(event)? {
+                return Err(format!("{}: it does not fit one run", path.display()).into());
             }
         }
         file.add(kernel.end()?);
