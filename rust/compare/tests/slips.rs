@@ -2,18 +2,15 @@
 //! script short? A slip changes what the layer is asked, what it answers or the state that it
 //! leaves, around the proved code; the proved code itself stays as it is.
 
+mod common;
+
+use common::{After, Before, Changed, NOT_AFTER, NOT_BEFORE};
 use compare::beside::difference;
 use compare::counts::Counts;
-use compare::port::Port;
 use compare::runs;
 use script::{Answer, Event, Line, Phase};
 use tilgurap::numbers::Layer;
 use tilgurap::numbers::parts::Slot;
-
-/// The event is answered by the slip and never reaches the layer, unless it says nothing.
-type Before = fn(&mut Layer, &Event) -> Option<Line>;
-/// What comes after: the layer before the event, and now.
-type After = fn(&Layer, &mut Layer, &Event, &mut Line);
 
 #[derive(Clone, Copy)]
 struct Slip {
@@ -22,28 +19,6 @@ struct Slip {
     after: After,
     /// The script that shows it has at most so many events.
     most: usize,
-}
-
-#[derive(Clone)]
-struct Slipped {
-    layer: Layer,
-    slip: Slip,
-}
-
-impl Port for Slipped {
-    fn step(&mut self, event: &Event) -> Result<Line, String> {
-        let before = self.layer.clone();
-        if let Some(line) = (self.slip.before)(&mut self.layer, event) {
-            return Ok(line);
-        }
-        let mut line = Port::step(&mut self.layer, event)?;
-        (self.slip.after)(&before, &mut self.layer, event, &mut line);
-        Ok(line)
-    }
-
-    fn layer(&self) -> &Layer {
-        &self.layer
-    }
 }
 
 fn change_slot(layer: &mut Layer, tag: u64, change: impl FnOnce(&mut Slot)) {
@@ -60,9 +35,6 @@ const FEW: usize = 7;
 const A_LIST: usize = 24;
 const ALL_SLOTS: usize = 66;
 const ALL_QUEUE: usize = 140;
-
-const NOT_BEFORE: Before = |_, _| None;
-const NOT_AFTER: After = |_, _, _, _| {};
 
 const SLIPS: [Slip; 18] = [
     Slip {
@@ -298,10 +270,7 @@ const SLIPS: [Slip; 18] = [
 fn each_slip_is_found_and_its_script_is_short() {
     let mut long = Vec::new();
     for slip in SLIPS {
-        let fresh = |scheme| Slipped {
-            layer: Layer::new(scheme),
-            slip,
-        };
+        let fresh = |scheme| Changed::new(scheme, slip.before, slip.after);
         let counts = &mut Counts::default();
         let found =
             (0..400).find_map(|seed| runs::compare(seed, 400, &fresh, reasons::ALL, counts).err());

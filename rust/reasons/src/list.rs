@@ -5,6 +5,7 @@ use script::{Answer, Event, Line, State};
 use crate::step::{ENTRY, Step};
 use crate::table::Table;
 
+#[derive(Clone, Copy)]
 pub struct Reason {
     /// Its script in tests/differences has this name.
     pub name: &'static str,
@@ -14,6 +15,7 @@ pub struct Reason {
     pub kind: Kind,
 }
 
+#[derive(Clone, Copy)]
 pub enum Kind {
     /// Only the layer refuses the event or entry, and nothing changes. The Rust gets a write's
     /// entries before this one, if there are any.
