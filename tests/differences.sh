@@ -1,10 +1,10 @@
 #!/usr/bin/env bash
 # Where the layer and the Rust differ (docs/DIFFERENCES.md): runs each tests/differences/NAME.script on both and compares what they
 # print with NAME.layer and NAME.rust. `#! differs` stands before each event whose two lines have to differ, and at the end where
-# the two states have to; all other lines have to be equal. A script that says `# edit: EDIT` is run on an oracle with EDIT.edit:
-# the oracle's own code is changed, in a copy, and none of the kernel's.
-# The layer's side needs the library and cargo (see ./tilgurap), the Rust's side REDOX_SRC, cargo, slab and python3. What is
-# missing is said and its side skipped; the stored lines are compared with each other all the same. It is no part of the gate.
+# the two states have to; all other lines have to be equal: tests/differences.py looks at that. A script that says `# edit: EDIT`
+# is run on an oracle with EDIT.edit: the oracle's own code is changed, in a copy, and none of the kernel's.
+# The layer's side needs the library and cargo (see ./tilgurap), the Rust's side REDOX_SRC, cargo and slab: in the gate, which has
+# no originals, the layer runs and the Rust's lines are the stored ones. What is missing is said and its side skipped.
 #
 #     bash tests/differences.sh [--store] [NAME ...]
 #
@@ -14,6 +14,7 @@ cd "$(dirname "$0")/.."
 folder=tests/differences
 store=
 [ "${1:-}" != --store ] || { store=1; shift; }
+named=("$@")
 if [ $# -eq 0 ]; then
     for script in "$folder"/*.script; do
         set -- "$@" "$(basename "$script" .script)"
@@ -38,8 +39,8 @@ if ! command -v cargo > /dev/null; then
 elif [ ! -f "$library" ]; then
     missing_of layer "$library is not built"
 fi
-if ! command -v cargo > /dev/null || ! command -v python3 > /dev/null; then
-    missing_of Rust "cargo or python3 is not there"
+if ! command -v cargo > /dev/null; then
+    missing_of Rust "there is no cargo"
 elif [ -z "${REDOX_SRC:-}" ] || [ ! -d "$REDOX_SRC/src" ] || [ ! -d "$REDOX_SRC/syscall" ]; then
     missing_of Rust "REDOX_SRC does not name the folder of the kernel's sources"
 elif [ -z "$(find "$slab" -maxdepth 1 -name 'slab-0.4.*' 2> /dev/null)" ]; then
@@ -137,26 +138,7 @@ if can Rust; then
     done
 fi
 
-# The stored lines differ where the script says so and nowhere else.
-for name in "$@"; do
-    awk -v name="$name" '
-        FNR == 1 { file += 1 }
-        file == 1 && /^#! differs$/ { marked[events + 1] = 1; marks += 1 }
-        file == 1 && !/^#/ && !/^scheme / && NF { events += 1; event[events] = $0 }
-        file == 2 { layer[FNR] = $0; lines = FNR }
-        file == 3 { rust[FNR] = $0; if (FNR > lines) lines = FNR }
-        END {
-            event[events + 1] = "the state"
-            if (!marks) { print name ": no line is to differ"; bad = 1 }
-            if (lines != events + 1) { print name ": " lines " lines for " events " events and the state"; bad = 1 }
-            for (i = 1; i <= lines; i += 1)
-                if ((layer[i] != rust[i]) != marked[i]) {
-                    print name ": " event[i] ": the lines " (marked[i] ? "are equal" : "differ")
-                    bad = 1
-                }
-            exit bad
-        }
-    ' "$folder/$name.script" "$folder/$name.layer" "$folder/$name.rust" || wrong=$((wrong + 1))
-done
+# The stored lines differ where the script says so and nowhere else; without names, the document is held against them as well.
+python3 tests/differences.py ${named[@]+"${named[@]}"} || wrong=$((wrong + 1))
 echo "$# scripts: ${run[0]} run on the layer, ${run[1]} on the Rust, $wrong wrong"
 [ "$wrong" -eq 0 ]
