@@ -1,0 +1,123 @@
+//! The reasons on the scripts of tests/differences, where the kernel's sources are not needed: the
+//! layer runs, and the Rust's lines are the stored ones.
+
+use std::convert::Infallible;
+use std::fs;
+use std::path::{Path, PathBuf};
+
+use reasons::{ALL, Expected, Reason, Said, Table, steps};
+use script::{OutputLine, Script};
+use tilgurap::numbers::Layer;
+
+fn repository(path: &str) -> PathBuf {
+    Path::new(env!("CARGO_MANIFEST_DIR"))
+        .join("../..")
+        .join(path)
+}
+
+/// A file of a script, if it is there.
+fn file(reason: &Reason, end: &str) -> Option<String> {
+    let name = format!("tests/differences/{}.{end}", reason.name);
+    fs::read_to_string(repository(&name)).ok()
+}
+
+/// Which of a script's events has a mark before it.
+fn marks(text: &str) -> Vec<bool> {
+    let (mut marks, mut marked) = (Vec::new(), false);
+    for line in text
+        .lines()
+        .skip_while(|line| line.starts_with('#'))
+        .skip(1)
+    {
+        match line.starts_with('#') {
+            true => marked |= line == "#! differs",
+            false => marks.push(std::mem::take(&mut marked)),
+        }
+    }
+    marks
+}
+
+/// What the reasons expect of both sides, and which of them showed, event by event.
+fn expected(script: &Script) -> Vec<Expected<'static>> {
+    let (mut layer, mut table) = (Layer::new(script.scheme), Table::new());
+    let mut all: Vec<Expected> = Vec::new();
+    for event in &script.events {
+        assert!(all.last().is_none_or(|last| !last.lasts()), "{event}");
+        let before = layer.state();
+        let steps = steps(event, before, |event| {
+            let line = layer.step(event);
+            Ok::<_, Infallible>((line, layer.state()))
+        });
+        let Ok(steps) = steps;
+        let expected = Expected::new(ALL, &table, event, &steps);
+        let expected = expected.unwrap_or_else(|what| panic!("{event}\n{what}"));
+        table.learn(event, &expected.layer.line);
+        all.push(expected);
+    }
+    all
+}
+
+#[test]
+fn each_shows_in_its_script() {
+    for reason in ALL {
+        let Some(text) = file(reason, "script") else {
+            continue;
+        };
+        let script = Script::parse(&text).expect("a script");
+        let expected = expected(&script);
+        let shown: Vec<bool> = expected.iter().map(|e| !e.shown.is_empty()).collect();
+        let others = expected.iter().flat_map(|e| &e.shown);
+        for other in others {
+            assert_eq!(other.name, reason.name);
+        }
+        assert!(shown.contains(&true), "{}", reason.name);
+        // an event that is left out is marked; a difference in the state is marked at the end
+        let left_out: Vec<bool> = expected.iter().map(Expected::is_left_out).collect();
+        assert_eq!(left_out, marks(&text), "{}", reason.name);
+    }
+}
+
+/// Scripts without an edit are run on the kernel's code as it is.
+#[test]
+fn the_rust_said_what_they_predict() {
+    let mut compared = 0;
+    for reason in ALL {
+        let Some(text) = file(reason, "script") else {
+            continue;
+        };
+        if text.contains("\n# edit: ") {
+            continue;
+        }
+        let script = Script::parse(&text).expect("a script");
+        let expected = expected(&script);
+        let stored = file(reason, "rust").expect("what the Rust said");
+        let mut lines = stored.lines();
+        for (event, expected) in script.events.iter().zip(&expected) {
+            let line = lines.next().map(str::to_owned);
+            assert_eq!(line, Some(expected.rust.line.to_string()), "{event}");
+        }
+        let Some(Expected {
+            rust: Said { state, .. },
+            ..
+        }) = expected.last()
+        else {
+            panic!("{} has no event", reason.name);
+        };
+        let state = OutputLine::State(Box::new(state.clone())).to_string();
+        assert_eq!(lines.next(), Some(&state[..]), "{}", reason.name);
+        compared += 1;
+    }
+    assert!(compared > 0);
+}
+
+#[test]
+fn each_has_its_row_in_the_document() {
+    let text = fs::read_to_string(repository("docs/DIFFERENCES.md")).expect("the document");
+    for reason in ALL {
+        let head = format!("| {} |", reason.row);
+        let rows: Vec<&str> = text.lines().filter(|row| row.starts_with(&head)).collect();
+        assert_eq!(rows.len(), 1, "{}", reason.name);
+        let named = rows[0].contains(&format!("| `{}` |", reason.name));
+        assert_eq!(named, file(reason, "script").is_some(), "{}", reason.name);
+    }
+}
