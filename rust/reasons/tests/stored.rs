@@ -1,12 +1,12 @@
-//! The reasons on the scripts of tests/differences, where the kernel's sources are not needed: the
-//! layer runs, and the Rust's lines are the stored ones.
+//! The reasons on scripts, where the kernel's sources are not needed: the layer runs, and the Rust's
+//! lines are the stored ones of tests/differences.
 
 use std::convert::Infallible;
 use std::fs;
 use std::path::{Path, PathBuf};
 
-use reasons::{ALL, Expected, Reason, Said, Table, steps};
-use script::{OutputLine, Script};
+use reasons::{ALL, Expected, Reason, Table, steps};
+use script::{Answer, OutputLine, Script};
 use tilgurap::numbers::Layer;
 
 fn repository(path: &str) -> PathBuf {
@@ -42,7 +42,6 @@ fn expected(script: &Script) -> Vec<Expected<'static>> {
     let (mut layer, mut table) = (Layer::new(script.scheme), Table::new());
     let mut all: Vec<Expected> = Vec::new();
     for event in &script.events {
-        assert!(all.last().is_none_or(|last| !last.lasts()), "{event}");
         let before = layer.state();
         let steps = steps(event, before, |event| {
             let line = layer.step(event);
@@ -90,24 +89,41 @@ fn the_rust_said_what_they_predict() {
         }
         let script = Script::parse(&text).expect("a script");
         let expected = expected(&script);
+        let (last, earlier) = expected.split_last().expect("an event");
+        assert!(!earlier.iter().any(Expected::lasts), "{}", reason.name);
         let stored = file(reason, "rust").expect("what the Rust said");
         let mut lines = stored.lines();
         for (event, expected) in script.events.iter().zip(&expected) {
             let line = lines.next().map(str::to_owned);
             assert_eq!(line, Some(expected.rust.line.to_string()), "{event}");
         }
-        let Some(Expected {
-            rust: Said { state, .. },
-            ..
-        }) = expected.last()
-        else {
-            panic!("{} has no event", reason.name);
-        };
-        let state = OutputLine::State(Box::new(state.clone())).to_string();
+        let state = OutputLine::State(Box::new(last.rust.state.clone())).to_string();
         assert_eq!(lines.next(), Some(&state[..]), "{}", reason.name);
         compared += 1;
     }
     assert!(compared > 0);
+}
+
+/// The scripts of 01's own refusals: the table gives each number, and gives none where the layer
+/// does not refuse by itself.
+#[test]
+fn the_table_has_what_only_the_layer_refuses() {
+    let mut refused = 0;
+    for entry in fs::read_dir(repository("tests/recorded/limits")).expect("the scripts") {
+        let path = entry.expect("a script").path();
+        if path.extension().is_none_or(|end| end != "script") {
+            continue;
+        }
+        let text = fs::read_to_string(&path).expect("a script");
+        let script = Script::parse(&text).expect("its events");
+        for (event, expected) in script.events.iter().zip(expected(&script)) {
+            let own = matches!(expected.layer.line.answer, Answer::No(201..=207));
+            let wide = expected.shown.iter().any(|shown| shown.name == "wide_tag");
+            assert_eq!(expected.is_left_out(), own || wide, "{path:?}: {event}");
+            refused += u64::from(own);
+        }
+    }
+    assert!(refused > 0);
 }
 
 #[test]
