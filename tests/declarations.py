@@ -248,7 +248,8 @@ def tables(texts):
         return {name[len(prefix):]: bits for name, bits in flags.items() if name.startswith(prefix)}
 
     def rust_flags(file, kind):
-        return {name: bits for name, bits in constants(texts[RUST + file], kind).items() if bits != 0}
+        inside = re.search(rf"^    {kind}\(\w+\) \{{\n(.*?)^    \}}$", texts[RUST + file], re.M | re.S)
+        return {name: number(bits) for name, bits in re.findall(r"^ +(\w+) = (\w+);$", inside[1] if inside else "", re.M)}
 
     answers = "crates/answer_words/src/lib.rt"
     refused, errors, rust_errors = c("REFUSAL_"), c("ERRNO_"), constants(texts[RUST + "errno.rs"], "Errno")
@@ -416,7 +417,7 @@ EDITS = [
     ("changed refusal", RUST + "refusal.rs", "(Refusal::Ebadfd, 77,", "(Refusal::Ebadfd, 9,", "refusal EBADFD"),
     ("changed flag", "crates/flag/src/lib.rt", "SQE_ONEWAY: u8 = 1", "SQE_ONEWAY: u8 = 4", "entry flag ONEWAY"),
     ("changed flag", HEADER, "TILGURAP_EVENT_HUP 4", "TILGURAP_EVENT_HUP 32", "event flag HUP"),
-    ("changed flag", RUST + "entry.rs", "ObtainFlags = ObtainFlags(8)", "ObtainFlags = ObtainFlags(16)", "obtain flag CLOEXEC"),
+    ("changed flag", RUST + "entry.rs", "CLOEXEC = 8;", "CLOEXEC = 16;", "obtain flag CLOEXEC"),
     ("changed kind", "crates/schemev2/src/lib.rt", "3 => CqeOpcode::ObtainFd", "6 => CqeOpcode::ObtainFd",
      "completion's kind OBTAIN"),
     ("changed kind", HEADER, "TILGURAP_ANSWER_BLOCKED 3", "TILGURAP_ANSWER_BLOCKED 5", "answer's kind BLOCKED"),

@@ -4,6 +4,8 @@
 // they are those of the crates
 #![allow(missing_docs)]
 
+use crate::limits::STATE_WORDS;
+
 #[derive(Clone, Copy, Debug, PartialEq, Eq)]
 #[repr(C)]
 pub struct Tag(pub u64);
@@ -198,7 +200,7 @@ const _: () = assert!(size_of::<RunEnd>() == 24);
 const _: () = assert!(size_of::<Sqe>() == 64 && size_of::<Cqe>() == 16);
 
 /// The state, which each step changes in place.
-pub type Words = [u64; 2060];
+pub type Words = [u64; STATE_WORDS];
 /// The queue's words, which stand beside a state that is a struct.
 pub type QueueWords = [u64; 1024];
 

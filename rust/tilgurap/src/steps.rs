@@ -3,7 +3,7 @@
 use alloc::boxed::Box;
 
 use crate::ffi;
-use crate::limits::ABI;
+use crate::limits::{ABI, STATE_WORDS};
 
 /// What `generic` and `stdfs` carry.
 pub(crate) struct GenericCall<'a> {
@@ -42,7 +42,7 @@ impl Steps {
         // the build has looked already, where it could run the library
         assert_eq!(abi, ABI, "libtilgurap.a has another interface");
         let mut steps = Steps {
-            words: Box::new([0; 2060]),
+            words: Box::new([0; STATE_WORDS]),
         };
         // SAFETY: numbers alone.
         let fresh = unsafe { ffi::tilgurap_fresh(scheme) };
