@@ -1,19 +1,14 @@
 //! The reasons on scripts, where the kernel's sources are not needed: the layer runs, and the Rust's
 //! lines are the stored ones of tests/differences.
 
-use std::convert::Infallible;
+mod common;
+
 use std::fs;
-use std::path::{Path, PathBuf};
 
-use reasons::{ALL, Expected, Reason, Table, steps};
+use reasons::{ALL, Expected, Reason};
 use script::{Answer, OutputLine, Script};
-use tilgurap::numbers::Layer;
 
-fn repository(path: &str) -> PathBuf {
-    Path::new(env!("CARGO_MANIFEST_DIR"))
-        .join("../..")
-        .join(path)
-}
+use common::{expected, repository};
 
 /// A file of a script, if it is there.
 fn file(reason: &Reason, end: &str) -> Option<String> {
@@ -35,25 +30,6 @@ fn marks(text: &str) -> Vec<bool> {
         }
     }
     marks
-}
-
-/// What the reasons expect of both sides, and which of them showed, event by event.
-fn expected(script: &Script) -> Vec<Expected<'static>> {
-    let (mut layer, mut table) = (Layer::new(script.scheme), Table::new());
-    let mut all: Vec<Expected> = Vec::new();
-    for event in &script.events {
-        let before = layer.state();
-        let steps = steps(event, before, |event| {
-            let line = layer.step(event);
-            Ok::<_, Infallible>((line, layer.state()))
-        });
-        let Ok(steps) = steps;
-        let expected = Expected::new(ALL, &table, event, &steps);
-        let expected = expected.unwrap_or_else(|what| panic!("{event}\n{what}"));
-        table.learn(event, &expected.layer.line);
-        all.push(expected);
-    }
-    all
 }
 
 #[test]

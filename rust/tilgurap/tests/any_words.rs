@@ -23,7 +23,7 @@ use std::{env, fs, path::Path};
 
 use generate::Draw;
 use script::Event;
-use tilgurap::Refusal;
+use tilgurap::{Refusal, limits};
 
 use drawn::{ENDED, EVENTS};
 use ffi::Words;
