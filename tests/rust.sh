@@ -1,7 +1,8 @@
 #!/usr/bin/env bash
-# Formatting, lints and tests of the Rust in rust/, where cargo is there. What calls the layer is linked with its static library
-# (`rt staticlib tilgurap`, some minutes): where none is built, as in a clean checkout, its tests are skipped. The oracle is built
-# from the kernel's sources, in the folder that REDOX_SRC names, and slab: without them it is skipped. What is skipped says so.
+# Formatting, lints, documentation and tests of the Rust in rust/, where cargo is there, and of what is built in: C, a git dependency,
+# the command, README. What calls the layer is linked with its static library (`rt staticlib tilgurap`, some minutes): where none is
+# built, as in a clean checkout, it is skipped. The oracle is built from the kernel's sources, in the folder that REDOX_SRC names, and
+# slab: without them it is skipped. What is skipped says so.
 set -euo pipefail
 cd "$(dirname "$0")/../rust"
 
@@ -9,35 +10,48 @@ if ! command -v cargo > /dev/null; then
     echo "skipped: rust/, since there is no cargo"
     exit 0
 fi
-for package in script generate tilgurap driver oracle record compare; do
+for package in script generate reasons tilgurap driver oracle record compare; do
     (cd "$package" && cargo fmt --check)
 done
 
 lint() {
     (cd "$1" && cargo clippy --quiet --offline --all-targets "${@:2}" -- --deny warnings)
 }
+document() {
+    (cd "$1" && RUSTDOCFLAGS='--deny warnings' cargo doc --quiet --offline --no-deps "${@:2}")
+}
 run_tests() {
     (cd "$1" && cargo test --quiet --offline "${@:2}")
 }
 for package in script generate; do
     lint "$package"
+    document "$package"
     run_tests "$package"
 done
-lint tilgurap
-lint tilgurap --all-features
-(cd tilgurap && RUSTDOCFLAGS='--deny warnings' cargo doc --quiet --offline --no-deps --all-features)
-lint driver
 
 library=${TILGURAP_LIB:-../target/staticlib}/libtilgurap.a
 if [ -f "$library" ]; then
+    lint tilgurap
+    for package in tilgurap driver reasons; do
+        lint "$package" --all-features
+        document "$package" --all-features
+        run_tests "$package" --all-features
+    done
     run_tests tilgurap
-    run_tests tilgurap --all-features
     # every step on a million arrays of words
     run_tests tilgurap --release --test any_words
-    run_tests driver
+    # as a git dependency, with the right library and with wrong ones
+    bash ../tests/build_in.sh
+    # from C
+    bash ../tests/c_host.sh
+    # the command as a new user meets it, and what README shows of it
+    python3 ../tests/first_contact.py
+    bash ../tests/readme.sh
 else
-    echo "skipped: tests of rust/tilgurap, rust/driver and rust/compare, since $library is not built"
+    echo "skipped: rust/tilgurap, rust/driver, rust/reasons and rust/compare, and what is built in, since $library is not built"
 fi
+# every difference that docs/DIFFERENCES.md lists shows, on the Rust's side too where its sources are there
+bash ../tests/differences.sh
 
 if [ -z "${REDOX_SRC:-}" ]; then
     echo "skipped: lints and tests of rust/oracle, rust/record and rust/compare, since REDOX_SRC is not set"
@@ -45,15 +59,6 @@ if [ -z "${REDOX_SRC:-}" ]; then
 fi
 sh oracle/build.sh clippy --quiet --all-targets -- --deny warnings
 sh oracle/build.sh test --quiet --workspace
-# the kernel's code says what the examples expect, where it is asked (201 to 207 are the layer's own)
-for script in "$PWD"/../examples/*.script; do
-    sh oracle/build.sh run --quiet --bin oracle -- "$script" | awk -v script="$script" '
-        NR == FNR { wanted[NR] = $0; lines = NR; next }
-        $0 == "skip" && wanted[FNR] ~ /^no 20[1-7]$/ { next }
-        $0 != wanted[FNR] { print script ": line " FNR " is " $0 ", expected " wanted[FNR]; differs = 1 }
-        END { exit differs || FNR != lines }
-    ' "${script%.script}.expected" -
-done
 for package in record compare; do
     sh oracle/build.sh clippy --quiet --all-targets --manifest-path "../$package/Cargo.toml" -- --deny warnings
 done
@@ -61,6 +66,4 @@ sh oracle/build.sh test --quiet --manifest-path ../record/Cargo.toml
 if [ -f "$library" ]; then
     # a test looks for slips in many runs
     sh oracle/build.sh test --quiet --release --manifest-path ../compare/Cargo.toml
-    # every difference that docs/DIFFERENCES.md lists shows on both sides
-    bash ../tests/differences.sh
 fi
