@@ -198,26 +198,6 @@ impl Event {
     }
 }
 
-/// Numbers, each after a space.
-fn items(f: &mut Formatter, items: &[u64]) -> fmt::Result {
-    items.iter().try_for_each(|item| write!(f, " {item}"))
-}
-
-/// A count and its numbers.
-fn counted(f: &mut Formatter, list: &[u64]) -> fmt::Result {
-    write!(f, " {}", list.len())?;
-    items(f, list)
-}
-
-impl Display for Payload {
-    fn fmt(&self, f: &mut Formatter) -> fmt::Result {
-        write!(f, "{} {}", self.c, self.pid)?;
-        counted(f, &self.fds)?;
-        write!(f, " {} {}", self.base, self.len)?;
-        counted(f, &self.meta)
-    }
-}
-
 impl Event {
     /// The word that an event's line begins with.
     pub fn name(&self) -> &'static str {
@@ -243,17 +223,17 @@ impl Event {
             Event::Supply { .. } => "supply",
         }
     }
-}
 
-impl Display for Event {
-    fn fmt(&self, f: &mut Formatter) -> fmt::Result {
+    /// The fields of its line in order, each with the name that docs/JSON.md lists.
+    pub fn fields(&self) -> Vec<(&'static str, Value<'_>)> {
+        use Value::{Bytes, List, Number, Six};
+        let number = |name, number: u32| (name, Number(u64::from(number)));
         match self {
-            Event::Open { d } => write!(f, "open {d}"),
-            Event::Copy { d } => write!(f, "copy {d}"),
-            Event::Drop { d } => write!(f, "drop {d}"),
-            Event::Put { d, h } => write!(f, "put {d} {h}"),
-            Event::Ended { c } => write!(f, "ended {c}"),
-            Event::Reserve { c } => write!(f, "reserve {c}"),
+            Event::Open { d } | Event::Copy { d } | Event::Drop { d } => {
+                vec![("description", Number(*d))]
+            }
+            Event::Put { d, h } => vec![("description", Number(*d)), ("handle", Number(*h))],
+            Event::Ended { c } | Event::Reserve { c } => vec![number("caller", *c)],
             Event::Submit {
                 tag,
                 c,
@@ -262,12 +242,15 @@ impl Display for Event {
                 args,
                 pid,
                 list,
-            } => {
-                write!(f, "submit {tag} {c} {op} {fl}")?;
-                items(f, args)?;
-                write!(f, " {pid}")?;
-                counted(f, list)
-            }
+            } => vec![
+                ("tag", Number(*tag)),
+                number("caller", *c),
+                ("opcode", Number(*op)),
+                ("flags", Number(u64::from(*fl))),
+                ("arguments", Six(args)),
+                ("pid", Number(*pid)),
+                ("descriptions", List(list)),
+            ],
             Event::Call {
                 c,
                 op,
@@ -276,14 +259,23 @@ impl Display for Event {
                 gid,
                 pid,
                 list,
-            } => {
-                write!(f, "call {c} {op}")?;
-                items(f, args)?;
-                write!(f, " {uid} {gid} {pid}")?;
-                counted(f, list)
-            }
-            Event::Generic(payload) => write!(f, "generic {payload}"),
-            Event::Stdfs(payload) => write!(f, "stdfs {payload}"),
+            } => vec![
+                number("caller", *c),
+                ("opcode", Number(*op)),
+                ("arguments", Six(args)),
+                number("uid", *uid),
+                number("gid", *gid),
+                ("pid", Number(*pid)),
+                ("descriptions", List(list)),
+            ],
+            Event::Generic(payload) | Event::Stdfs(payload) => vec![
+                number("caller", payload.c),
+                ("pid", Number(payload.pid)),
+                ("fds", List(&payload.fds)),
+                ("base", Number(payload.base)),
+                ("length", Number(payload.len)),
+                ("metadata", List(&payload.meta)),
+            ],
             Event::Fmap {
                 c,
                 id,
@@ -292,33 +284,87 @@ impl Display for Event {
                 uid,
                 gid,
                 pid,
-            } => write!(f, "fmap {c} {id} {pages} {flags} {uid} {gid} {pid}"),
-            Event::Close { id } => write!(f, "close {id}"),
-            Event::Detach { id, pid } => write!(f, "detach {id} {pid}"),
+            } => vec![
+                number("caller", *c),
+                ("id", Number(*id)),
+                ("pages", Number(*pages)),
+                ("flags", Number(*flags)),
+                number("uid", *uid),
+                number("gid", *gid),
+                ("pid", Number(*pid)),
+            ],
+            Event::Close { id } => vec![("id", Number(*id))],
+            Event::Detach { id, pid } => vec![("id", Number(*id)), ("pid", Number(*pid))],
             Event::Wake {
                 tag,
                 c,
                 killed,
                 base,
                 count,
-            } => write!(f, "wake {tag} {c} {killed} {base} {count}"),
-            Event::Read { len, flags } => write!(f, "read {len} {flags}"),
-            Event::Write { words, bytes } => write!(f, "write {words} {}", hex(bytes)),
+            } => vec![
+                ("tag", Number(*tag)),
+                number("caller", *c),
+                ("killed", Number(*killed)),
+                ("base", Number(*base)),
+                ("count", Number(*count)),
+            ],
+            Event::Read { len, flags } => vec![("length", Number(*len)), number("flags", *flags)],
+            Event::Write { words, bytes } => {
+                vec![("words", Number(*words)), ("bytes", Bytes(bytes))]
+            }
             Event::Move { meta, list } => {
-                write!(f, "move")?;
-                counted(f, meta)?;
-                counted(f, list)
+                vec![("metadata", List(meta)), ("descriptions", List(list))]
             }
-            Event::Obtain { meta } => {
-                write!(f, "obtain")?;
-                counted(f, meta)
-            }
+            Event::Obtain { meta } => vec![("metadata", List(meta))],
             Event::Supply {
                 tag,
                 offset,
                 base,
                 count,
-            } => write!(f, "supply {tag} {offset} {base} {count}"),
+            } => vec![
+                ("tag", Number(*tag)),
+                ("offset", Number(*offset)),
+                ("base", Number(*base)),
+                ("count", Number(*count)),
+            ],
         }
+    }
+}
+
+/// What a field of an event holds. It prints as on the event's line, each part after a space.
+#[derive(Clone, Copy, Debug, PartialEq, Eq)]
+pub enum Value<'a> {
+    /// One number.
+    Number(u64),
+    /// The six arguments of a call.
+    Six(&'a [u64; 6]),
+    /// Numbers behind their count.
+    List(&'a [u64]),
+    /// Bytes in hex.
+    Bytes(&'a [u8]),
+}
+
+impl Display for Value<'_> {
+    fn fmt(&self, f: &mut Formatter) -> fmt::Result {
+        let after_a_space = |f: &mut Formatter, numbers: &[u64]| {
+            numbers.iter().try_for_each(|number| write!(f, " {number}"))
+        };
+        match self {
+            Value::Number(number) => write!(f, " {number}"),
+            Value::Six(arguments) => after_a_space(f, *arguments),
+            Value::List(list) => {
+                write!(f, " {}", list.len())?;
+                after_a_space(f, list)
+            }
+            Value::Bytes(bytes) => write!(f, " {}", hex(bytes)),
+        }
+    }
+}
+
+impl Display for Event {
+    fn fmt(&self, f: &mut Formatter) -> fmt::Result {
+        write!(f, "{}", self.name())?;
+        let mut fields = self.fields().into_iter();
+        fields.try_for_each(|(_, value)| write!(f, "{value}"))
     }
 }

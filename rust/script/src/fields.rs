@@ -80,7 +80,7 @@ fn number(word: &str, bits: u32) -> Result<u64, String> {
     word.parse::<u64>()
         .ok()
         .filter(|n| *n <= most)
-        .ok_or_else(|| format!("{word} has more than {bits} bits"))
+        .ok_or_else(|| format!("{word} is over {most}, the most that {bits} bits hold"))
 }
 
 /// Lowercase hex, `-` for no bytes.
@@ -94,7 +94,7 @@ fn bytes(word: &str) -> Result<Vec<u8>, String> {
     if let Some(bad) = word.chars().find(|c| !matches!(c, '0'..='9' | 'a'..='f')) {
         return Err(format!("`{bad}` is no lowercase hex digit"));
     }
-    if !word.len().is_multiple_of(2) {
+    if word.len() % 2 != 0 {
         return Err("an odd number of hex digits".to_owned());
     }
     let digit = |b: u8| match b {
@@ -108,6 +108,7 @@ fn bytes(word: &str) -> Result<Vec<u8>, String> {
         .collect())
 }
 
+/// Bytes as lowercase hex, `-` for none.
 pub fn hex(bytes: &[u8]) -> String {
     const DIGITS: &[u8; 16] = b"0123456789abcdef";
     if bytes.is_empty() {

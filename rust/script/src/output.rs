@@ -226,7 +226,7 @@ mod tests {
             ("reply none", "unknown reply `none`"),
             (
                 "reply regular ok 1 256 0",
-                "field X: 256 has more than 8 bits",
+                "field X: 256 is over 255, the most that 8 bits hold",
             ),
             ("reply regular ok 1 2 2", "field N: 2 is not 0 or 1"),
             ("reply regular may 1 2 2", "unknown result `may`"),

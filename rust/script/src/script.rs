@@ -4,6 +4,7 @@ use std::fmt::{self, Display, Formatter};
 
 use crate::event::Event;
 use crate::fields::Fields;
+use crate::lines::source_lines;
 
 #[derive(Clone, Debug, PartialEq, Eq)]
 pub struct Script {
@@ -41,15 +42,18 @@ impl Script {
         let mut number = None;
         let mut events = Vec::new();
         let mut last = 1;
-        for (i, line) in text.split_terminator('\n').enumerate() {
-            last = i + 1;
-            if line.starts_with('#') {
+        for line in source_lines(text) {
+            last = line.number;
+            if line.said.is_empty() {
                 continue;
             }
-            let mistake = |what| Mistake { line: i + 1, what };
+            let mistake = |what| Mistake {
+                line: line.number,
+                what,
+            };
             match number {
-                None => number = Some(scheme(line).map_err(mistake)?),
-                Some(_) => events.push(Event::parse(line).map_err(mistake)?),
+                None => number = Some(scheme(line.said).map_err(mistake)?),
+                Some(_) => events.push(Event::parse(line.said).map_err(mistake)?),
             }
         }
         match number {
@@ -127,9 +131,17 @@ supply 0 0 4096 1
     }
 
     #[test]
-    fn comments_and_a_missing_last_newline() {
-        let script = Script::parse("# first\nscheme 7\n# more\nopen 1\n#").unwrap();
-        assert_eq!(script.to_string(), "scheme 7\nopen 1\n");
+    fn comments_blank_lines_carriage_returns_and_a_missing_last_newline() {
+        for text in [
+            "# first\nscheme 7\n# more\nopen 1\n#",
+            "\n\nscheme 7\n\n  \t\nopen 1\n\n",
+            "# first\r\nscheme 7\r\n\r\nopen 1\r\n",
+            "scheme 7 # the dosing line's\nopen 1   # its valve # once\n  # indented\n",
+            "scheme 7 # one\r\nopen 1 #\r",
+        ] {
+            let script = Script::parse(text).unwrap();
+            assert_eq!(script.to_string(), "scheme 7\nopen 1\n", "{text:?}");
+        }
     }
 
     #[test]
@@ -150,7 +162,15 @@ supply 0 0 4096 1
             mistake("scheme 1\nopen 1\nshut 1"),
             "line 3: unknown event `shut`"
         );
-        assert_eq!(mistake("scheme 1\n\nopen 1"), "line 2: unknown event ``");
+        assert_eq!(
+            mistake("scheme 1\n\n# x\r\n open 1"),
+            "line 4: unknown event ``"
+        );
+        assert_eq!(mistake("scheme 1\nopen # 1"), "line 2: field D is missing");
+        assert_eq!(
+            mistake("scheme 1\nopen 1#"),
+            "line 2: field D: `1#` is no decimal number"
+        );
         assert_eq!(mistake("scheme 1\nput 1"), "line 2: field H is missing");
         assert_eq!(mistake("scheme 1\nopen 1 2"), "line 2: spare field `2`");
         assert_eq!(mistake("scheme 1\nopen 1 "), "line 2: spare field ``");
@@ -167,7 +187,7 @@ supply 0 0 4096 1
             "line 2: field D: `0x1` is no decimal number"
         );
         assert_eq!(
-            mistake("scheme 1\nopen 1\r\n"),
+            mistake("scheme 1\nopen 1\r\r\n"),
             "line 2: field D: `1\r` is no decimal number"
         );
         assert_eq!(
@@ -184,23 +204,23 @@ supply 0 0 4096 1
     fn numbers_too_wide() {
         assert_eq!(
             mistake("scheme 18446744073709551616"),
-            "line 1: field N: 18446744073709551616 has more than 64 bits"
+            "line 1: field N: 18446744073709551616 is over 18446744073709551615, the most that 64 bits hold"
         );
         assert_eq!(
             mistake("scheme 1\nended 4294967296"),
-            "line 2: field C: 4294967296 has more than 32 bits"
+            "line 2: field C: 4294967296 is over 4294967295, the most that 32 bits hold"
         );
         assert_eq!(
             mistake("scheme 1\nread 1 4294967296"),
-            "line 2: field FLAGS: 4294967296 has more than 32 bits"
+            "line 2: field FLAGS: 4294967296 is over 4294967295, the most that 32 bits hold"
         );
         assert_eq!(
             mistake("scheme 1\nsubmit 0 1 3 256 1 2 3 4 5 6 7 0"),
-            "line 2: field FL: 256 has more than 8 bits"
+            "line 2: field FL: 256 is over 255, the most that 8 bits hold"
         );
         assert_eq!(
             mistake("scheme 1\ncall 1 6 1 2 3 4 5 6 4294967296 8 9 0"),
-            "line 2: field UID: 4294967296 has more than 32 bits"
+            "line 2: field UID: 4294967296 is over 4294967295, the most that 32 bits hold"
         );
     }
 
