@@ -1,25 +1,61 @@
 //! A run told in plain sentences: what each event asks, what the answer and each effect mean.
 
+use std::fmt::Display;
 use std::io::{self, Write};
 
-use script::{Answer, Effect, Event, Line, Payload, Reply, Script};
+use script::{Answer, Effect, Event, Line, Payload, Script, source_lines};
 use tilgurap::numbers::Layer;
-use tilgurap::{Cqe, Errno, Opcode, Sqe};
+use tilgurap::{Cqe, Opcode, Sqe};
 
 use crate::reasons;
+use crate::reply::{told, typed};
 use crate::table;
 
-/// The comment lines above each event, then those below the last one. The first belong to `scheme`.
-fn comments(text: &str) -> Vec<Vec<&str>> {
-    let mut comments = vec![Vec::new()];
-    for line in text.split_terminator('\n') {
-        if line.starts_with('#') {
-            comments.last_mut().expect("never empty").push(line);
+/// The comments that belong to one event: the lines above it, and what stands behind it.
+#[derive(Default)]
+struct Comments<'a> {
+    above: Vec<&'a str>,
+    behind: Option<&'a str>,
+}
+
+/// The comments of each line that says something, the first `scheme`, then those below the last one. A blank line
+/// between two comments is kept.
+fn comments(text: &str) -> Vec<Comments<'_>> {
+    let mut all = Vec::new();
+    let (mut next, mut blank) = (Comments::default(), false);
+    for line in source_lines(text) {
+        if !line.said.is_empty() {
+            next.behind = line.comment;
+            all.push(std::mem::take(&mut next));
+            blank = false;
+        } else if let Some(comment) = line.comment {
+            if blank && !next.above.is_empty() {
+                next.above.push("");
+            }
+            next.above.push(comment);
+            blank = false;
         } else {
-            comments.push(Vec::new());
+            blank = true;
         }
     }
-    comments
+    all.push(next);
+    all
+}
+
+impl Comments<'_> {
+    fn print_above(&self, out: &mut dyn Write) -> io::Result<()> {
+        self.above
+            .iter()
+            .try_for_each(|line| writeln!(out, "{line}"))
+    }
+
+    /// An event's line, with what stands behind it.
+    fn print_line(&self, out: &mut dyn Write, line: &dyn Display) -> io::Result<()> {
+        match self.behind {
+            Some(behind) => writeln!(out, "{line} {behind}"),
+            None => writeln!(out, "{line}"),
+        }
+    }
 }
 
 fn numbers(list: &[u64]) -> String {
@@ -59,8 +95,8 @@ fn files(payload: &Payload) -> String {
 }
 
 /// A completion entry in a few words.
-fn completion(bytes: &[u8; Cqe::BYTES]) -> String {
-    let entry = Cqe::from_bytes(bytes);
+fn completion(bytes: &[u8]) -> String {
+    let entry = Cqe::from_bytes(bytes.try_into().expect("a whole entry"));
     let (tag, word) = (entry.tag(), entry.result());
     let result = || match tilgurap::demux(word) {
         Ok(word) => format!("success with {word}"),
@@ -78,8 +114,9 @@ fn completion(bytes: &[u8; Cqe::BYTES]) -> String {
 }
 
 fn written(bytes: &[u8]) -> String {
-    let (entries, rest) = bytes.as_chunks::<{ Cqe::BYTES }>();
-    let told: Vec<String> = entries.iter().map(completion).collect();
+    let entries = bytes.chunks_exact(Cqe::BYTES);
+    let rest = entries.remainder();
+    let told: Vec<String> = entries.map(completion).collect();
     let mut text = match &told[..] {
         [] => "no whole entry".to_owned(),
         [one] => format!("one entry ({one})"),
@@ -166,30 +203,13 @@ fn asked(event: &Event) -> String {
     }
 }
 
-fn reply(reply: &Reply) -> String {
-    let description = tilgurap::Description;
-    let typed = match reply {
-        Reply::Regular {
-            result,
-            extra0,
-            notice,
-        } => tilgurap::Reply::Regular {
-            result: result.map_err(|errno| Errno::new(errno).expect("a reply's errno")),
-            extra0: *extra0,
-            notice: *notice,
-        },
-        Reply::Fd(d) => tilgurap::Reply::Descriptor(description(*d)),
-        Reply::Many(many) => tilgurap::Reply::Many(many.iter().map(|d| description(*d)).collect()),
-    };
-    table::reply(&typed)
-}
-
 /// The entries that a read stored.
 fn entries(bytes: &[u8]) -> String {
-    let (whole, rest) = bytes.as_chunks::<{ Sqe::BYTES }>();
-    let told: Vec<String> = (whole.iter())
+    let whole = bytes.chunks_exact(Sqe::BYTES);
+    let rest = whole.remainder();
+    let told: Vec<String> = whole
         .map(|bytes| {
-            let entry = Sqe::from_bytes(bytes);
+            let entry = Sqe::from_bytes(bytes.try_into().expect("a whole entry"));
             format!("{} with tag {}", table::opcode(&entry), entry.tag)
         })
         .collect();
@@ -262,7 +282,7 @@ fn answered(event: &Event, line: &Line, before: &Layer) -> String {
         Answer::Wait => "the queue is empty, the driver would wait".to_owned(),
         Answer::Blocked if line.effects.is_empty() => "no reply yet, it stays blocked".to_owned(),
         Answer::Blocked => "no reply yet, it stays blocked and a Cancel is queued".to_owned(),
-        Answer::Reply(handed) => format!("it is handed its reply: {}", reply(handed)),
+        Answer::Reply(handed) => format!("it is handed its reply: {}", told(&typed(handed))),
         Answer::Skip => unreachable!("the layer answers every event"),
     }
 }
@@ -289,29 +309,23 @@ fn sentence(event: &Event, line: &Line, before: &Layer) -> String {
 
 /// The whole run, with the script's own comments, and the state at its end.
 pub fn explain(out: &mut impl Write, script: &Script, text: &str) -> io::Result<()> {
-    let mut comments = comments(text).into_iter();
-    let mut print_comments = |out: &mut dyn Write| {
-        let lines = comments.next().unwrap_or_default();
-        lines.iter().try_for_each(|line| writeln!(out, "{line}"))
-    };
-    print_comments(out)?;
-    writeln!(out, "scheme {}", script.scheme)?;
+    let comments = comments(text);
+    let (of_scheme, others) = comments.split_first().expect("the scheme's");
+    of_scheme.print_above(out)?;
+    of_scheme.print_line(out, &format_args!("scheme {}", script.scheme))?;
     writeln!(out, "  A fresh layer: every slot vacant, all else empty.")?;
 
     let mut layer = Layer::new(script.scheme);
-    for event in &script.events {
+    for (event, comments) in script.events.iter().zip(others) {
         let before = layer.clone();
         let line = layer.step(event);
         writeln!(out)?;
-        print_comments(out)?;
-        writeln!(
-            out,
-            "{event}\n  {line}\n  {}",
-            sentence(event, &line, &before)
-        )?;
+        comments.print_above(out)?;
+        comments.print_line(out, event)?;
+        writeln!(out, "  {line}\n  {}", sentence(event, &line, &before))?;
     }
     writeln!(out)?;
-    print_comments(out)?;
+    others.last().expect("those below").print_above(out)?;
     writeln!(out, "At the end:")?;
     write!(out, "{}", table::table(layer.typed()))
 }

@@ -1,20 +1,23 @@
-//! Runs an event script on the layer: `driver replay [--explain] [FILE]` prints what each event
-//! answers, `driver status [FILE]` what the layer holds afterwards. The script comes from standard
-//! input where no file, or `-`, is named.
+//! Runs an event script on the layer: `driver replay [--explain | --json] [FILE]` prints what each event
+//! answers, `driver status [--json] [FILE]` what the layer holds afterwards. The script comes from standard
+//! input where no file, or `-`, is named. `driver listing [--cut]` makes JSON of what the listing program prints.
 
 mod explain;
+mod json;
 mod reasons;
+mod reply;
 mod table;
 
 use std::fs;
-use std::io::{self, BufWriter, ErrorKind, Read, Write};
+use std::io::{self, Read, Write};
 use std::process::ExitCode;
 
-use script::Script;
+use script::{Script, eprintln, print_all};
 use tilgurap::numbers::{self, Layer};
 
-const USAGE: &str = "usage: driver replay [--explain] [FILE]
-       driver status [FILE]";
+const USAGE: &str = "usage: driver replay [--explain | --json] [FILE]
+       driver status [--json] [FILE]
+       driver listing [--cut]";
 
 fn text(file: Option<&str>) -> io::Result<Vec<u8>> {
     match file {
@@ -27,6 +30,15 @@ fn text(file: Option<&str>) -> io::Result<Vec<u8>> {
     }
 }
 
+/// A text whose control characters, of which a terminal would make something else, can be seen.
+fn visible(text: &str) -> String {
+    let shown = |c: char| match c.is_control() {
+        true => c.escape_default().to_string(),
+        false => c.to_string(),
+    };
+    text.chars().map(shown).collect()
+}
+
 /// The script, and its text.
 fn script(file: Option<&str>) -> Result<(Script, String), String> {
     let name = file.unwrap_or("standard input");
@@ -34,13 +46,10 @@ fn script(file: Option<&str>) -> Result<(Script, String), String> {
         format!("{name}: {error}; name a file with an event script, or pipe one in")
     })?;
     let script = Script::parse_bytes(&text).map_err(|mistake| {
-        let hint = match text.contains(&b'\r') {
-            true => "remove the carriage returns at its lines' ends",
-            false => "`./tilgurap help script` shows each event's line",
-        };
-        // a carriage return would hide what stands before it
-        let mistake = mistake.to_string().replace('\r', "\\r");
-        format!("{name}: {mistake}; nothing was run; {hint}")
+        let mistake = visible(&mistake.to_string());
+        format!(
+            "{name}: {mistake}; nothing was run; `./tilgurap help script` shows each event's line"
+        )
     })?;
     let text = String::from_utf8(text).expect("what was parsed is text");
     Ok((script, text))
@@ -67,6 +76,8 @@ enum Task {
     Replay,
     Explain,
     Status,
+    ReplayJson,
+    StatusJson,
 }
 
 fn run(task: Task, file: &[&str]) -> Result<ExitCode, String> {
@@ -79,21 +90,20 @@ fn run(task: Task, file: &[&str]) -> Result<ExitCode, String> {
         _ => return Err(USAGE.to_owned()),
     };
     let (script, text) = script(file)?;
-    let out = &mut BufWriter::new(io::stdout().lock());
-    let printed = match task {
+    Ok(print_all(|out| match task {
         Task::Replay => replay(out, &script),
         Task::Explain => explain::explain(out, &script, &text),
         Task::Status => status(out, &script),
-    };
-    Ok(match printed.and_then(|()| out.flush()) {
-        Ok(()) => ExitCode::SUCCESS,
-        // whoever reads has enough
-        Err(error) if error.kind() == ErrorKind::BrokenPipe => ExitCode::FAILURE,
-        Err(error) => {
-            eprintln!("standard output: {error}");
-            ExitCode::FAILURE
-        }
-    })
+        Task::ReplayJson => json::replay(out, &script, &text),
+        Task::StatusJson => json::status(out, &script),
+    }))
+}
+
+fn listing(cut: bool) -> Result<ExitCode, String> {
+    let listed = io::read_to_string(io::stdin()).map_err(|error| error.to_string());
+    let objects = listed.and_then(|listed| json::listing(&listed, cut));
+    let objects = objects.map_err(|what| format!("standard input is no listing: {what}"))?;
+    Ok(print_all(|out| write!(out, "{objects}")))
 }
 
 fn main() -> ExitCode {
@@ -101,8 +111,12 @@ fn main() -> ExitCode {
     let args: Vec<&str> = args.iter().map(String::as_str).collect();
     let done = match &args[..] {
         ["replay", "--explain", file @ ..] => run(Task::Explain, file),
+        ["replay", "--json", file @ ..] => run(Task::ReplayJson, file),
         ["replay", file @ ..] => run(Task::Replay, file),
+        ["status", "--json", file @ ..] => run(Task::StatusJson, file),
         ["status", file @ ..] => run(Task::Status, file),
+        ["listing"] => listing(false),
+        ["listing", "--cut"] => listing(true),
         _ => Err(USAGE.to_owned()),
     };
     done.unwrap_or_else(|message| {

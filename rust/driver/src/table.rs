@@ -2,7 +2,9 @@
 
 use std::fmt::{self, Display, Formatter};
 
-use tilgurap::{Description, Handle, Layer, Reply, Slot, Sqe, Tag};
+use tilgurap::{Description, Handle, Holds, Layer, Slot, Sqe, StatusWord, Tag};
+
+use crate::reply;
 
 pub struct Table<'a>(&'a Layer);
 
@@ -10,35 +12,32 @@ pub fn table(layer: &Layer) -> Table<'_> {
     Table(layer)
 }
 
-fn list(descriptions: &[Description]) -> String {
-    let numbers: Vec<String> = descriptions.iter().map(Description::to_string).collect();
-    numbers.join(", ")
+/// The slots in each state but vacant.
+pub fn words(layer: &Layer) -> [(&'static str, StatusWord); 4] {
+    let status = layer.status();
+    [
+        ("Placeholder", status.placeholder),
+        ("Waiting", status.waiting),
+        ("Responded", status.responded),
+        ("Fmap", status.fmap),
+    ]
 }
 
-/// A reply in a few words.
-pub fn reply(reply: &Reply) -> String {
-    match reply {
-        Reply::Regular {
-            result,
-            extra0,
-            notice,
-        } => {
-            let mut text = match result {
-                Ok(word) => format!("success with {word}"),
-                Err(errno) => format!("error {errno}"),
-            };
-            if *extra0 != 0 {
-                text += &format!(", extra0 {extra0}");
-            }
-            if *notice {
-                text += ", asks to be told on detach";
-            }
-            text
-        }
-        Reply::Descriptor(description) => format!("description {description}"),
-        Reply::Many(many) if many.is_empty() => "an empty list of descriptions".to_owned(),
-        Reply::Many(many) => format!("descriptions {}", list(many)),
-    }
+/// One bit a slot, as hex.
+pub fn bits(word: StatusWord) -> String {
+    format!("0x{:016x}", word.bits)
+}
+
+/// The handles in use.
+pub fn handles(layer: &Layer) -> Vec<(Handle, Description)> {
+    let held = |h| layer.handle(Handle(h)).map(|d| (Handle(h), d));
+    (0..64).filter_map(held).collect()
+}
+
+/// The descriptions that are open.
+pub fn open(layer: &Layer) -> Vec<(Description, Holds)> {
+    let all = (0..64).map(|d| (Description(d), layer.holds(Description(d))));
+    all.filter(|(_, holds)| holds.all != 0).collect()
 }
 
 fn notes(slot: &Slot) -> String {
@@ -57,10 +56,10 @@ fn notes(slot: &Slot) -> String {
         notes.push(format!("pages to unmap: {count} from {base}"));
     }
     if !slot.descriptions.is_empty() {
-        notes.push(format!("descriptions {}", list(&slot.descriptions)));
+        notes.push(format!("descriptions {}", reply::list(&slot.descriptions)));
     }
     if let Some(stored) = &slot.reply {
-        notes.push(format!("reply: {}", reply(stored)));
+        notes.push(format!("reply: {}", reply::told(stored)));
     }
     notes.join("; ")
 }
@@ -114,21 +113,14 @@ fn queue(f: &mut Formatter, unread: &[Sqe]) -> fmt::Result {
 impl Display for Table<'_> {
     fn fmt(&self, f: &mut Formatter) -> fmt::Result {
         let layer = self.0;
-        let status = layer.status();
         writeln!(f, "status        slots  word (bit N is tag N)")?;
-        for (name, word) in [
-            ("Placeholder", status.placeholder),
-            ("Waiting", status.waiting),
-            ("Responded", status.responded),
-            ("Fmap", status.fmap),
-        ] {
-            writeln!(f, "  {name:<11} {:>5}  0x{:016x}", word.count, word.bits)?;
+        for (name, word) in words(layer) {
+            writeln!(f, "  {name:<11} {:>5}  {}", word.count, bits(word))?;
         }
         slots(f, &layer.occupied())?;
         queue(f, &layer.unread())?;
 
-        let held = |h| layer.handle(Handle(h)).map(|d| (h, d));
-        let handles: Vec<_> = (0..64).filter_map(held).collect();
+        let handles = handles(layer);
         if handles.is_empty() {
             writeln!(f, "handles: all 64 empty")?;
         } else {
@@ -139,8 +131,7 @@ impl Display for Table<'_> {
             writeln!(f, "  {handle:>6}  {description:>11}")?;
         }
 
-        let all = (0..64).map(|d| (d, layer.holds(Description(d))));
-        let open: Vec<_> = all.filter(|(_, holds)| holds.all != 0).collect();
+        let open = open(layer);
         if open.is_empty() {
             writeln!(f, "descriptions: none open")?;
         } else {

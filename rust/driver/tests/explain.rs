@@ -350,3 +350,14 @@ open descriptions:
         "slots: all 64 vacant\nqueue: empty\nhandles: all 64 empty\ndescriptions: none open\n"
     ));
 }
+
+/// A comment stands where the script has it: above its event, behind it, below the last one.
+#[test]
+fn comments_behind_events_and_blank_lines() {
+    let script =
+        "# first\n\n# second\n\nscheme 7 # the plant's\r\n\nopen 3   # the valve\n# last\n\n";
+    let told = explained(script);
+    let head = "# first\n\n# second\nscheme 7 # the plant's\n  A fresh layer: every slot vacant, all else empty.\n\n\
+                open 3 # the valve\n  ok 0\n  The host opens description 3; accepted.\n\n# last\nAt the end:\n";
+    assert!(told.starts_with(head), "{told}");
+}

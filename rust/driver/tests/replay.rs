@@ -125,15 +125,25 @@ fn no_script() {
             "standard input: line 2: a byte that is no text; nothing was run; `./tilgurap help script` shows each event's line\n",
         ),
         (
-            b"scheme 7\nopen 1\r\n",
-            "standard input: line 2: field D: `1\\r` is no decimal number; nothing was run; remove the carriage returns at its lines' ends\n",
+            b"scheme 7\nopen 1\rcopy 1\r\n",
+            "standard input: line 2: field D: `1\\rcopy` is no decimal number; nothing was run; `./tilgurap help script` shows each event's line\n",
+        ),
+        (
+            b"scheme 7\nended 4294967296 # too wide\n",
+            "standard input: line 2: field C: 4294967296 is over 4294967295, the most that 32 bits hold; nothing was run; `./tilgurap help script` shows each event's line\n",
         ),
     ] {
         let output = run(&["replay"], script);
         assert_eq!(text(&output.stderr), message);
         assert_eq!(output.status.code(), Some(2));
     }
-    for task in [&["replay"][..], &["replay", "--explain"], &["status"]] {
+    for task in [
+        &["replay"][..],
+        &["replay", "--explain"],
+        &["replay", "--json"],
+        &["status"],
+        &["status", "--json"],
+    ] {
         let args = [task, &["no/such.script"]].concat();
         let output = run(&args, b"");
         assert!(text(&output.stderr).starts_with("no/such.script: "));
@@ -144,14 +154,34 @@ fn no_script() {
         &["play"],
         &["replay", "a", "b"],
         &["status", "a", "b"],
+        &["listing", "a"],
     ] {
         let output = run(args, b"");
-        assert!(text(&output.stderr).starts_with("usage: driver replay [--explain] [FILE]\n"));
+        assert!(
+            text(&output.stderr).starts_with("usage: driver replay [--explain | --json] [FILE]\n")
+        );
         assert_eq!(output.status.code(), Some(2));
     }
     let output = run(&["replay", "--explian"], b"");
     assert!(text(&output.stderr).starts_with("unknown option --explian\n"));
     assert_eq!(output.status.code(), Some(2));
+    let output = run(&["listing"], b"no listing");
+    assert!(text(&output.stderr).starts_with("standard input is no listing: "));
+    assert_eq!(output.status.code(), Some(2));
+}
+
+/// Blank lines, carriage returns and comments change nothing.
+#[test]
+fn what_passes_in_a_script() {
+    let wanted = run(&["replay"], ACCIDENT.as_bytes());
+    let blank = ACCIDENT.replace('\n', "\n \t\n\n");
+    let returns = ACCIDENT.replace('\n', "\r\n\r\n");
+    let commented = ACCIDENT.replace('\n', " # one\n  # another\n");
+    for script in [blank, returns, commented] {
+        let output = run(&["replay"], script.as_bytes());
+        assert_eq!(text(&output.stdout), text(&wanted.stdout), "{script:?}");
+        assert!(output.stderr.is_empty(), "{script:?}");
+    }
 }
 
 #[test]
