@@ -6,6 +6,8 @@ use std::path::Path;
 use std::process::{Command, Stdio};
 use std::{env, fs, process};
 
+use script::println;
+
 /// By name: instructions, and the events that they were for.
 type Counted = BTreeMap<String, (u64, u64)>;
 

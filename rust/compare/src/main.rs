@@ -8,6 +8,7 @@ use std::time::{Duration, Instant};
 
 use compare::counts::Counts;
 use compare::{interrupt, limits, runs, words};
+use script::{eprintln, print, println};
 use tilgurap::numbers::Layer;
 
 const USAGE: &str = "usage: compare SEEDS EVENTS [FIRST]";

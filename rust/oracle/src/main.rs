@@ -2,10 +2,10 @@
 //! The script comes from standard input where no file is named.
 
 use std::fs;
-use std::io::{self, BufWriter, Read, Write};
+use std::io::{self, Read, Write};
 use std::process::ExitCode;
 
-use script::Script;
+use script::{Script, print_all};
 
 fn text(file: Option<&str>) -> io::Result<Vec<u8>> {
     match file {
@@ -40,14 +40,6 @@ fn main() -> ExitCode {
             return ExitCode::from(2);
         }
     };
-    let mut out = BufWriter::new(io::stdout().lock());
-    for line in oracle::run(&script) {
-        if writeln!(out, "{line}").is_err() {
-            return ExitCode::FAILURE;
-        }
-    }
-    match out.flush() {
-        Ok(()) => ExitCode::SUCCESS,
-        Err(_) => ExitCode::FAILURE,
-    }
+    let mut lines = oracle::run(&script).into_iter();
+    print_all(|out| lines.try_for_each(|line| writeln!(out, "{line}")))
 }

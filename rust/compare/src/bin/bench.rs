@@ -9,7 +9,7 @@ use std::time::{Duration, Instant};
 
 use oracle::Oracle;
 use oracle::count::{self, Side};
-use script::{Event, Payload};
+use script::{Event, Payload, println};
 use tilgurap::numbers::Layer;
 
 const ROUNDS: usize = 101;
