@@ -6,6 +6,14 @@ use std::os::unix::fs::PermissionsExt;
 use std::path::{Path, PathBuf};
 use std::process::{Command, Output, Stdio};
 
+/// It reads as many bytes as the listing program, and numbers the entries as it does.
+const LISTING: &str = "#!/bin/sh
+bytes=$(head -c 65536 | wc -c)
+echo entry
+seq 0 $((bytes / 16 - 1)) | sed 's/$/ listed/'
+echo left $((bytes % 16))
+";
+
 /// A folder whose name has a space in it.
 struct Folder(PathBuf);
 
@@ -21,7 +29,7 @@ impl Folder {
         fs::write(path.join("crates.txt"), "").expect("a file");
         let folder = Folder(path);
         let listing = folder.0.join("target/bin/listing");
-        fs::write(&listing, "#!/bin/sh\necho listed; cat\n").expect("a file");
+        fs::write(&listing, LISTING).expect("a file");
         fs::set_permissions(&listing, fs::Permissions::from_mode(0o755)).expect("a program");
         folder
     }
@@ -33,6 +41,7 @@ impl Folder {
             .current_dir(self.0.join("else where"))
             .env_remove("REDOX_SRC")
             .env_remove("TILGURAP_LIB")
+            .env_remove("CARGO_TARGET_DIR")
             .env("PATH", path)
             .stdin(Stdio::null())
             .output()
@@ -74,10 +83,23 @@ fn mistakes_say_what_to_do() {
         "unknown command play: ./tilgurap help lists the commands",
     );
     folder.mistake(
-        &["replay", "a", "b"],
-        "usage: ./tilgurap replay [--explain] [FILE]",
+        &["replay", "../crates.txt", "../crates.txt"],
+        "usage: ./tilgurap replay [--explain | --json] [FILE]",
     );
-    folder.mistake(&["list"], "usage: ./tilgurap list FILE");
+    folder.mistake(
+        &["replay", "--json", "--explain"],
+        "usage: ./tilgurap replay [--explain | --json] [FILE]",
+    );
+    folder.mistake(
+        &["status", "--explain"],
+        "unknown option --explain: see ./tilgurap help, and write ./--explain for a file of that name",
+    );
+    folder.mistake(&["list"], "usage: ./tilgurap list [--json] FILE");
+    folder.mistake(&["version", "it"], "usage: ./tilgurap version");
+    folder.mistake(
+        &["--verison"],
+        "unknown command --verison: ./tilgurap help lists the commands",
+    );
     folder.mistake(
         &["compare", "10"],
         "usage: ./tilgurap compare SEEDS EVENTS [FIRST], each a number",
@@ -92,7 +114,7 @@ fn mistakes_say_what_to_do() {
     folder.mistake(&["bench"], sources);
     folder.mistake(
         &["help", "me"],
-        "there is no help on me: ./tilgurap help, or ./tilgurap help script",
+        "there is no help on me: ./tilgurap help lists the commands, ./tilgurap help script an event script's lines",
     );
 }
 
@@ -103,7 +125,8 @@ fn a_missing_toolchain_is_named() {
     let bin = folder.0.join("bin");
     fs::create_dir(&bin).expect("a folder");
     for name in [
-        "sh", "cat", "dirname", "basename", "readlink", "find", "head", "wc",
+        "sh", "cat", "dirname", "basename", "readlink", "find", "head", "wc", "awk", "tr", "date",
+        "mkdir", "touch", "sed",
     ] {
         let found = Command::new("sh")
             .args(["-c", &format!("command -v {name}")])
@@ -141,7 +164,7 @@ fn a_missing_toolchain_is_named() {
     assert_eq!(
         said(&["list", "../crates.txt"]),
         format!(
-            "tilgurap: proving and building listing (rt check listing), which can take minutes\n\
+            "tilgurap: listing is proved and built first, 0 crates with those below it, which can take minutes\n\
              tilgurap: rt did not write {top}/target/bin/listing, which it takes for built: remove {top}/target/stamp/listing and try again\n"
         )
     );
@@ -151,36 +174,68 @@ fn a_missing_toolchain_is_named() {
 fn a_file_is_listed() {
     let folder = Folder::new("list");
     let file = folder.0.join("else where/some entries");
-    fs::write(&file, "bytes").expect("a file");
+    fs::write(&file, [0; 33]).expect("a file");
     let output = folder.run(&["list", "some entries"]);
-    assert_eq!(output.stdout, b"listed\nbytes");
+    assert_eq!(output.stdout, b"entry\n0 listed\n1 listed\nleft 1\n");
     assert!(output.stderr.is_empty());
-    assert_eq!(folder.run(&["list", "-"]).stdout, b"listed\n");
-    fs::write(&file, [b'x'; 65_537]).expect("a file");
-    let output = folder.run(&["list", "some entries"]);
-    assert_eq!(
-        String::from_utf8(output.stderr).expect("text"),
-        "tilgurap: some entries has 65537 bytes, of which the first 65536 are listed\n"
-    );
-    assert_eq!(output.status.code(), Some(0));
+    assert_eq!(folder.run(&["list", "-"]).stdout, b"entry\nleft 0\n");
+    for (len, said) in [
+        (65_536, ""),
+        (
+            65_537,
+            "tilgurap: some entries has more than 65536 bytes, of which the first 65536 are listed\n",
+        ),
+    ] {
+        fs::write(&file, vec![b'x'; len]).expect("a file");
+        let output = folder.run(&["list", "some entries"]);
+        assert!(output.stdout.ends_with(b"\n4095 listed\nleft 0\n"));
+        assert_eq!(String::from_utf8(output.stderr).expect("text"), said);
+        assert_eq!(output.status.code(), Some(0));
+    }
 }
 
-/// The help names each command, and each event of a script by its line.
+const COMMANDS: [&str; 9] = [
+    "replay",
+    "status",
+    "list",
+    "oracle",
+    "compare",
+    "bench",
+    "instructions",
+    "version",
+    "help",
+];
+
+/// The help names each command, and each event of a script by its line; each command has a help of its own.
 #[test]
 fn help_is_whole() {
     let folder = Folder::new("help");
-    let output = folder.run(&["help"]);
-    let usage = String::from_utf8(output.stdout).expect("text");
-    for command in [
-        "replay", "status", "list", "oracle", "compare", "bench", "help",
-    ] {
+    let said = |args: &[&str]| {
+        let output = folder.run(args);
+        assert_eq!(output.status.code(), Some(0), "{args:?}");
+        assert!(output.stderr.is_empty(), "{args:?}");
+        String::from_utf8(output.stdout).expect("text")
+    };
+    let usage = said(&["help"]);
+    assert_eq!(said(&["--help"]), usage);
+    assert_eq!(said(&["-h"]), usage);
+    for command in COMMANDS {
         assert!(
             usage.contains(&format!("./tilgurap {command} ")),
             "{command}"
         );
+        let help = said(&["help", command]);
+        assert_eq!(said(&[command, "--help"]), help);
+        assert_eq!(said(&[command, "-h"]), help);
+        assert!(help.contains("\nStatus: 0 "), "{command}");
+        if command != "help" {
+            assert!(
+                help.starts_with(&format!("usage: ./tilgurap {command}")),
+                "{command}"
+            );
+        }
     }
-    let output = folder.run(&["help", "script"]);
-    let lines = String::from_utf8(output.stdout).expect("text");
+    let lines = said(&["help", "script"]);
     let events = "open copy drop put ended reserve submit call generic stdfs fmap close detach wake read write move obtain supply";
     for event in events.split(' ') {
         assert!(lines.contains(&format!("\n{event} ")), "{event}");
