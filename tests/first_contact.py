@@ -64,7 +64,7 @@ open 6
 put 6 7
 open 7
 call 8 6 1 2 3 4 5 0 0 0 8 1 7
-wake 2 8 1 8192 4
+wake 4 8 1 8192 4
 call 8 6 1 2 3 4 5 0 0 0 8 1 1
 """
 
@@ -224,10 +224,13 @@ class Json(unittest.TestCase):
                 notes.append("pages to unmap: {count} from {base}".format(**slot["span"]))
             if slot["descriptions"]:
                 notes.append("descriptions " + ", ".join(map(str, slot["descriptions"])))
-            row = f"  {slot['tag']:>3}  {slot['state']:<11} {slot['caller']:>11}  " + "; ".join(notes)
-            found = [line for line in table.splitlines() if line.startswith(row.rstrip())]
-            self.assertEqual(len(found), 1, row)
-            self.assertEqual(slot["reply"] is not None, "reply: " in found[0])
+            row = f"  {slot['tag']:>3}  {slot['state']:<11} {slot['caller']:>11}"
+            [found] = [line[len(row):].strip() for line in table.splitlines() if line.startswith(row)]
+            told, _, reply = found.partition("reply: ")
+            self.assertEqual(told.rstrip("; "), "; ".join(notes), row)
+            self.assertEqual(slot["reply"] is not None, bool(reply), row)
+            if reply and "ok" in slot["reply"]:
+                self.assertTrue(reply.startswith(f"success with {slot['reply']['ok']}"), row)
         rows = ""
         for one in state["queue"]:
             arguments = " ".join(map(str, one["arguments"]))
@@ -243,10 +246,11 @@ class Json(unittest.TestCase):
             for path in [every, *scripts]:
                 self.replayed(path)
             # each kind of event, answer and effect was seen
-            _, [*events, _] = self.objects("replay", "--json", str(every))
+            _, [*events, state] = self.objects("replay", "--json", str(every))
             self.assertEqual(len({told["event"]["name"] for told in events}), 19)
             self.assertEqual({told["answer"]["kind"] for told in events}, {"ok", "no", "wait", "blocked", "reply"})
             self.assertEqual({effect["kind"] for told in events for effect in told["effects"]}, set(EFFECTS))
+            self.assertIn(4, [slot["span"]["count"] for slot in state["slots"]])
 
     def test_a_mistake_prints_nothing(self):
         done = run("replay", "--json", input="scheme 7\nopen 1\nshut 1\n")
@@ -401,6 +405,7 @@ class Built(unittest.TestCase):
 
 # It proves a crate in no time, and builds by taking what is built: `rt check NAME...`, `rt staticlib NAME`.
 STAND_IN = f"""#!/bin/sh
+stay() {{ sleep 30 & echo $! > stays; wait; }}
 mkdir -p target/log target/staticlib
 case $1 in
     check)
@@ -409,19 +414,24 @@ case $1 in
             echo "$name" > "target/log/$name.say"
             if [ -e "fail at $name" ]; then echo "rt: $name NOT PROVED (exit 1, 0 s)"; exit 1; fi
             if [ -e "wait at $name" ]; then sleep 1.2; fi
-            if [ -e "stay at $name" ]; then echo $$ > stays; sleep 30; fi
+            if [ -e "stay at $name" ]; then stay; fi
             echo "fn $name: proved"
             echo "rt: $name proved (1 s)"
         done ;;
-    staticlib) cp "{TOP / LIBRARY}" "{LIBRARY}" ;;
+    staticlib)
+        echo half > "{LIBRARY}"
+        if [ -e "stay at $2" ]; then stay; fi
+        cp "{TOP / LIBRARY}" "{LIBRARY}" ;;
 esac
 """
 
 
-def alive(group):
-    """The processes of a group that go on; what has ended and is not waited for does not."""
-    listed = subprocess.run(["ps", "-A", "-o", "pgid=,stat=,args="], capture_output=True, text=True).stdout.splitlines()
-    return [line for line in listed if line.split()[0] == str(group) and line.split()[1][0] != "Z"]
+def goes_on(process):
+    """Is it running? One that has ended and that nobody waits for is not."""
+    try:
+        return pathlib.Path(f"/proc/{process}/stat").read_text().rsplit(") ", 1)[1][0] != "Z"
+    except FileNotFoundError:
+        return False
 
 
 def crates_below(wanted):
@@ -497,9 +507,22 @@ echo '{"executable":"/bin/driver"}' | sed "s|/bin|${0%/*}|"
         status, shown = at_terminal([str(self.top / "tilgurap"), "replay"], typed=b"\x03", until=b"; now table", env=self.env)
         self.assertEqual(status, 130, shown)
         self.assertIn("tilgurap: interrupted after ", shown)
-        self.assertEqual(alive(int((self.top / "stays").read_text())), [])
         stays.unlink()
         self.assertEqual(run("replay", top=self.top, env=self.env).stdout, "it runs\n")
+
+    def test_an_ended_build_leaves_no_prover_and_no_half_library(self):
+        (self.top / "stay at tilgurap").touch()
+        stays = self.top / "stays"
+        child = subprocess.Popen([str(self.top / "tilgurap"), "replay"], env=self.env, stderr=subprocess.PIPE, text=True)
+        deadline = time.time() + 20
+        while not (stays.exists() and stays.read_text()) and time.time() < deadline:
+            time.sleep(0.05)
+        self.assertTrue((self.top / LIBRARY).exists())
+        child.terminate()
+        self.assertIn("tilgurap: interrupted after ", child.communicate(timeout=20)[1])
+        self.assertEqual(child.returncode, 143)
+        self.assertFalse(goes_on(stays.read_text().strip()))
+        self.assertFalse((self.top / LIBRARY).exists())
 
 
 class Terminal(unittest.TestCase):
