@@ -415,6 +415,7 @@ case $1 in
             if [ -e "fail at $name" ]; then echo "rt: $name NOT PROVED (exit 1, 0 s)"; exit 1; fi
             if [ -e "wait at $name" ]; then sleep 1.2; fi
             if [ -e "stay at $name" ]; then stay; fi
+            if [ -e "change at $name" ]; then rm "change at $name"; touch crates.txt; fi
             echo "fn $name: proved"
             echo "rt: $name proved (1 s)"
         done ;;
@@ -500,6 +501,15 @@ echo '{"executable":"/bin/driver"}' | sed "s|/bin|${0%/*}|"
         self.assertIn("\nrt: table NOT PROVED (exit 1, 0 s)\n", done.stderr)
         self.assertTrue(done.stderr.endswith(f"tilgurap: `rt check` failed, its words are in {self.log}\n"), done.stderr)
         self.assertFalse((self.top / LIBRARY).exists())
+
+    def test_crates_that_change_meanwhile(self):
+        (self.top / "change at table").touch()
+        done = run("replay", top=self.top, env=self.env)
+        self.assertEqual((done.returncode, done.stdout), (2, ""))
+        self.assertTrue(done.stderr.endswith("tilgurap: the crates were changed while they were proved: start it again\n"))
+        again = run("replay", top=self.top, env=self.env)
+        self.assertEqual((again.returncode, again.stdout), (0, "it runs\n"))
+        self.assertIn("tilgurap: libtilgurap.a is built, in ", again.stderr)
 
     def test_an_interrupted_build_goes_on(self):
         stays = self.top / "stay at table"
