@@ -209,7 +209,7 @@ fn entry(entry: &Sqe) -> Json<'static> {
             "name",
             entry.opcode().map_or(Null, |of| Text(of.to_string())),
         ),
-        ("flags", Number(u64::from(entry.flags.0))),
+        ("flags", Number(u64::from(entry.flags.bits()))),
         ("tag", Number(entry.tag.0)),
         ("arguments", numbers(&entry.args)),
         ("pid", Number(entry.pid.0)),

@@ -94,7 +94,7 @@ fn bytes(word: &str) -> Result<Vec<u8>, String> {
     if let Some(bad) = word.chars().find(|c| !matches!(c, '0'..='9' | 'a'..='f')) {
         return Err(format!("`{bad}` is no lowercase hex digit"));
     }
-    if word.len() % 2 != 0 {
+    if !word.len().is_multiple_of(2) {
         return Err("an odd number of hex digits".to_owned());
     }
     let digit = |b: u8| match b {
