@@ -6,8 +6,8 @@
 use std::collections::VecDeque;
 
 use tilgurap::{
-    Answer, Call, Caller, Cqe, Driver, Effect, Errno, FileNumber, Identity, Killed, Layer, Opcode,
-    Pid, Refusal, Reply, SchemeNumber, Served, Span, Submitted, Tag, Wake,
+    Answer, Call, Caller, Completion, Driver, Effect, Errno, FileNumber, Identity, Killed, Layer,
+    Opcode, Pid, Refusal, Reply, SchemeNumber, Served, Span, Submitted, Tag, Wake,
 };
 
 /// The driver's files.
@@ -38,7 +38,7 @@ impl Plant {
     }
 
     /// The oldest dose has run in: its reply.
-    fn finish_dosing(&mut self) -> Option<Cqe> {
+    fn finish_dosing(&mut self) -> Option<Completion> {
         let call = self.dosing.pop_front()?;
         let (tag, litres) = (call.tag(), call.args()[1]);
         let Some(left) = self.additive.checked_sub(litres) else {
@@ -137,7 +137,7 @@ impl Scheduler {
         let Some(reply) = self.plant.finish_dosing() else {
             return Ok(());
         };
-        let tag = reply.tag();
+        let tag = reply.cqe().tag();
         let served = self.layer.answer(reply);
         if served.effects.is_empty() {
             self.tell(format!("the reply to tag {tag} wakes nobody"));

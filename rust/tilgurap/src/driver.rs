@@ -3,6 +3,7 @@
 use alloc::vec::Vec;
 use core::fmt::{self, Display, Formatter};
 
+use crate::completion::Completion;
 use crate::effect::Effect;
 use crate::entry::Cqe;
 use crate::errno::{Errno, mux};
@@ -11,7 +12,7 @@ use crate::layer::{Layer, Written};
 use crate::opcode::Opcode;
 use crate::refusal::Refusal;
 use crate::status::SlotState;
-use crate::taken::{Call, MapRequest, Supply, Taken};
+use crate::taken::{Call, MapRequest, Origin, Supply, Taken};
 
 /// What a driver gives back.
 #[derive(Debug, PartialEq, Eq)]
@@ -20,21 +21,21 @@ pub enum Answer {
     /// Nothing now: a call or a map request is kept for later, a notice wants nothing.
     Nothing,
     /// An entry: the reply to this call or to one that was kept, or an event.
-    Entry(Cqe),
+    Entry(Completion),
     /// Several, in order.
-    Entries(Vec<Cqe>),
+    Entries(Vec<Completion>),
     /// A map request's page.
     Supply(Supply),
 }
 
-impl From<Cqe> for Answer {
-    fn from(entry: Cqe) -> Answer {
+impl From<Completion> for Answer {
+    fn from(entry: Completion) -> Answer {
         Answer::Entry(entry)
     }
 }
 
-impl From<Vec<Cqe>> for Answer {
-    fn from(entries: Vec<Cqe>) -> Answer {
+impl From<Vec<Completion>> for Answer {
+    fn from(entries: Vec<Completion>) -> Answer {
         Answer::Entries(entries)
     }
 }
@@ -62,16 +63,16 @@ pub struct Refused {
     pub what: Rejected,
     /// Why.
     pub why: Refusal,
-    /// The call that still wants a reply, where it was one that was refused: a descriptor from an empty
-    /// handle, say.
+    /// The call, where a reply was refused and it still wants one: that was a descriptor from an empty handle, say,
+    /// or the call is another layer's.
     pub call: Option<Call>,
 }
 
 /// Something that the layer refused.
 #[derive(Clone, Copy, Debug, PartialEq, Eq)]
 pub enum Rejected {
-    /// An entry, as [`Cqe::from_bytes`] reads it.
-    Entry([u8; Cqe::BYTES]),
+    /// An entry.
+    Entry(Cqe),
     /// The supply of the map request with this tag.
     Supply(Tag),
 }
@@ -79,14 +80,9 @@ pub enum Rejected {
 impl Display for Refused {
     fn fmt(&self, f: &mut Formatter) -> fmt::Result {
         match &self.what {
-            Rejected::Entry(bytes) => {
-                let entry = Cqe::from_bytes(bytes);
-                write!(
-                    f,
-                    "an entry of kind {} with tag {}",
-                    entry.kind(),
-                    entry.tag()
-                )?;
+            Rejected::Entry(entry) => {
+                let (kind, tag) = (entry.kind(), entry.tag());
+                write!(f, "an entry of kind {kind} with tag {tag}")?;
             }
             Rejected::Supply(tag) => write!(f, "the supply to tag {tag}")?,
         }
@@ -272,7 +268,8 @@ impl Layer {
             self.put_answer(dispatch(driver, taken), &mut served);
             let first = served.refused.len();
             while let Some(refused) = served.refused.get_mut(looked_at) {
-                if let Some(call) = refused.call.take() {
+                let own = refused.call.take_if(|call| call.origin.fits(self.origin));
+                if let Some(call) = own {
                     // asked once: a reply with an error is not refused
                     let again = if looked_at < first {
                         driver.on_refused(call, refused.why)
@@ -288,7 +285,8 @@ impl Layer {
     }
 
     /// Puts to the layer what a driver answers: a reply, several, an event, a page. Each entry is an event of its own,
-    /// so that a refused one hides none behind it.
+    /// so that a refused one hides none behind it. What belongs to a call of another layer's is refused with
+    /// [`Einval`](Refusal::Einval), and the layer is not asked: its tag is another call's here.
     pub fn answer(&mut self, answer: impl Into<Answer>) -> Served {
         let mut served = Served::default();
         self.put_answer(answer.into(), &mut served);
@@ -296,13 +294,18 @@ impl Layer {
     }
 
     /// The driver is gone with the calls that it had taken: what it has not read is removed, and every call that
-    /// waits gets this error. A driver that takes its place begins with an empty queue. Map requests stay: only a
-    /// [supply](Layer::provide_mmap) ends one, also where its caller has ended.
+    /// waits gets this error. A driver that takes its place begins with an empty queue, and what the one before still
+    /// answers is refused, as another layer's. Map requests stay: only a [supply](Layer::provide_mmap) ends one, also
+    /// where its caller has ended.
     pub fn driver_gone(&mut self, errno: Errno) -> Served {
         while self.next_entry().is_some() {}
+        self.origin = Origin::fresh();
         let mut served = Served::default();
         for tag in self.status().waiting.tags() {
-            self.put_entry(Cqe::new(0, tag, mux(Err(errno))), &mut served);
+            let entry = Cqe::new(0, tag, mux(Err(errno)));
+            let Written { answer, effects } = self.write(&entry.to_bytes());
+            debug_assert_eq!(answer, Ok(Cqe::BYTES));
+            served.effects.extend(effects);
         }
         served
     }
@@ -316,29 +319,38 @@ impl Layer {
                     self.put_entry(entry, served);
                 }
             }
-            Answer::Supply(Supply { tag, offset, base }) => {
-                if let Err(why) = self.provide_mmap(tag, offset, base, 1) {
-                    served.refused.push(Refused {
-                        what: Rejected::Supply(tag),
-                        why,
-                        call: None,
-                    });
+            Answer::Supply(supply) => {
+                let what = Rejected::Supply(supply.tag);
+                let supplied = match supply.origin.fits(self.origin) {
+                    true => self.provide_mmap(supply.tag, supply.offset, supply.base, 1),
+                    false => Err(Refusal::Einval),
+                };
+                if let Err(why) = supplied {
+                    let call = None;
+                    served.refused.push(Refused { what, why, call });
                 }
             }
         }
     }
 
-    fn put_entry(&mut self, entry: Cqe, served: &mut Served) {
-        let bytes = entry.bytes();
-        let Written { answer, effects } = self.write(&bytes);
+    fn put_entry(&mut self, completion: Completion, served: &mut Served) {
+        let Completion {
+            entry,
+            origin,
+            call,
+        } = completion;
+        let what = Rejected::Entry(entry);
+        if !origin.fits(self.origin) {
+            let why = Refusal::Einval;
+            served.refused.push(Refused { what, why, call });
+            return;
+        }
+        let Written { answer, effects } = self.write(&entry.to_bytes());
         served.effects.extend(effects);
         if let Err(why) = answer {
             let waits = |call: &Call| self.slot(call.tag()).state == SlotState::Waiting;
-            served.refused.push(Refused {
-                what: Rejected::Entry(bytes),
-                why,
-                call: entry.call.filter(waits),
-            });
+            let call = call.filter(waits);
+            served.refused.push(Refused { what, why, call });
         }
     }
 }

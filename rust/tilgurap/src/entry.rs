@@ -1,12 +1,11 @@
 //! Submission entries, which a driver reads, and completion entries, which it writes.
 
-use crate::effect::EventFlags;
 use crate::ffi;
 use crate::flags::flags;
 use crate::ids::{Pid, Tag};
 use crate::opcode::Opcode;
 use crate::refusal::{Refusal, refusal};
-use crate::taken::{Call, Wants};
+use crate::taken::Wants;
 
 flags! {
     /// Flags of a submission entry.
@@ -97,14 +96,11 @@ impl Sqe {
     }
 }
 
-/// A completion entry, 16 bytes: what a driver tells. A reply is made from the [`Call`] that it is for, which it
-/// uses up; [`event`](Cqe::event) serves no call. An entry is used up by [`Layer::answer`](crate::Layer::answer).
-#[derive(Debug, PartialEq, Eq)]
-#[must_use = "it is to be put to the layer"]
+/// A completion entry, 16 bytes: what a driver tells, to be looked at. What a driver gives its layer is a
+/// [`Completion`](crate::Completion).
+#[derive(Clone, Copy, Debug, PartialEq, Eq)]
 pub struct Cqe {
     entry: ffi::Cqe,
-    /// Whose reply it is.
-    pub(crate) call: Option<Call>,
 }
 
 impl Cqe {
@@ -119,43 +115,23 @@ impl Cqe {
             tag: u32::try_from(tag.0).unwrap_or(u32::MAX),
             result,
         };
-        Cqe { entry, call: None }
+        Cqe { entry }
     }
 
-    /// A reply of this kind.
-    pub(crate) fn reply(kind: u8, call: Call, result: u64) -> Cqe {
-        let mut reply = Cqe::new(kind, call.tag(), result);
-        reply.call = Some(call);
-        reply
-    }
-
-    /// An event of a file of the driver's. It serves no call.
-    pub fn event(number: u64, flags: EventFlags) -> Cqe {
-        // where a call's tag stands; more than 32 bits of it are refused like any unknown ones
-        Cqe::new(2, Tag(flags.bits()), number)
-    }
-
-    /// With three bytes more: the first goes along with a regular reply, and all three are the
-    /// flags of an obtain.
-    pub fn with_extra(mut self, extra: [u8; 3]) -> Cqe {
+    pub(crate) fn with_extra(mut self, extra: [u8; 3]) -> Cqe {
         self.entry.extra_raw = extra;
         self
     }
 
-    /// The entry in these bytes, which somebody else wrote.
+    /// The entry in these bytes.
     pub fn from_bytes(bytes: &[u8; Cqe::BYTES]) -> Cqe {
         // SAFETY: the pointer goes with its length.
         let entry = unsafe { ffi::tilgurap_cqe(bytes.as_ptr(), bytes.len()) };
-        Cqe { entry, call: None }
+        Cqe { entry }
     }
 
-    /// The entry's bytes, for a driver that writes them to its host, as [`Layer::write`](crate::Layer::write) takes
-    /// them. They use the reply up as well: bytes that are written twice are two replies.
-    pub fn into_bytes(self) -> [u8; Cqe::BYTES] {
-        self.bytes()
-    }
-
-    pub(crate) fn bytes(&self) -> [u8; Cqe::BYTES] {
+    /// The entry's bytes.
+    pub fn to_bytes(self) -> [u8; Cqe::BYTES] {
         let mut bytes = [0; Cqe::BYTES];
         // SAFETY: the bytes are there to be written.
         unsafe { ffi::tilgurap_cqe_bytes(self.entry, &raw mut bytes) };
@@ -163,23 +139,23 @@ impl Cqe {
     }
 
     /// 0 to 7; 6 and 7 are refused.
-    pub fn kind(&self) -> u8 {
+    pub fn kind(self) -> u8 {
         self.entry.flags & 7
     }
 
     /// The call's tag. An event has its flags there.
-    pub fn tag(&self) -> Tag {
+    pub fn tag(self) -> Tag {
         Tag(u64::from(self.entry.tag))
     }
 
     /// The result word: see [`demux`](crate::demux).
-    pub fn result(&self) -> u64 {
+    pub fn result(self) -> u64 {
         self.entry.result
     }
 
     /// Why the layer refuses this entry whatever its tag, if it does: kind 6 or 7, or flags of an
     /// event or an obtain that do not exist.
-    pub fn parse(&self) -> Result<(), Refusal> {
+    pub fn parse(self) -> Result<(), Refusal> {
         // SAFETY: numbers alone.
         match unsafe { ffi::tilgurap_parse_cqe(self.entry) } {
             0 => Ok(()),

@@ -17,7 +17,7 @@ use crate::refusal::{Refusal, refusal};
 use crate::reply::Reply;
 use crate::status::{Holds, Slot, SlotState, Status, StatusWord};
 use crate::steps::{GenericCall, Steps};
-use crate::taken::{Taken, Wants};
+use crate::taken::{Origin, Taken, Wants};
 
 const NONBLOCK: u32 = 0x0004_0000;
 
@@ -125,10 +125,29 @@ pub struct Written {
 /// assert_eq!(reply.into_regular(), Ok(3));
 /// # Ok::<(), tilgurap::Refusal>(())
 /// ```
-#[derive(Clone, PartialEq, Eq)]
 pub struct Layer {
     pub(crate) steps: Steps,
+    /// What is taken from it bears it.
+    pub(crate) origin: Origin,
 }
+
+/// A copy has the state, and none of the calls that were taken: they are the first one's to answer.
+impl Clone for Layer {
+    fn clone(&self) -> Layer {
+        Layer {
+            steps: self.steps.clone(),
+            origin: Origin::fresh(),
+        }
+    }
+}
+
+impl PartialEq for Layer {
+    fn eq(&self, other: &Layer) -> bool {
+        self.steps == other.steps
+    }
+}
+
+impl Eq for Layer {}
 
 impl Debug for Layer {
     fn fmt(&self, f: &mut Formatter) -> fmt::Result {
@@ -203,6 +222,7 @@ impl Layer {
     pub fn new(scheme: SchemeNumber) -> Layer {
         Layer {
             steps: Steps::new(scheme.0),
+            origin: Origin::fresh(),
         }
     }
 
@@ -434,17 +454,13 @@ impl Layer {
 
     /// The driver takes the next entry, if there is one.
     pub fn next_entry(&mut self) -> Option<Taken> {
-        self.next_bytes().map(|bytes| Taken::from_bytes(&bytes))
+        self.next_sqe().map(|entry| Taken::new(entry, self.origin))
     }
 
     fn next_sqe(&mut self) -> Option<Sqe> {
-        self.next_bytes().map(|bytes| Sqe::from_bytes(&bytes))
-    }
-
-    fn next_bytes(&mut self) -> Option<[u8; Sqe::BYTES]> {
         let mut bytes = [0; Sqe::BYTES];
         let read = self.read(&mut bytes, WhenEmpty::Refuse);
-        (read == Ok(Read::Stored(Sqe::BYTES))).then_some(bytes)
+        (read == Ok(Read::Stored(Sqe::BYTES))).then(|| Sqe::from_bytes(&bytes))
     }
 
     /// The driver writes completion entries: whole ones of 16 bytes in order; fewer than 16 left
@@ -457,10 +473,10 @@ impl Layer {
     /// [`serve`](Layer::serve), which pass a refused entry.
     ///
     /// ```
-    /// use tilgurap::{Cqe, Effect, EventFlags, Layer, SchemeNumber};
+    /// use tilgurap::{Completion, Effect, EventFlags, Layer, SchemeNumber};
     ///
     /// let mut layer = Layer::new(SchemeNumber(7));
-    /// let event = || Cqe::event(3, EventFlags::READ).into_bytes();
+    /// let event = || Completion::event(3, EventFlags::READ).into_bytes();
     /// // a success for tag 9, where nobody waits: it is turned down, and the third is not looked at
     /// let stray = [0, 0, 0, 0, 9, 0, 0, 0, 0, 0, 0, 0, 0, 0, 0, 0];
     /// let written = layer.write(&[event(), stray, event()].concat());

@@ -51,10 +51,10 @@
 //! - **Write on behind a refused entry.** A [`write`](Layer::write) ends at the first one, and those behind it were not
 //!   looked at.
 //!
-//! A [`Driver`] can do no other: what it takes says what it [wants](Wants), a reply is made from a [`Call`] and uses it up,
-//! and [`serve`](Layer::serve) passes a refused entry and reports it. What remains its own is to reply to what it keeps. The
-//! host, for its part, calls with no opcode of the layer's own entries: [`call`](Layer::call) and [`submit`](Layer::submit)
-//! refuse these.
+//! A [`Driver`] can do no other: what it takes says what it [wants](Wants), a reply is made from a [`Call`], uses it up and
+//! goes to the call's own layer, and [`serve`](Layer::serve) passes a refused entry and reports it. What remains its own is to
+//! reply to what it keeps. The host, for its part, calls with no opcode of the layer's own entries: [`call`](Layer::call) and
+//! [`submit`](Layer::submit) refuse these. Of bytes ([`write`](Layer::write)) nothing of this can be seen.
 //!
 //! # Threads
 //!
@@ -102,6 +102,7 @@
 
 extern crate alloc;
 
+mod completion;
 mod driver;
 mod effect;
 mod entry;
@@ -120,6 +121,7 @@ mod status;
 mod steps;
 mod taken;
 
+pub use completion::Completion;
 pub use driver::{Answer, Driver, Refused, Rejected, Served, dispatch};
 pub use effect::{Effect, EventFlags};
 pub use entry::{Cqe, ObtainFlags, Sqe, SqeFlags};

@@ -1,9 +1,33 @@
 //! What a driver takes from its queue, by what it wants: a call wants one reply, a map request a supply, all else nothing.
 
-use crate::entry::{Cqe, ObtainFlags, Sqe};
+use core::sync::atomic::{AtomicU64, Ordering};
+
+use crate::completion::Completion;
+use crate::entry::{ObtainFlags, Sqe};
 use crate::errno::{Errno, mux};
 use crate::ids::{FileNumber, Handle, Pid, Tag};
 use crate::opcode::Opcode;
+
+/// Which layer something was taken from: a call is answered there and nowhere else, since its tag is another call's in
+/// another layer.
+#[derive(Clone, Copy, Debug, PartialEq, Eq)]
+pub(crate) struct Origin(u64);
+
+impl Origin {
+    /// From bytes, of which nobody knows.
+    pub const ELSEWHERE: Origin = Origin(0);
+
+    /// One that no other layer has.
+    pub fn fresh() -> Origin {
+        static LAST: AtomicU64 = AtomicU64::new(0);
+        Origin(LAST.fetch_add(1, Ordering::Relaxed) + 1)
+    }
+
+    /// May something from here be put to that layer?
+    pub fn fits(self, layer: Origin) -> bool {
+        self == Origin::ELSEWHERE || self == layer
+    }
+}
 
 /// What an entry wants of its driver. It goes by the opcode alone: CloseMsg and Detach bear tag 0 and no
 /// flag, so that neither tells them from a call.
@@ -49,8 +73,8 @@ impl Wants {
 /// A call is used up by its reply; a second one does not compile:
 ///
 /// ```compile_fail,E0382
-/// # use tilgurap::{Call, Cqe};
-/// fn reply(call: Call) -> [Cqe; 2] {
+/// # use tilgurap::{Call, Completion};
+/// fn reply(call: Call) -> [Completion; 2] {
 ///     [call.ok(1), call.ok(1)]
 /// }
 /// ```
@@ -59,7 +83,7 @@ impl Wants {
 ///
 /// ```compile_fail,E0599
 /// # use tilgurap::{Cqe, MapRequest};
-/// fn reply(request: MapRequest) -> Cqe {
+/// fn reply(request: MapRequest) -> Completion {
 ///     request.ok(1)
 /// }
 /// ```
@@ -93,17 +117,20 @@ impl Taken {
     /// The entry in these bytes, for a driver that got them by [`Layer::read`](crate::Layer::read). One is to
     /// be made of each entry, once.
     pub fn from_bytes(bytes: &[u8; Sqe::BYTES]) -> Taken {
-        let entry = Sqe::from_bytes(bytes);
+        Taken::new(Sqe::from_bytes(bytes), Origin::ELSEWHERE)
+    }
+
+    pub(crate) fn new(entry: Sqe, origin: Origin) -> Taken {
         let file = FileNumber(entry.args[0]);
         match entry.opcode() {
-            Some(Opcode::RequestMmap) => Taken::MapRequest(MapRequest { entry }),
+            Some(Opcode::RequestMmap) => Taken::MapRequest(MapRequest { entry, origin }),
             Some(Opcode::Cancel) => Taken::Cancel { tag: entry.tag },
             Some(Opcode::CloseMsg) => Taken::Close { file },
             Some(Opcode::Detach) => Taken::Detach {
                 file,
                 pid: entry.pid,
             },
-            _ => Taken::Call(Call { entry }),
+            _ => Taken::Call(Call { entry, origin }),
         }
     }
 
@@ -122,12 +149,14 @@ impl Taken {
     }
 }
 
-/// A call that its driver has taken. It is used up by its reply: a driver that is not done with it keeps it. One
-/// that is dropped leaves its caller waiting, and its slot taken, for good.
+/// A call that its driver has taken. It is used up by its reply, which goes to the layer that the call was taken from and
+/// to no other: a driver that is not done with it keeps it. One that is dropped leaves its caller waiting, and its slot
+/// taken, for good.
 #[derive(Debug, PartialEq, Eq)]
 #[must_use = "its caller waits for a reply"]
 pub struct Call {
     entry: Sqe,
+    pub(crate) origin: Origin,
 }
 
 impl Call {
@@ -162,42 +191,42 @@ impl Call {
     }
 
     /// It succeeded with this word. A word that reads as an error (see [`demux`](crate::demux)) is one.
-    pub fn ok(self, word: u64) -> Cqe {
-        Cqe::reply(0, self, word)
+    pub fn ok(self, word: u64) -> Completion {
+        Completion::reply(0, self, word)
     }
 
     /// It failed. [`ECANCELED`](Errno::ECANCELED) reads as [`EINTR`](Errno::EINTR) where the call was cancelled,
     /// and `EINTR` as [`EIO`](Errno::EIO) where it was not.
-    pub fn err(self, errno: Errno) -> Cqe {
-        Cqe::reply(0, self, mux(Err(errno)))
+    pub fn err(self, errno: Errno) -> Completion {
+        Completion::reply(0, self, mux(Err(errno)))
     }
 
     /// The reply is the description in this handle of the driver's, which is empty then. An empty handle is
     /// refused, and the call comes back.
-    pub fn descriptor(self, handle: Handle) -> Cqe {
-        Cqe::reply(1, self, handle.0)
+    pub fn descriptor(self, handle: Handle) -> Completion {
+        Completion::reply(1, self, handle.0)
     }
 
     /// The reply is the call's list of descriptions.
-    pub fn many(self) -> Cqe {
-        Cqe::reply(4, self, 0)
+    pub fn many(self) -> Completion {
+        Completion::reply(4, self, 0)
     }
 
     /// As [`ok`](Call::ok), and the driver asks to be told when a descriptor of the file is detached.
-    pub fn ok_with_notice(self, word: u64) -> Cqe {
-        Cqe::reply(5, self, word)
+    pub fn ok_with_notice(self, word: u64) -> Completion {
+        Completion::reply(5, self, word)
     }
 
     /// As [`err`](Call::err), with the notice of [`ok_with_notice`](Call::ok_with_notice).
-    pub fn err_with_notice(self, errno: Errno) -> Cqe {
-        Cqe::reply(5, self, mux(Err(errno)))
+    pub fn err_with_notice(self, errno: Errno) -> Completion {
+        Completion::reply(5, self, mux(Err(errno)))
     }
 
     /// The first description that came along with the call moves to this handle. It is no reply. Where the
     /// handle is in use the description's hold is dropped.
-    pub fn obtain(&self, handle: Handle, flags: ObtainFlags) -> Cqe {
+    pub fn obtain(&self, handle: Handle, flags: ObtainFlags) -> Completion {
         let [first, second, third, _] = flags.bits().to_le_bytes();
-        Cqe::new(3, self.entry.tag, handle.0).with_extra([first, second, third])
+        Completion::beside(3, self, handle.0).with_extra([first, second, third])
     }
 }
 
@@ -206,6 +235,7 @@ impl Call {
 #[must_use = "its caller waits for a page"]
 pub struct MapRequest {
     entry: Sqe,
+    origin: Origin,
 }
 
 impl MapRequest {
@@ -245,6 +275,7 @@ impl MapRequest {
             return Err(self);
         }
         Ok(Supply {
+            origin: self.origin,
             tag: self.entry.tag,
             offset,
             base,
@@ -256,6 +287,7 @@ impl MapRequest {
 #[derive(Debug, PartialEq, Eq)]
 #[must_use = "it is to be put to the layer"]
 pub struct Supply {
+    pub(crate) origin: Origin,
     pub(crate) tag: Tag,
     pub(crate) offset: u64,
     pub(crate) base: u64,

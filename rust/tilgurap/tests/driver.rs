@@ -1,9 +1,9 @@
 //! A driver at its layer: what an entry wants, each opcode's method, replies made once, refused entries passed.
 
 use tilgurap::{
-    Answer, Call, Caller, Cqe, Driver, Effect, Errno, EventFlags, FileNumber, Handle, Identity,
-    Layer, MapRequest, ObtainFlags, Opcode, Pid, Refusal, Rejected, Request, SchemeNumber, Served,
-    SlotState, SqeFlags, Tag, Taken, Wake, Wants, limits,
+    Answer, Call, Caller, Completion, Driver, Effect, Errno, EventFlags, FileNumber, Handle,
+    Identity, Layer, MapRequest, ObtainFlags, Opcode, Pid, Refusal, Rejected, Request,
+    SchemeNumber, Served, SlotState, SqeFlags, Tag, Taken, Wake, Wants, limits,
 };
 
 const WHO: Identity = Identity {
@@ -151,7 +151,7 @@ fn what_each_entry_wants() {
         panic!("no reply")
     };
     let wanted = tilgurap::mux(Err(Errno::EOPNOTSUPP));
-    assert_eq!((reply.kind(), reply.result()), (0, wanted));
+    assert_eq!((reply.cqe().kind(), reply.cqe().result()), (0, wanted));
 }
 
 #[test]
@@ -283,16 +283,13 @@ fn a_refused_entry_is_passed() {
         while let Some(Taken::Call(call)) = layer.next_entry() {
             calls.push(call);
         }
-        let mut entries: Vec<Cqe> = calls.into_iter().map(|call| call.ok(4)).collect();
-        entries.insert(place, Cqe::event(1, EventFlags::from_bits(1 << 20)));
+        let mut entries: Vec<Completion> = calls.into_iter().map(|call| call.ok(4)).collect();
+        entries.insert(place, Completion::event(1, EventFlags::from_bits(1 << 20)));
         let served = layer.answer(entries);
         assert_eq!(woken(&served), [(100, tags[0].0), (101, tags[1].0)]);
         let [refused] = <[_; 1]>::try_from(served.refused).unwrap();
         assert_eq!((refused.why, &refused.call), (Refusal::Einval, &None));
-        let Rejected::Entry(bytes) = refused.what else {
-            panic!("an entry was refused")
-        };
-        assert_eq!(Cqe::from_bytes(&bytes).kind(), 2);
+        assert!(matches!(refused.what, Rejected::Entry(entry) if entry.kind() == 2));
         assert_eq!(
             refused.to_string(),
             "an entry of kind 2 with tag 1048576 was refused: not valid there (22)"
@@ -378,19 +375,79 @@ fn a_driver_that_is_gone() {
     assert_eq!(layer.serve(&mut plant), Served::default());
     let unread = call(&mut layer, 102, Opcode::Write, VALVE);
     let reserved = layer.reserve(Caller(103)).unwrap();
-    drop(plant);
 
     let served = layer.driver_gone(Errno::EIO);
     assert_eq!(woken(&served), [(100, taken.0), (102, unread.0)]);
     assert!(served.refused.is_empty() && layer.unread().is_empty());
-    assert_eq!(read(&mut layer, taken, 100), Err(Errno::EIO));
     assert_eq!(read(&mut layer, unread, 102), Err(Errno::EIO));
+    assert_eq!(read(&mut layer, taken, 100), Err(Errno::EIO));
     assert_eq!(layer.slot(map).state, SlotState::Fmap);
     assert_eq!(layer.slot(reserved).state, SlotState::Placeholder);
-    // the next one serves
-    let mut plant = Plant::default();
+    // the next one serves, and what the one before still replies reaches nobody
+    let mut next = Plant::default();
     let valve = call(&mut layer, 100, Opcode::Write, VALVE);
-    assert_eq!(woken(&layer.serve(&mut plant)), [(100, valve.0)]);
+    assert_eq!(valve, plant.dosing[0].tag());
+    let late = layer.answer(plant.dosing.remove(0).ok(20));
+    assert_eq!(
+        (late.effects.len(), late.refused[0].why),
+        (0, Refusal::Einval)
+    );
+    assert_eq!(woken(&layer.serve(&mut next)), [(100, valve.0)]);
+    assert_eq!(read(&mut layer, valve, 100), Ok(1));
+}
+
+/// Two drivers have a layer each, and both have a call with tag 0.
+#[test]
+fn a_call_is_answered_at_its_own_layer() {
+    let (mut first, mut other, mut plant) = (layer(), layer(), Plant::default());
+    let dose = call(&mut first, 100, Opcode::Write, DOSER);
+    let tag = call(&mut other, 200, Opcode::Write, DOSER);
+    assert_eq!(dose, tag);
+    assert_eq!(first.serve(&mut plant), Served::default());
+
+    let before = other.clone();
+    let mixed_up = other.answer(plant.dosing.remove(0).ok(20));
+    assert_eq!((&other, mixed_up.effects.len()), (&before, 0));
+    let [refused] = <[_; 1]>::try_from(mixed_up.refused).unwrap();
+    assert_eq!(refused.why, Refusal::Einval);
+    // it comes back and serves its own
+    let done = refused.call.expect("it still waits").ok(20);
+    assert_eq!(woken(&first.answer(done)), [(100, dose.0)]);
+
+    // a copy has none of the calls that were taken
+    assert_eq!(other.serve(&mut plant), Served::default());
+    let mut copy = other.clone();
+    let obtain = plant.dosing[0].obtain(Handle(0), ObtainFlags::NONE);
+    assert_eq!(copy.answer(obtain).refused[0].why, Refusal::Einval);
+    let refused = copy.answer(plant.dosing.remove(0).ok(20)).refused;
+    assert_eq!(refused.len(), 1);
+    assert_eq!(copy.slot(tag).state, SlotState::Waiting);
+
+    // nor a map request's
+    let map = first.request_fmap(Caller(1), FileNumber(9), 1, 0, WHO);
+    assert!(map.is_ok());
+    assert_eq!(first.serve(&mut plant), Served::default());
+    let supply = plant.maps.remove(0).supply(0, 4096).unwrap();
+    assert_eq!(other.answer(supply).refused[0].why, Refusal::Einval);
+
+    // a driver that puts another layer's call to its own is passed, too
+    struct Mixed(Option<Call>);
+    impl Driver for Mixed {
+        fn read(&mut self, call: Call) -> Answer {
+            let stray = self.0.take().expect("asked once").ok(1);
+            vec![stray, call.ok(2)].into()
+        }
+    }
+    let stray = call(&mut first, 100, Opcode::Write, DOSER);
+    let Some(Taken::Call(taken)) = first.next_entry() else {
+        panic!("a call is queued")
+    };
+    let mut third = layer();
+    let read = call(&mut third, 300, Opcode::Read, 0);
+    let served = third.serve(&mut Mixed(Some(taken)));
+    assert_eq!(woken(&served), [(300, read.0)]);
+    let [refused] = <[_; 1]>::try_from(served.refused).unwrap();
+    assert_eq!(refused.call.map(|call| call.tag()), Some(stray));
 }
 
 /// A scheduler and a driver on threads of their own: the layer is free while the driver works.
@@ -401,7 +458,7 @@ fn threads_take_turns() {
     fn is_shared<T: Send + Sync>() {}
     is_shared::<Layer>();
     fn is_sent<T: Send>() {}
-    is_sent::<(Call, MapRequest, Cqe, Answer, Served)>();
+    is_sent::<(Call, MapRequest, Completion, Answer, Served)>();
 
     let layer = Mutex::new(layer());
     let calls = 2_000;

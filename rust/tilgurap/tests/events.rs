@@ -1,9 +1,9 @@
 //! Each event through the crate's types: what it answers, what it asks the host to do, what it leaves.
 
 use tilgurap::{
-    Call, Caller, Cqe, Description, Effect, Errno, EventFlags, FileNumber, Handle, Holds, Identity,
-    Killed, Layer, ObtainFlags, Opcode, Opened, Payload, Pid, Read, Refusal, Reply, Request,
-    SchemeNumber, SlotState, Span, Sqe, SqeFlags, Submitted, Tag, Taken, Wake, WhenEmpty,
+    Call, Caller, Completion, Description, Effect, Errno, EventFlags, FileNumber, Handle, Holds,
+    Identity, Killed, Layer, ObtainFlags, Opcode, Opened, Payload, Pid, Read, Refusal, Reply,
+    Request, SchemeNumber, SlotState, Span, Sqe, SqeFlags, Submitted, Tag, Taken, Wake, WhenEmpty,
 };
 
 const CALLER: Caller = Caller(100);
@@ -45,14 +45,14 @@ fn waiting(list: &[u64]) -> (Layer, Tag, Call) {
 }
 
 /// What an entry was refused with, which was the only one.
-fn refused(layer: &mut Layer, entry: Cqe) -> Refusal {
+fn refused(layer: &mut Layer, entry: Completion) -> Refusal {
     let served = layer.answer(entry);
     assert_eq!((served.effects.len(), served.refused.len()), (0, 1));
     served.refused[0].why
 }
 
 /// The effects of an entry that is accepted.
-fn accepted(layer: &mut Layer, entry: Cqe) -> Vec<Effect> {
+fn accepted(layer: &mut Layer, entry: Completion) -> Vec<Effect> {
     let served = layer.answer(entry);
     assert!(served.refused.is_empty(), "{:?}", served.refused);
     served.effects
@@ -137,9 +137,10 @@ fn reserve_then_submit() {
         pid: Pid(9),
     };
     assert_eq!(layer.unread(), [entry]);
-    let taken = Taken::from_bytes(&entry.to_bytes());
-    assert!(taken.wants_reply() && entry.wants_reply());
-    assert_eq!(layer.next_entry(), Some(taken));
+    let Some(Taken::Call(call)) = layer.next_entry() else {
+        panic!("a call is queued")
+    };
+    assert_eq!(*call.entry(), entry);
     assert_eq!(layer.next_entry(), None);
     assert_eq!(Sqe::from_bytes(&entry.to_bytes()), entry);
 }
@@ -232,7 +233,7 @@ fn reads() {
 #[test]
 fn each_kind_of_completion() {
     // 0 and 5: words and errors
-    type Answered = fn(Call) -> Cqe;
+    type Answered = fn(Call) -> Completion;
     let noticed = Reply::Regular {
         result: Err(Errno::ENOENT),
         extra0: 3,
@@ -294,22 +295,20 @@ fn each_kind_of_completion() {
         number: 33,
         flags: EventFlags::WRITE,
     };
-    let sent = Cqe::event(33, EventFlags::WRITE);
+    let sent = Completion::event(33, EventFlags::WRITE);
     assert_eq!(accepted(&mut layer, sent), [event]);
-    let unknown = Cqe::event(33, EventFlags::from_bits(1 << 40));
+    let unknown = Completion::event(33, EventFlags::from_bits(1 << 40));
     assert_eq!(refused(&mut layer, unknown), Refusal::Einval);
 
     // 3: the first description to a handle; 4: the others as the reply
     let (mut layer, tag, call) = waiting(&[1, 2, 3]);
     let obtain = call.obtain(Handle(0), ObtainFlags::CLOEXEC | ObtainFlags::MANUAL_FD);
-    assert_eq!(
-        (obtain.kind(), obtain.tag(), obtain.parse()),
-        (3, tag, Ok(()))
-    );
+    let entry = obtain.cqe();
+    assert_eq!((entry.kind(), entry.tag(), entry.parse()), (3, tag, Ok(())));
     assert_eq!(accepted(&mut layer, obtain), []);
     assert_eq!(layer.handle(Handle(0)), Some(Description(1)));
     let unknown = call.obtain(Handle(0), ObtainFlags::from_bits(16));
-    assert_eq!(unknown.parse(), Err(Refusal::Einval));
+    assert_eq!(unknown.cqe().parse(), Err(Refusal::Einval));
     assert_eq!(refused(&mut layer, unknown), Refusal::Einval);
     assert_eq!(accepted(&mut layer, call.many()).len(), 1);
     let many = Reply::Many(vec![Description(2), Description(3)]);
@@ -317,7 +316,7 @@ fn each_kind_of_completion() {
 
     // bytes: a good entry, a bad one, one that is not looked at
     let (mut layer, tag, call) = waiting(&[]);
-    let event = Cqe::event(1, EventFlags::READ);
+    let event = Completion::event(1, EventFlags::READ);
     let entries = [call.ok(1).into_bytes(), ok_bytes(9), event.into_bytes()];
     let written = layer.write(&entries.concat());
     assert_eq!(written.answer, Ok(16));
