@@ -21,7 +21,18 @@ flags! {
     }
 }
 
-/// What the host has to do after an event. The layer does none of it.
+/// What the host has to do after an event. The layer does none of it, and one that is not looked at is warned of:
+///
+/// ```compile_fail
+/// #![deny(unused_must_use)]
+/// use tilgurap::{FileNumber, Layer, SchemeNumber};
+///
+/// # fn main() -> Result<(), tilgurap::Refusal> {
+/// let mut layer = Layer::new(SchemeNumber(7));
+/// layer.close(FileNumber(3))?;
+/// # Ok(())
+/// # }
+/// ```
 #[derive(Clone, Copy, Debug, PartialEq, Eq)]
 #[must_use = "the layer leaves it to its host"]
 pub enum Effect {
