@@ -23,35 +23,53 @@ document() {
 run_tests() {
     (cd "$1" && cargo test --quiet --offline "${@:2}")
 }
-for package in script generate; do
-    lint "$package"
-    document "$package"
-    run_tests "$package"
-done
+everything() {
+    lint "$@"
+    document "$@"
+    run_tests "$@"
+}
 
-library=${TILGURAP_LIB:-../target/staticlib}/libtilgurap.a
-if [ -f "$library" ]; then
+# The host's crate, from Rust and from C.
+host() {
+    everything tilgurap --all-features
     lint tilgurap
-    for package in tilgurap driver reasons; do
-        lint "$package" --all-features
-        document "$package" --all-features
-        run_tests "$package" --all-features
-    done
     run_tests tilgurap
     # every step on a million arrays of words
     run_tests tilgurap --release --test any_words
     # as a git dependency, with the right library and with wrong ones
     bash ../tests/build_in.sh
-    # from C
     bash ../tests/c_host.sh
-    # the command as a new user meets it, and what README shows of it
+}
+
+# The command as a new user meets it, what README shows of it, and every difference that docs/DIFFERENCES.md lists, on the Rust's
+# side too where its sources are there.
+command_line() {
+    everything driver
+    everything reasons
     python3 ../tests/first_contact.py
     bash ../tests/readme.sh
+    bash ../tests/differences.sh
+}
+
+library=${TILGURAP_LIB:-../target/staticlib}/libtilgurap.a
+if [ -f "$library" ]; then
+    # at the same time, each in folders of its own; what the second says comes after the first
+    said=$(mktemp)
+    trap 'rm -f "$said"' EXIT
+    (set -e; command_line) > "$said" 2>&1 &
+    second=$!
+    everything script
+    everything generate
+    host
+    wait "$second" && passed=true || passed=false
+    cat "$said"
+    $passed
 else
+    everything script
+    everything generate
     echo "skipped: rust/tilgurap, rust/driver, rust/reasons and rust/compare, and what is built in, since $library is not built"
+    bash ../tests/differences.sh
 fi
-# every difference that docs/DIFFERENCES.md lists shows, on the Rust's side too where its sources are there
-bash ../tests/differences.sh
 
 if [ -z "${REDOX_SRC:-}" ]; then
     echo "skipped: lints and tests of rust/oracle, rust/record and rust/compare, since REDOX_SRC is not set"

@@ -7,7 +7,7 @@ use crate::completion::Completion;
 use crate::effect::Effect;
 use crate::entry::Cqe;
 use crate::errno::{Errno, mux};
-use crate::ids::{FileNumber, Pid, Tag};
+use crate::ids::{Description, FileNumber, Pid, Tag};
 use crate::layer::{Layer, Written};
 use crate::opcode::Opcode;
 use crate::refusal::Refusal;
@@ -293,6 +293,21 @@ impl Layer {
         served
     }
 
+    /// A driver gives a call that it has taken these descriptions, out of outside holds, in the place of those that it
+    /// has: [`move_list`](Layer::move_list), for this call and no other. [`Einval`](Refusal::Einval) where it is another
+    /// layer's, and nothing is dropped then.
+    pub fn give_list(&mut self, call: &Call, list: &[Description]) -> Result<usize, Refusal> {
+        self.own(call.origin)?;
+        self.move_list(call.tag(), list)
+    }
+
+    /// A driver takes the descriptions of a call that it has taken: [`obtain_list`](Layer::obtain_list), of this call
+    /// and no other.
+    pub fn take_list(&mut self, call: &Call) -> Result<usize, Refusal> {
+        self.own(call.origin)?;
+        self.obtain_list(call.tag())
+    }
+
     /// The driver is gone with the calls that it had taken: what it has not read is removed, and every call that
     /// waits gets this error. A driver that takes its place begins with an empty queue, and what the one before still
     /// answers is refused, as another layer's. Map requests stay: only a [supply](Layer::provide_mmap) ends one, also
@@ -310,6 +325,14 @@ impl Layer {
         served
     }
 
+    /// What was taken elsewhere is not put to this layer.
+    fn own(&self, origin: Origin) -> Result<(), Refusal> {
+        match origin.fits(self.origin) {
+            true => Ok(()),
+            false => Err(Refusal::Einval),
+        }
+    }
+
     fn put_answer(&mut self, answer: Answer, served: &mut Served) {
         match answer {
             Answer::Nothing => {}
@@ -321,11 +344,11 @@ impl Layer {
             }
             Answer::Supply(supply) => {
                 let what = Rejected::Supply(supply.tag);
-                let supplied = match supply.origin.fits(self.origin) {
-                    true => self.provide_mmap(supply.tag, supply.offset, supply.base, 1),
-                    false => Err(Refusal::Einval),
-                };
-                if let Err(why) = supplied {
+                let own = self.own(supply.origin);
+                let Supply {
+                    tag, offset, base, ..
+                } = supply;
+                if let Err(why) = own.and_then(|()| self.provide_mmap(tag, offset, base, 1)) {
                     let call = None;
                     served.refused.push(Refused { what, why, call });
                 }
@@ -340,8 +363,7 @@ impl Layer {
             call,
         } = completion;
         let what = Rejected::Entry(entry);
-        if !origin.fits(self.origin) {
-            let why = Refusal::Einval;
+        if let Err(why) = self.own(origin) {
             served.refused.push(Refused { what, why, call });
             return;
         }

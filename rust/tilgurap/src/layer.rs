@@ -499,7 +499,7 @@ impl Layer {
     }
 
     /// The driver gives a waiting call these descriptions, out of outside holds, in the place of
-    /// those that it has. A refused move has dropped them, but for
+    /// those that it has; one at hand does so by [`give_list`](Layer::give_list). A refused move has dropped them, but for
     /// [`OutOfRules`](Refusal::OutOfRules) and [`ManyDescriptions`](Refusal::ManyDescriptions).
     /// Returns how many.
     ///
@@ -519,7 +519,7 @@ impl Layer {
     ///
     /// // the driver hands a description over as its reply
     /// layer.open(logbook)?;
-    /// layer.move_list(tag, &[logbook])?;
+    /// layer.give_list(&call, &[logbook])?;
     /// assert!(layer.answer(call.many()).refused.is_empty());
     /// assert_eq!(layer.wake(tag, caller), Ok(Wake::Replied(Reply::Many(vec![logbook]))));
     /// # Ok::<(), tilgurap::Refusal>(())
@@ -529,8 +529,8 @@ impl Layer {
         done(&step).map(|count| count as usize)
     }
 
-    /// The driver takes a waiting call's descriptions, which become outside holds. Returns how
-    /// many.
+    /// The driver takes a waiting call's descriptions, which become outside holds; one at hand does so by
+    /// [`take_list`](Layer::take_list). Returns how many.
     ///
     /// Refused: [`Einval`](Refusal::Einval) for a vacant tag, [`Enoent`](Refusal::Enoent) where the
     /// call does not wait.

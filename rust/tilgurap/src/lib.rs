@@ -9,7 +9,8 @@
 //! |---|---|
 //! | call the driver | [`call`](Layer::call), or [`reserve`](Layer::reserve) and [`submit`](Layer::submit) |
 //! | let a driver take its turn | [`serve`](Layer::serve) with a [`Driver`]; one by one [`next_entry`](Layer::next_entry) and [`answer`](Layer::answer) |
-//! | pass on the bytes of a driver elsewhere | [`read`](Layer::read), [`write`](Layer::write), [`provide_mmap`](Layer::provide_mmap) |
+//! | hand descriptions over with a reply | [`give_list`](Layer::give_list), [`take_list`](Layer::take_list), [`Call::obtain`] |
+//! | pass on the bytes of a driver elsewhere | [`read`](Layer::read), [`write`](Layer::write), [`provide_mmap`](Layer::provide_mmap), [`move_list`](Layer::move_list), [`obtain_list`](Layer::obtain_list) |
 //! | fetch a reply | [`wake`](Layer::wake) |
 //! | kill a caller | [`wake_killed`](Layer::wake_killed), and [`ended`](Layer::ended) once it is gone |
 //! | look | [`status`](Layer::status), [`occupied`](Layer::occupied), [`unread`](Layer::unread) |

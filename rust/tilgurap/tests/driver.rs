@@ -1,8 +1,8 @@
 //! A driver at its layer: what an entry wants, each opcode's method, replies made once, refused entries passed.
 
 use tilgurap::{
-    Answer, Call, Caller, Completion, Driver, Effect, Errno, EventFlags, FileNumber, Handle,
-    Identity, Layer, MapRequest, ObtainFlags, Opcode, Pid, Refusal, Rejected, Request,
+    Answer, Call, Caller, Completion, Description, Driver, Effect, Errno, EventFlags, FileNumber,
+    Handle, Identity, Layer, MapRequest, ObtainFlags, Opcode, Pid, Refusal, Rejected, Request,
     SchemeNumber, Served, SlotState, SqeFlags, Tag, Taken, Wake, Wants, limits,
 };
 
@@ -419,6 +419,15 @@ fn a_call_is_answered_at_its_own_layer() {
     let mut copy = other.clone();
     let obtain = plant.dosing[0].obtain(Handle(0), ObtainFlags::NONE);
     assert_eq!(copy.answer(obtain).refused[0].why, Refusal::Einval);
+    assert!(copy.open(Description(5)).is_ok() && other.open(Description(5)).is_ok());
+    let taken = &plant.dosing[0];
+    let given = copy.give_list(taken, &[Description(5)]);
+    assert_eq!(given, Err(Refusal::Einval));
+    assert_eq!(copy.holds(Description(5)).outside, 1);
+    assert_eq!(copy.take_list(taken), Err(Refusal::Einval));
+    assert_eq!(other.give_list(taken, &[Description(5)]), Ok(1));
+    assert_eq!(other.slot(tag).descriptions, [Description(5)]);
+    assert_eq!(other.take_list(taken), Ok(1));
     let refused = copy.answer(plant.dosing.remove(0).ok(20)).refused;
     assert_eq!(refused.len(), 1);
     assert_eq!(copy.slot(tag).state, SlotState::Waiting);
@@ -519,18 +528,18 @@ fn flags_and_limits() {
         assert!(layer.close(FileNumber(1)).is_ok());
     }
     assert_eq!(layer.close(FileNumber(1)), Err(Refusal::QueueFull));
-    let last = tilgurap::Description(limits::DESCRIPTIONS as u64 - 1);
+    let last = Description(limits::DESCRIPTIONS as u64 - 1);
     assert!(layer.open(last).is_ok());
-    let beyond = tilgurap::Description(limits::DESCRIPTIONS as u64);
+    let beyond = Description(limits::DESCRIPTIONS as u64);
     assert_eq!(layer.open(beyond), Err(Refusal::OutOfRules));
     assert!(layer.put(last, Handle(limits::HANDLES as u64 - 1)).is_ok());
-    assert!(layer.open(tilgurap::Description(0)).is_ok());
+    assert!(layer.open(Description(0)).is_ok());
     for _ in 1..limits::HOLDS {
-        assert!(layer.copy(tilgurap::Description(0)).is_ok());
+        assert!(layer.copy(Description(0)).is_ok());
     }
-    let full = layer.copy(tilgurap::Description(0));
+    let full = layer.copy(Description(0));
     assert_eq!(full, Err(Refusal::HoldsFull));
-    let list = [tilgurap::Description(0); limits::LIST + 1];
+    let list = [Description(0); limits::LIST + 1];
     assert_eq!(
         layer.move_list(Tag(0), &list),
         Err(Refusal::ManyDescriptions)
