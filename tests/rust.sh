@@ -75,11 +75,11 @@ if [ -z "${REDOX_SRC:-}" ]; then
     echo "skipped: lints and tests of rust/oracle, rust/record and rust/compare, since REDOX_SRC is not set"
     exit 0
 fi
-sh oracle/build.sh clippy --quiet --all-targets -- --deny warnings
-sh oracle/build.sh test --quiet --workspace
-for package in record compare; do
+for package in oracle record compare; do
     sh oracle/build.sh clippy --quiet --all-targets --manifest-path "../$package/Cargo.toml" -- --deny warnings
+    RUSTDOCFLAGS='--deny warnings' sh oracle/build.sh doc --quiet --no-deps --manifest-path "../$package/Cargo.toml"
 done
+sh oracle/build.sh test --quiet --workspace
 sh oracle/build.sh test --quiet --manifest-path ../record/Cargo.toml
 if [ -f "$library" ]; then
     # a test looks for slips in many runs
