@@ -105,7 +105,7 @@ impl Scheduler {
         opcode: Opcode,
         file: FileNumber,
         value: u64,
-    ) -> Result<Tag, Refusal> {
+    ) -> Result<(), Refusal> {
         let who = Identity {
             uid: 0,
             gid: 0,
@@ -116,8 +116,7 @@ impl Scheduler {
         self.tell(format!(
             "caller {caller} calls ({opcode} {value}, file {file}): tag {tag}"
         ));
-        self.carry_out(effect)?;
-        Ok(tag)
+        self.carry_out(effect)
     }
 
     fn close(&mut self, file: FileNumber) -> Result<(), Refusal> {
@@ -138,7 +137,7 @@ impl Scheduler {
             return Ok(());
         };
         let tag = reply.cqe().tag();
-        let served = self.layer.answer(reply);
+        let served = self.layer.answer_for(&mut self.plant, reply);
         if served.effects.is_empty() {
             self.tell(format!("the reply to tag {tag} wakes nobody"));
         }
@@ -178,15 +177,15 @@ impl Scheduler {
         self.tell(format!("caller {caller}, tag {tag}, {read}"));
     }
 
-    fn kill(&mut self, tag: Tag, caller: Caller) -> Result<(), Refusal> {
-        match self.layer.wake_killed(tag, caller, Span::NONE)? {
-            Killed::Returned => {
-                self.tell(format!("caller {caller} is killed, tag {tag} stays taken"));
+    fn kill(&mut self, caller: Caller) {
+        for (tag, killed) in self.layer.kill(caller, |_| Span::NONE) {
+            match killed {
+                Killed::Returned => {
+                    self.tell(format!("caller {caller} is killed, tag {tag} stays taken"));
+                }
+                Killed::Replied(reply) => self.show(caller, tag, reply),
             }
-            Killed::Replied(reply) => self.show(caller, tag, reply),
         }
-        self.layer.ended(caller);
-        Ok(())
     }
 
     fn show_status(&mut self) {
@@ -213,7 +212,7 @@ fn story() -> Result<Story, Refusal> {
     scheduler.turn()?;
 
     // a dose takes its time: the gauge's reply overtakes it, and the gauge is closed
-    let dose = scheduler.call(DOSING, Opcode::Write, DOSER, 20)?;
+    scheduler.call(DOSING, Opcode::Write, DOSER, 20)?;
     scheduler.call(PANEL, Opcode::Read, GAUGE, 0)?;
     scheduler.turn()?;
     scheduler.close(GAUGE)?;
@@ -221,7 +220,7 @@ fn story() -> Result<Story, Refusal> {
     scheduler.show_status();
 
     // the operator kills the dosing call: it returns, and its slot stays taken
-    scheduler.kill(dose, DOSING)?;
+    scheduler.kill(DOSING);
     scheduler.show_status();
 
     // the valve call gets a slot of its own, and the late reply does not reach it

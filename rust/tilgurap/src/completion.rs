@@ -3,7 +3,7 @@
 use crate::effect::EventFlags;
 use crate::entry::Cqe;
 use crate::ids::Tag;
-use crate::taken::{Call, Origin};
+use crate::taken::{Call, Serial};
 
 /// A completion entry to be put to the layer by [`Layer::answer`](crate::Layer::answer), once. A reply is made from the
 /// [`Call`] that it is for, and uses it up; [`event`](Completion::event) serves no call.
@@ -11,8 +11,8 @@ use crate::taken::{Call, Origin};
 #[must_use = "it is to be put to the layer"]
 pub struct Completion {
     pub(crate) entry: Cqe,
-    /// Whose layer's it is.
-    pub(crate) origin: Origin,
+    /// Which call it goes with.
+    pub(crate) serial: Serial,
     /// Whose reply it is.
     pub(crate) call: Option<Call>,
 }
@@ -22,7 +22,7 @@ impl Completion {
     pub(crate) fn beside(kind: u8, call: &Call, result: u64) -> Completion {
         Completion {
             entry: Cqe::new(kind, call.tag(), result),
-            origin: call.origin,
+            serial: call.serial,
             call: None,
         }
     }
@@ -40,7 +40,7 @@ impl Completion {
         let entry = Cqe::new(2, Tag(flags.bits()), number);
         Completion {
             entry,
-            origin: Origin::ELSEWHERE,
+            serial: Serial::ELSEWHERE,
             call: None,
         }
     }

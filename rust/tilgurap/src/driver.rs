@@ -12,7 +12,7 @@ use crate::layer::{Layer, Written};
 use crate::opcode::Opcode;
 use crate::refusal::Refusal;
 use crate::status::SlotState;
-use crate::taken::{Call, MapRequest, Origin, Supply, Taken};
+use crate::taken::{Call, Cancel, MapRequest, Outstanding, Serial, Supply, Taken};
 
 /// What a driver gives back.
 #[derive(Debug, PartialEq, Eq)]
@@ -22,10 +22,10 @@ pub enum Answer {
     Nothing,
     /// An entry: the reply to this call or to one that was kept, or an event.
     Entry(Completion),
-    /// Several, in order.
-    Entries(Vec<Completion>),
     /// A map request's page.
     Supply(Supply),
+    /// Several, in order.
+    Several(Vec<Answer>),
 }
 
 impl From<Completion> for Answer {
@@ -36,7 +36,7 @@ impl From<Completion> for Answer {
 
 impl From<Vec<Completion>> for Answer {
     fn from(entries: Vec<Completion>) -> Answer {
-        Answer::Entries(entries)
+        Answer::Several(entries.into_iter().map(Answer::Entry).collect())
     }
 }
 
@@ -56,6 +56,19 @@ pub struct Served {
     pub refused: Vec<Refused>,
 }
 
+/// What a driver that is gone leaves. The effects have to be carried out, in order.
+#[derive(Debug, PartialEq, Eq)]
+#[must_use = "its effects are the host's to carry out"]
+pub struct Gone {
+    /// What the host has to do.
+    pub effects: Vec<Effect>,
+    /// The map requests that it had not read, for the driver that takes its place.
+    pub unread_maps: Vec<MapRequest>,
+    /// Those that it had taken: their slots stay taken until somebody supplies a page
+    /// ([`provide_mmap`](Layer::provide_mmap)), also where the caller has ended.
+    pub lost_maps: Vec<Tag>,
+}
+
 /// What the layer refused of a driver's answers.
 #[derive(Debug, PartialEq, Eq)]
 pub struct Refused {
@@ -64,8 +77,10 @@ pub struct Refused {
     /// Why.
     pub why: Refusal,
     /// The call, where a reply was refused and it still wants one: that was a descriptor from an empty handle, say,
-    /// or the call is another layer's.
+    /// or the call is another layer's. One that is dropped leaves its caller waiting.
     pub call: Option<Call>,
+    /// The map request, where its page was put to another layer.
+    pub request: Option<MapRequest>,
 }
 
 /// Something that the layer refused.
@@ -154,9 +169,9 @@ macro_rules! calls {
                 Answer::Nothing
             }
 
-            /// The call with this tag is to be given up: a driver that has kept it may reply to it now, with
+            /// A call is to be given up: a driver that has kept it ([`Cancel::is_for`]) may reply to it now, with
             /// [`ECANCELED`](Errno::ECANCELED) or as it was asked to. The call wants its reply in any case.
-            fn on_cancel(&mut self, _tag: Tag) -> Answer {
+            fn on_cancel(&mut self, _cancel: Cancel) -> Answer {
                 Answer::Nothing
             }
 
@@ -170,7 +185,8 @@ macro_rules! calls {
                 Answer::Nothing
             }
 
-            /// The reply to this call was refused, and the call still waits.
+            /// The reply to this call was refused, and the call still waits. [`Layer::serve`] and
+            /// [`Layer::answer_for`] ask this, once for a call; what is refused then gets [`EIO`](Errno::EIO).
             fn on_refused(&mut self, call: Call, _why: Refusal) -> Answer {
                 call.err(Errno::EIO).into()
             }
@@ -245,13 +261,13 @@ calls! {
     std_fs_call = StdFsCall;
 }
 
-/// Hands what a driver has taken to the method for it. [`Layer::serve`] does that for a whole turn; a host with threads
-/// does it while the layer is free for others.
+/// Hands what a driver has taken to the method for it, for a host whose layer is free for others meanwhile; what it gives goes to
+/// [`Layer::answer_for`]. [`Layer::serve`] does both for a whole turn.
 pub fn dispatch<D: Driver + ?Sized>(driver: &mut D, taken: Taken) -> Answer {
     match taken {
         Taken::Call(call) => dispatch_call(driver, call),
         Taken::MapRequest(request) => driver.request_mmap(request),
-        Taken::Cancel { tag } => driver.on_cancel(tag),
+        Taken::Cancel(cancel) => driver.on_cancel(cancel),
         Taken::Close { file } => driver.on_close(file),
         Taken::Detach { file, pid } => driver.on_detach(file, pid),
     }
@@ -263,30 +279,59 @@ impl Layer {
     /// ([`on_refused`](Driver::on_refused)).
     pub fn serve<D: Driver + ?Sized>(&mut self, driver: &mut D) -> Served {
         let mut served = Served::default();
-        while let Some(taken) = self.next_entry() {
-            let mut looked_at = served.refused.len();
-            self.put_answer(dispatch(driver, taken), &mut served);
-            let first = served.refused.len();
-            while let Some(refused) = served.refused.get_mut(looked_at) {
-                let own = refused.call.take_if(|call| call.origin.fits(self.origin));
-                if let Some(call) = own {
-                    // asked once: a reply with an error is not refused
-                    let again = if looked_at < first {
-                        driver.on_refused(call, refused.why)
-                    } else {
-                        call.err(Errno::EIO).into()
-                    };
-                    self.put_answer(again, &mut served);
-                }
-                looked_at += 1;
-            }
-        }
+        self.serve_into(driver, &mut served);
         served
     }
 
-    /// Puts to the layer what a driver answers: a reply, several, an event, a page. Each entry is an event of its own,
-    /// so that a refused one hides none behind it. What belongs to a call of another layer's is refused with
-    /// [`Einval`](Refusal::Einval), and the layer is not asked: its tag is another call's here.
+    /// As [`serve`](Layer::serve), added to what was served before: it is there also if the driver panics, and then the
+    /// call that it was at is lost ([`driver_gone`](Layer::driver_gone)).
+    pub fn serve_into<D: Driver + ?Sized>(&mut self, driver: &mut D, served: &mut Served) {
+        while let Some(taken) = self.next_entry() {
+            let answer = dispatch(driver, taken);
+            self.answer_into(driver, answer, served);
+        }
+    }
+
+    /// Puts to the layer what a driver answers, as [`answer`](Layer::answer) does, and asks the driver about a reply that was
+    /// refused ([`on_refused`](Driver::on_refused)).
+    pub fn answer_for<D: Driver + ?Sized>(
+        &mut self,
+        driver: &mut D,
+        answer: impl Into<Answer>,
+    ) -> Served {
+        let mut served = Served::default();
+        self.answer_into(driver, answer.into(), &mut served);
+        served
+    }
+
+    fn answer_into<D: Driver + ?Sized>(
+        &mut self,
+        driver: &mut D,
+        answer: Answer,
+        served: &mut Served,
+    ) {
+        let mut looked_at = served.refused.len();
+        self.put_answer(answer, served);
+        let first = served.refused.len();
+        while let Some(refused) = served.refused.get_mut(looked_at) {
+            let outstanding = &self.outstanding;
+            let own = |call: &mut Call| is_own(outstanding, call.tag(), call.serial);
+            if let Some(call) = refused.call.take_if(own) {
+                // asked once: a reply with an error is not refused
+                let again = if looked_at < first {
+                    driver.on_refused(call, refused.why)
+                } else {
+                    call.err(Errno::EIO).into()
+                };
+                self.put_answer(again, served);
+            }
+            looked_at += 1;
+        }
+    }
+
+    /// Puts to the layer what a driver answers: a reply, an event, a page, several. Each entry is an event of its own,
+    /// so that a refused one hides none behind it. What goes with a call that was taken from another layer, or that was
+    /// replied to, is refused with [`Einval`](Refusal::Einval), and the layer is not asked: the tag is another call's.
     pub fn answer(&mut self, answer: impl Into<Answer>) -> Served {
         let mut served = Served::default();
         self.put_answer(answer.into(), &mut served);
@@ -297,37 +342,50 @@ impl Layer {
     /// has: [`move_list`](Layer::move_list), for this call and no other. [`Einval`](Refusal::Einval) where it is another
     /// layer's, and nothing is dropped then.
     pub fn give_list(&mut self, call: &Call, list: &[Description]) -> Result<usize, Refusal> {
-        self.own(call.origin)?;
+        self.own(call.tag(), call.serial)?;
         self.move_list(call.tag(), list)
     }
 
     /// A driver takes the descriptions of a call that it has taken: [`obtain_list`](Layer::obtain_list), of this call
     /// and no other.
     pub fn take_list(&mut self, call: &Call) -> Result<usize, Refusal> {
-        self.own(call.origin)?;
+        self.own(call.tag(), call.serial)?;
         self.obtain_list(call.tag())
     }
 
     /// The driver is gone with the calls that it had taken: what it has not read is removed, and every call that
-    /// waits gets this error. A driver that takes its place begins with an empty queue, and what the one before still
-    /// answers is refused, as another layer's. Map requests stay: only a [supply](Layer::provide_mmap) ends one, also
-    /// where its caller has ended.
-    pub fn driver_gone(&mut self, errno: Errno) -> Served {
-        while self.next_entry().is_some() {}
-        self.origin = Origin::fresh();
-        let mut served = Served::default();
-        for tag in self.status().waiting.tags() {
-            let entry = Cqe::new(0, tag, mux(Err(errno)));
-            let Written { answer, effects } = self.write(&entry.to_bytes());
-            debug_assert_eq!(answer, Ok(Cqe::BYTES));
-            served.effects.extend(effects);
+    /// waits gets this error. A driver that takes its place begins with an empty queue and with the map requests that
+    /// were unread; what the one before still answers is refused.
+    pub fn driver_gone(&mut self, errno: Errno) -> Gone {
+        self.outstanding = Outstanding::none();
+        let mut unread_maps = Vec::new();
+        while let Some(taken) = self.next_entry() {
+            if let Taken::MapRequest(request) = taken {
+                unread_maps.push(request);
+            }
         }
-        served
+        let mut effects = Vec::new();
+        for tag in self.status().waiting.tags() {
+            self.outstanding.set(tag, Serial::NONE);
+            let entry = Cqe::new(0, tag, mux(Err(errno)));
+            let written = self.write(&entry.to_bytes());
+            debug_assert_eq!(written.answer, Ok(Cqe::BYTES));
+            effects.extend(written.effects);
+        }
+        let unread = |tag: &Tag| unread_maps.iter().any(|request| request.tag() == *tag);
+        let lost_maps = (self.status().fmap.tags())
+            .filter(|tag| !unread(tag))
+            .collect();
+        Gone {
+            effects,
+            unread_maps,
+            lost_maps,
+        }
     }
 
-    /// What was taken elsewhere is not put to this layer.
-    fn own(&self, origin: Origin) -> Result<(), Refusal> {
-        match origin.fits(self.origin) {
+    /// What goes with a call or map request that is not outstanding here is not put to the layer.
+    fn own(&self, tag: Tag, serial: Serial) -> Result<(), Refusal> {
+        match is_own(&self.outstanding, tag, serial) {
             true => Ok(()),
             false => Err(Refusal::Einval),
         }
@@ -337,42 +395,67 @@ impl Layer {
         match answer {
             Answer::Nothing => {}
             Answer::Entry(entry) => self.put_entry(entry, served),
-            Answer::Entries(entries) => {
-                for entry in entries {
-                    self.put_entry(entry, served);
+            Answer::Supply(supply) => self.put_supply(supply, served),
+            Answer::Several(answers) => {
+                for answer in answers {
+                    self.put_answer(answer, served);
                 }
             }
-            Answer::Supply(supply) => {
-                let what = Rejected::Supply(supply.tag);
-                let own = self.own(supply.origin);
-                let Supply {
-                    tag, offset, base, ..
-                } = supply;
-                if let Err(why) = own.and_then(|()| self.provide_mmap(tag, offset, base, 1)) {
-                    let call = None;
-                    served.refused.push(Refused { what, why, call });
-                }
-            }
+        }
+    }
+
+    fn put_supply(&mut self, supply: Supply, served: &mut Served) {
+        let tag = supply.request.tag();
+        let mut refuse = |why, request| {
+            let what = Rejected::Supply(tag);
+            served.refused.push(Refused {
+                what,
+                why,
+                call: None,
+                request,
+            });
+        };
+        if let Err(why) = self.own(tag, supply.request.serial) {
+            return refuse(why, Some(supply.request));
+        }
+        self.outstanding.set(tag, Serial::NONE);
+        if let Err(why) = self.provide_mmap(tag, supply.offset, supply.base, 1) {
+            refuse(why, None);
         }
     }
 
     fn put_entry(&mut self, completion: Completion, served: &mut Served) {
         let Completion {
             entry,
-            origin,
+            serial,
             call,
         } = completion;
-        let what = Rejected::Entry(entry);
-        if let Err(why) = self.own(origin) {
-            served.refused.push(Refused { what, why, call });
-            return;
+        let mut refuse = |why, call| {
+            let what = Rejected::Entry(entry);
+            served.refused.push(Refused {
+                what,
+                why,
+                call,
+                request: None,
+            });
+        };
+        if let Err(why) = self.own(entry.tag(), serial) {
+            return refuse(why, call);
         }
         let Written { answer, effects } = self.write(&entry.to_bytes());
-        served.effects.extend(effects);
-        if let Err(why) = answer {
-            let waits = |call: &Call| self.slot(call.tag()).state == SlotState::Waiting;
-            let call = call.filter(waits);
-            served.refused.push(Refused { what, why, call });
+        match answer {
+            Ok(_) if call.is_some() => self.outstanding.set(entry.tag(), Serial::NONE),
+            Ok(_) => {}
+            Err(why) => {
+                let waits = |call: &Call| self.slot(call.tag()).state == SlotState::Waiting;
+                refuse(why, call.filter(waits));
+            }
         }
+        served.effects.extend(effects);
     }
+}
+
+/// May something that goes with this call be put to the layer where these are outstanding?
+fn is_own(outstanding: &Outstanding, tag: Tag, serial: Serial) -> bool {
+    serial == Serial::ELSEWHERE || outstanding.at(tag) == serial
 }

@@ -17,7 +17,7 @@ use crate::refusal::{Refusal, refusal};
 use crate::reply::Reply;
 use crate::status::{Holds, Slot, SlotState, Status, StatusWord};
 use crate::steps::{GenericCall, Steps};
-use crate::taken::{Origin, Taken, Wants};
+use crate::taken::{Outstanding, Serial, Taken, Wants};
 
 const NONBLOCK: u32 = 0x0004_0000;
 
@@ -127,8 +127,7 @@ pub struct Written {
 /// ```
 pub struct Layer {
     pub(crate) steps: Steps,
-    /// What is taken from it bears it.
-    pub(crate) origin: Origin,
+    pub(crate) outstanding: Outstanding,
 }
 
 /// A copy has the state, and none of the calls that were taken: they are the first one's to answer.
@@ -136,7 +135,7 @@ impl Clone for Layer {
     fn clone(&self) -> Layer {
         Layer {
             steps: self.steps.clone(),
-            origin: Origin::fresh(),
+            outstanding: Outstanding::none(),
         }
     }
 }
@@ -185,13 +184,6 @@ fn callers_own(opcode: Opcode) -> Result<(), Refusal> {
     }
 }
 
-fn submitted(step: ffi::StepWords) -> Result<Submitted, Refusal> {
-    queued(step).map(|(tag, effect)| Submitted {
-        tag: Tag(tag),
-        effect,
-    })
-}
-
 fn numbers(list: &[Description]) -> Vec<u64> {
     list.iter().map(|description| description.0).collect()
 }
@@ -222,8 +214,16 @@ impl Layer {
     pub fn new(scheme: SchemeNumber) -> Layer {
         Layer {
             steps: Steps::new(scheme.0),
-            origin: Origin::fresh(),
+            outstanding: Outstanding::none(),
         }
+    }
+
+    /// An entry was queued under a tag, which is no earlier call's any more.
+    fn submitted(&mut self, step: ffi::StepWords) -> Result<Submitted, Refusal> {
+        let (tag, effect) = queued(step)?;
+        let tag = Tag(tag);
+        self.outstanding.set(tag, Serial::NONE);
+        Ok(Submitted { tag, effect })
     }
 
     /// The host opens a description that is not open, with one outside hold.
@@ -256,7 +256,8 @@ impl Layer {
     }
 
     /// The host reports that a caller has ended. Its slots are marked: nobody is woken for them, and
-    /// the driver's reply vacates them.
+    /// the driver's reply vacates them. A reply that is there already stays, and its slot with it, since nobody can
+    /// fetch it any more: [`kill`](Layer::kill) fetches it before. So does a slot that was reserved and not submitted.
     pub fn ended(&mut self, caller: Caller) {
         let answered = done(&self.steps.ended(caller.0));
         debug_assert_eq!(answered, Ok(0));
@@ -283,7 +284,7 @@ impl Layer {
         list: &[Description],
     ) -> Result<Submitted, Refusal> {
         callers_own(request.opcode)?;
-        submitted(self.steps.submit(
+        let step = self.steps.submit(
             tag.0,
             caller.0,
             u64::from(request.opcode.number()),
@@ -291,7 +292,8 @@ impl Layer {
             request.args,
             request.pid.0,
             &numbers(list),
-        ))
+        );
+        self.submitted(step)
     }
 
     /// Gives a slot out and submits it in one. The entry's sixth argument is the caller's uid and
@@ -309,7 +311,7 @@ impl Layer {
     ) -> Result<Submitted, Refusal> {
         callers_own(opcode)?;
         let [a, b, c, d, e] = args;
-        submitted(self.steps.call(
+        let step = self.steps.call(
             caller.0,
             u64::from(opcode.number()),
             [a, b, c, d, e, 0],
@@ -317,7 +319,8 @@ impl Layer {
             who.gid,
             who.pid.0,
             &numbers(list),
-        ))
+        );
+        self.submitted(step)
     }
 
     /// A call of the driver's own kind (`Opcode::Call`) about one or two files. Of the metadata the
@@ -335,7 +338,8 @@ impl Layer {
     ) -> Result<Submitted, Refusal> {
         let fds = file_numbers(files);
         let call = generic_call(caller, pid, &fds, payload, metadata);
-        submitted(self.steps.generic(&call))
+        let step = self.steps.generic(&call);
+        self.submitted(step)
     }
 
     /// A standard file system call (`Opcode::StdFsCall`), as [`call_generic`](Layer::call_generic).
@@ -353,7 +357,8 @@ impl Layer {
     ) -> Result<Submitted, Refusal> {
         let fds = file_numbers(files);
         let call = generic_call(caller, pid, &fds, payload, metadata);
-        submitted(self.steps.stdfs(&call))
+        let step = self.steps.stdfs(&call);
+        self.submitted(step)
     }
 
     /// Asks the driver for a mapping of a file. It is no call: no reply serves it, and
@@ -368,10 +373,8 @@ impl Layer {
         flags: u64,
         who: Identity,
     ) -> Result<Submitted, Refusal> {
-        submitted(
-            self.steps
-                .fmap(caller.0, file.0, pages, flags, who.uid, who.gid, who.pid.0),
-        )
+        let step = (self.steps).fmap(caller.0, file.0, pages, flags, who.uid, who.gid, who.pid.0);
+        self.submitted(step)
     }
 
     /// Tells the driver that a file of its was closed. Nobody waits for a reply. The effect has to
@@ -408,6 +411,9 @@ impl Layer {
     /// A caller was killed. It still fetches a reply that is there. Else its call returns: its slot is not given out
     /// again until the driver has replied, and the pages in the span are unmapped then.
     ///
+    /// Report the caller as [`ended`](Layer::ended) before the driver writes again, or its reply is kept for nobody:
+    /// [`kill`](Layer::kill) does both.
+    ///
     /// Refused: as [`wake`](Layer::wake) but for a full queue.
     pub fn wake_killed(&mut self, tag: Tag, caller: Caller, span: Span) -> Result<Killed, Refusal> {
         let woken = (self.steps).wake(tag.0, caller.0, 1, span.base, span.count);
@@ -418,6 +424,45 @@ impl Layer {
                 refused => Err(refused),
             },
         }
+    }
+
+    /// Kills a caller: of each of its calls the reply is fetched, or the call returns and its slot stays taken until the
+    /// driver has replied; then it is reported as [`ended`](Layer::ended). No reply can come in between. `span` says which
+    /// pages a call had lent. What the replies hold is the host's to drop.
+    ///
+    /// ```
+    /// use tilgurap::{Caller, Identity, Killed, Layer, Opcode, Pid, SchemeNumber, Span, Taken};
+    ///
+    /// let mut layer = Layer::new(SchemeNumber(7));
+    /// let who = Identity { uid: 0, gid: 0, pid: Pid(100) };
+    /// let dose = layer.call(Caller(100), Opcode::Write, [2, 20, 0, 0, 0], who, &[])?.tag;
+    /// let Some(Taken::Call(call)) = layer.next_entry() else { panic!("a call is queued") };
+    /// assert_eq!(layer.kill(Caller(100), |_| Span::NONE), [(dose, Killed::Returned)]);
+    ///
+    /// // the late reply wakes nobody and frees the slot
+    /// assert!(layer.answer(call.ok(20)).effects.is_empty());
+    /// assert!(layer.occupied().is_empty());
+    /// # Ok::<(), tilgurap::Refusal>(())
+    /// ```
+    #[must_use = "a reply that was there is among it"]
+    pub fn kill(
+        &mut self,
+        caller: Caller,
+        mut span: impl FnMut(Tag) -> Span,
+    ) -> Vec<(Tag, Killed)> {
+        let mut calls = Vec::new();
+        for (tag, slot) in self.occupied() {
+            let is_call = matches!(slot.state, SlotState::Waiting | SlotState::Responded);
+            if !is_call || slot.caller != caller {
+                continue;
+            }
+            // one that has returned before is refused
+            if let Ok(killed) = self.wake_killed(tag, caller, span(tag)) {
+                calls.push((tag, killed));
+            }
+        }
+        self.ended(caller);
+        calls
     }
 
     /// The driver reads from its queue: min(length, unread bytes). Whole entries are removed; a
@@ -454,7 +499,17 @@ impl Layer {
 
     /// The driver takes the next entry, if there is one.
     pub fn next_entry(&mut self) -> Option<Taken> {
-        self.next_sqe().map(|entry| Taken::new(entry, self.origin))
+        let entry = self.next_sqe()?;
+        let serial = match entry.wants() {
+            Wants::Reply | Wants::Supply => {
+                let serial = Serial::fresh();
+                self.outstanding.set(entry.tag, serial);
+                serial
+            }
+            // a Cancel is of the call that has its tag now
+            Wants::Nothing => self.outstanding.at(entry.tag),
+        };
+        Some(Taken::new(entry, serial))
     }
 
     fn next_sqe(&mut self) -> Option<Sqe> {

@@ -12,7 +12,7 @@
 //! | hand descriptions over with a reply | [`give_list`](Layer::give_list), [`take_list`](Layer::take_list), [`Call::obtain`] |
 //! | pass on the bytes of a driver elsewhere | [`read`](Layer::read), [`write`](Layer::write), [`provide_mmap`](Layer::provide_mmap), [`move_list`](Layer::move_list), [`obtain_list`](Layer::obtain_list) |
 //! | fetch a reply | [`wake`](Layer::wake) |
-//! | kill a caller | [`wake_killed`](Layer::wake_killed), and [`ended`](Layer::ended) once it is gone |
+//! | kill a caller | [`kill`](Layer::kill), which is [`wake_killed`](Layer::wake_killed) for each of its calls and [`ended`](Layer::ended) at once |
 //! | look | [`status`](Layer::status), [`occupied`](Layer::occupied), [`unread`](Layer::unread) |
 //!
 //! An accepted event may come with an [`Effect`], which the host has to carry out; a refused one
@@ -53,20 +53,23 @@
 //!   looked at.
 //!
 //! A [`Driver`] can do no other: what it takes says what it [wants](Wants), a reply is made from a [`Call`], uses it up and
-//! goes to the call's own layer, and [`serve`](Layer::serve) passes a refused entry and reports it. What remains its own is to
-//! reply to what it keeps. The host, for its part, calls with no opcode of the layer's own entries: [`call`](Layer::call) and
-//! [`submit`](Layer::submit) refuse these. Of bytes ([`write`](Layer::write)) nothing of this can be seen.
+//! goes to the call's own layer, what goes with a call that was replied to is refused, and [`serve`](Layer::serve) passes a
+//! refused entry and reports it. So it replies at most once; that it replies at all is its own: a call that it drops waits for good.
+//! The host, for its part, calls with no opcode of the layer's own entries: [`call`](Layer::call) and
+//! [`submit`](Layer::submit) refuse these. Of bytes and bare tags ([`write`](Layer::write) and the others of that row above)
+//! nothing of this can be seen: they are for a driver elsewhere.
 //!
 //! # Threads
 //!
 //! A [`Layer`] is `Send` and `Sync`, and takes one event at a time: its methods want `&mut`, so that threads share it behind a
-//! lock. Layers share nothing. Between [`next_entry`](Layer::next_entry) and [`answer`](Layer::answer) the lock need not be held:
-//! [`dispatch`] hands an entry to its driver meanwhile, and a [`Call`] may be sent to another thread.
+//! lock. Layers share nothing. Between [`next_entry`](Layer::next_entry) and [`answer_for`](Layer::answer_for) the lock need not be
+//! held: [`dispatch`] hands an entry to its driver meanwhile, and a [`Call`] may be sent to another thread. Several threads may take
+//! entries of one layer; a [`Cancel`] then may come to its driver before the call that it [is for](Cancel::is_for), or after its reply.
 //!
 //! # Restart
 //!
-//! A driver that begins anew has lost its calls, whose slots wait for replies: [`driver_gone`](Layer::driver_gone) fails them
-//! all and empties the queue. A host that begins anew makes a fresh layer, of which no tag from before is meant: its drivers begin
+//! A driver that begins anew, or has panicked, has lost its calls, whose slots wait for replies: [`driver_gone`](Layer::driver_gone)
+//! fails them all and empties the queue. A host that begins anew makes a fresh layer, of which no tag from before is meant: its drivers begin
 //! anew with it.
 //!
 //! # Stack
@@ -123,7 +126,7 @@ mod steps;
 mod taken;
 
 pub use completion::Completion;
-pub use driver::{Answer, Driver, Refused, Rejected, Served, dispatch};
+pub use driver::{Answer, Driver, Gone, Refused, Rejected, Served, dispatch};
 pub use effect::{Effect, EventFlags};
 pub use entry::{Cqe, ObtainFlags, Sqe, SqeFlags};
 pub use errno::{Errno, demux, mux};
@@ -135,4 +138,4 @@ pub use opcode::Opcode;
 pub use refusal::Refusal;
 pub use reply::{Opened, Reply};
 pub use status::{Holds, Slot, SlotState, Status, StatusWord};
-pub use taken::{Call, MapRequest, Supply, Taken, Wants};
+pub use taken::{Call, Cancel, MapRequest, Supply, Taken, Wants};

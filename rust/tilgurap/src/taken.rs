@@ -4,28 +4,48 @@ use core::sync::atomic::{AtomicU64, Ordering};
 
 use crate::completion::Completion;
 use crate::entry::{ObtainFlags, Sqe};
-use crate::errno::{Errno, mux};
+use crate::errno::{Errno, demux, mux};
 use crate::ids::{FileNumber, Handle, Pid, Tag};
+use crate::limits::SLOTS;
 use crate::opcode::Opcode;
 
-/// Which layer something was taken from: a call is answered there and nowhere else, since its tag is another call's in
-/// another layer.
+/// Which call or map request it is, of all that were taken in this process: a tag is another call's in another layer, and
+/// later in the same one.
 #[derive(Clone, Copy, Debug, PartialEq, Eq)]
-pub(crate) struct Origin(u64);
+pub(crate) struct Serial(u64);
 
-impl Origin {
-    /// From bytes, of which nobody knows.
-    pub const ELSEWHERE: Origin = Origin(0);
+impl Serial {
+    /// Of an entry from bytes, of which no layer keeps anything.
+    pub const ELSEWHERE: Serial = Serial(0);
+    /// Of none.
+    pub const NONE: Serial = Serial(u64::MAX);
 
-    /// One that no other layer has.
-    pub fn fresh() -> Origin {
+    /// One that was never given before.
+    pub fn fresh() -> Serial {
         static LAST: AtomicU64 = AtomicU64::new(0);
-        Origin(LAST.fetch_add(1, Ordering::Relaxed) + 1)
+        Serial(LAST.fetch_add(1, Ordering::Relaxed) + 1)
+    }
+}
+
+/// What the driver at a layer has taken and not answered, by its slot.
+pub(crate) struct Outstanding([Serial; SLOTS]);
+
+impl Outstanding {
+    pub fn none() -> Outstanding {
+        Outstanding([Serial::NONE; SLOTS])
     }
 
-    /// May something from here be put to that layer?
-    pub fn fits(self, layer: Origin) -> bool {
-        self == Origin::ELSEWHERE || self == layer
+    pub fn at(&self, tag: Tag) -> Serial {
+        let place = usize::try_from(tag.0).ok();
+        let found = place.and_then(|place| self.0.get(place));
+        found.copied().unwrap_or(Serial::NONE)
+    }
+
+    pub fn set(&mut self, tag: Tag, serial: Serial) {
+        let place = usize::try_from(tag.0).ok();
+        if let Some(at) = place.and_then(|place| self.0.get_mut(place)) {
+            *at = serial;
+        }
     }
 }
 
@@ -82,7 +102,7 @@ impl Wants {
 /// and what wants no reply has no way to make one:
 ///
 /// ```compile_fail,E0599
-/// # use tilgurap::{Cqe, MapRequest};
+/// # use tilgurap::{Completion, MapRequest};
 /// fn reply(request: MapRequest) -> Completion {
 ///     request.ok(1)
 /// }
@@ -94,11 +114,8 @@ pub enum Taken {
     Call(Call),
     /// A map request, which wants a page.
     MapRequest(MapRequest),
-    /// The call with this tag is to be given up. It still wants its reply.
-    Cancel {
-        /// Which call.
-        tag: Tag,
-    },
+    /// A call is to be given up. It still wants its reply.
+    Cancel(Cancel),
     /// A file's last descriptor was closed.
     Close {
         /// Which file.
@@ -117,20 +134,23 @@ impl Taken {
     /// The entry in these bytes, for a driver that got them by [`Layer::read`](crate::Layer::read). One is to
     /// be made of each entry, once.
     pub fn from_bytes(bytes: &[u8; Sqe::BYTES]) -> Taken {
-        Taken::new(Sqe::from_bytes(bytes), Origin::ELSEWHERE)
+        Taken::new(Sqe::from_bytes(bytes), Serial::ELSEWHERE)
     }
 
-    pub(crate) fn new(entry: Sqe, origin: Origin) -> Taken {
+    pub(crate) fn new(entry: Sqe, serial: Serial) -> Taken {
         let file = FileNumber(entry.args[0]);
         match entry.opcode() {
-            Some(Opcode::RequestMmap) => Taken::MapRequest(MapRequest { entry, origin }),
-            Some(Opcode::Cancel) => Taken::Cancel { tag: entry.tag },
+            Some(Opcode::RequestMmap) => Taken::MapRequest(MapRequest { entry, serial }),
+            Some(Opcode::Cancel) => Taken::Cancel(Cancel {
+                tag: entry.tag,
+                serial,
+            }),
             Some(Opcode::CloseMsg) => Taken::Close { file },
             Some(Opcode::Detach) => Taken::Detach {
                 file,
                 pid: entry.pid,
             },
-            _ => Taken::Call(Call { entry, origin }),
+            _ => Taken::Call(Call { entry, serial }),
         }
     }
 
@@ -139,13 +159,32 @@ impl Taken {
         match self {
             Taken::Call(_) => Wants::Reply,
             Taken::MapRequest(_) => Wants::Supply,
-            Taken::Cancel { .. } | Taken::Close { .. } | Taken::Detach { .. } => Wants::Nothing,
+            Taken::Cancel(_) | Taken::Close { .. } | Taken::Detach { .. } => Wants::Nothing,
         }
     }
 
     /// Does it want a reply?
     pub fn wants_reply(&self) -> bool {
         self.wants() == Wants::Reply
+    }
+}
+
+/// The wish that a call be given up. The call still wants its reply.
+#[derive(Clone, Copy, Debug, PartialEq, Eq)]
+pub struct Cancel {
+    tag: Tag,
+    serial: Serial,
+}
+
+impl Cancel {
+    /// The call's tag. It may be another call's by now, if the call was replied to: [`is_for`](Cancel::is_for) tells.
+    pub fn tag(self) -> Tag {
+        self.tag
+    }
+
+    /// Is it this call that is to be given up?
+    pub fn is_for(self, call: &Call) -> bool {
+        self.tag == call.tag() && self.serial == call.serial
     }
 }
 
@@ -156,7 +195,7 @@ impl Taken {
 #[must_use = "its caller waits for a reply"]
 pub struct Call {
     entry: Sqe,
-    pub(crate) origin: Origin,
+    pub(crate) serial: Serial,
 }
 
 impl Call {
@@ -170,7 +209,7 @@ impl Call {
         self.entry.opcode()
     }
 
-    /// What the call is known by, in a [Cancel](Taken::Cancel) too.
+    /// What the call is known by, in a [`Cancel`] too.
     pub fn tag(&self) -> Tag {
         self.entry.tag
     }
@@ -193,6 +232,14 @@ impl Call {
     /// It succeeded with this word. A word that reads as an error (see [`demux`](crate::demux)) is one.
     pub fn ok(self, word: u64) -> Completion {
         Completion::reply(0, self, word)
+    }
+
+    /// As [`ok`](Call::ok), where the word does not read as an error; else the call comes back.
+    pub fn try_ok(self, word: u64) -> Result<Completion, Call> {
+        match demux(word) {
+            Ok(_) => Ok(self.ok(word)),
+            Err(_) => Err(self),
+        }
     }
 
     /// It failed. [`ECANCELED`](Errno::ECANCELED) reads as [`EINTR`](Errno::EINTR) where the call was cancelled,
@@ -235,7 +282,7 @@ impl Call {
 #[must_use = "its caller waits for a page"]
 pub struct MapRequest {
     entry: Sqe,
-    origin: Origin,
+    pub(crate) serial: Serial,
 }
 
 impl MapRequest {
@@ -275,8 +322,7 @@ impl MapRequest {
             return Err(self);
         }
         Ok(Supply {
-            origin: self.origin,
-            tag: self.entry.tag,
+            request: self,
             offset,
             base,
         })
@@ -287,8 +333,7 @@ impl MapRequest {
 #[derive(Debug, PartialEq, Eq)]
 #[must_use = "it is to be put to the layer"]
 pub struct Supply {
-    pub(crate) origin: Origin,
-    pub(crate) tag: Tag,
+    pub(crate) request: MapRequest,
     pub(crate) offset: u64,
     pub(crate) base: u64,
 }

@@ -1,9 +1,10 @@
 //! A driver at its layer: what an entry wants, each opcode's method, replies made once, refused entries passed.
 
 use tilgurap::{
-    Answer, Call, Caller, Completion, Description, Driver, Effect, Errno, EventFlags, FileNumber,
-    Handle, Identity, Layer, MapRequest, ObtainFlags, Opcode, Pid, Refusal, Rejected, Request,
-    SchemeNumber, Served, SlotState, SqeFlags, Tag, Taken, Wake, Wants, limits,
+    Answer, Call, Caller, Cancel, Completion, Description, Driver, Effect, Errno, EventFlags,
+    FileNumber, Handle, Identity, Killed, Layer, MapRequest, ObtainFlags, Opcode, Pid, Refusal,
+    Rejected, Request, SchemeNumber, Served, SlotState, Span, SqeFlags, Tag, Taken, Wake, Wants,
+    limits,
 };
 
 const WHO: Identity = Identity {
@@ -80,9 +81,9 @@ impl Driver for Plant {
         Answer::Nothing
     }
 
-    fn on_cancel(&mut self, tag: Tag) -> Answer {
-        self.noted.push(format!("cancel {tag}"));
-        match self.dosing.iter().position(|call| call.tag() == tag) {
+    fn on_cancel(&mut self, cancel: Cancel) -> Answer {
+        self.noted.push(format!("cancel {}", cancel.tag()));
+        match self.dosing.iter().position(|call| cancel.is_for(call)) {
             Some(place) => self.dosing.remove(place).err(Errno::ECANCELED).into(),
             None => Answer::Nothing,
         }
@@ -376,9 +377,19 @@ fn a_driver_that_is_gone() {
     let unread = call(&mut layer, 102, Opcode::Write, VALVE);
     let reserved = layer.reserve(Caller(103)).unwrap();
 
-    let served = layer.driver_gone(Errno::EIO);
-    assert_eq!(woken(&served), [(100, taken.0), (102, unread.0)]);
-    assert!(served.refused.is_empty() && layer.unread().is_empty());
+    let map_unread = layer.request_fmap(Caller(101), FileNumber(8), 1, 0, WHO);
+    let map_unread = map_unread.unwrap().tag;
+
+    let gone = layer.driver_gone(Errno::EIO);
+    let wakes = [(100, taken), (102, unread)].map(|(caller, tag)| Effect::Wake {
+        caller: Caller(caller),
+        tag,
+    });
+    assert_eq!(gone.effects, wakes);
+    assert!(layer.unread().is_empty());
+    assert_eq!(gone.lost_maps, [map]);
+    let [request] = <[_; 1]>::try_from(gone.unread_maps).unwrap();
+    assert_eq!((request.tag(), request.file()), (map_unread, FileNumber(8)));
     assert_eq!(read(&mut layer, unread, 102), Err(Errno::EIO));
     assert_eq!(read(&mut layer, taken, 100), Err(Errno::EIO));
     assert_eq!(layer.slot(map).state, SlotState::Fmap);
@@ -392,8 +403,15 @@ fn a_driver_that_is_gone() {
         (late.effects.len(), late.refused[0].why),
         (0, Refusal::Einval)
     );
+    let late = plant.maps.remove(0).supply(0, 4096).unwrap();
+    assert_eq!(layer.answer(late).refused[0].why, Refusal::Einval);
     assert_eq!(woken(&layer.serve(&mut next)), [(100, valve.0)]);
     assert_eq!(read(&mut layer, valve, 100), Ok(1));
+    assert_eq!(
+        layer.answer(request.supply(0, 4096).unwrap()),
+        Served::default()
+    );
+    assert_eq!(layer.slot(map_unread).state, SlotState::Vacant);
 }
 
 /// Two drivers have a layer each, and both have a call with tag 0.
@@ -437,7 +455,10 @@ fn a_call_is_answered_at_its_own_layer() {
     assert!(map.is_ok());
     assert_eq!(first.serve(&mut plant), Served::default());
     let supply = plant.maps.remove(0).supply(0, 4096).unwrap();
-    assert_eq!(other.answer(supply).refused[0].why, Refusal::Einval);
+    let [refused] = <[_; 1]>::try_from(other.answer(supply).refused).unwrap();
+    assert_eq!(refused.why, Refusal::Einval);
+    let supply = refused.request.expect("it comes back").supply(0, 4096);
+    assert_eq!(first.answer(supply.unwrap()), Served::default());
 
     // a driver that puts another layer's call to its own is passed, too
     struct Mixed(Option<Call>);
@@ -457,6 +478,103 @@ fn a_call_is_answered_at_its_own_layer() {
     assert_eq!(woken(&served), [(300, read.0)]);
     let [refused] = <[_; 1]>::try_from(served.refused).unwrap();
     assert_eq!(refused.call.map(|call| call.tag()), Some(stray));
+}
+
+/// What goes with a call is refused once the call was replied to: its tag is the next call's.
+#[test]
+fn nothing_outlives_its_call() {
+    let (mut layer, mut plant) = (layer(), Plant::default());
+    let dose = call(&mut layer, 100, Opcode::Write, DOSER);
+    assert_eq!(layer.serve(&mut plant), Served::default());
+    let first = plant.dosing.remove(0);
+    let obtain = first.obtain(Handle(0), ObtainFlags::NONE);
+    assert!(matches!(
+        layer.wake(dose, Caller(100)),
+        Ok(Wake::Blocked(Some(_)))
+    ));
+    assert_eq!(woken(&layer.answer(first.ok(20))), [(100, dose.0)]);
+    assert_eq!(read(&mut layer, dose, 100), Ok(20));
+
+    // another call with the same tag and a list
+    assert!(layer.open(Description(5)).is_ok());
+    let args = [DOSER, 0, 0, 0, 0];
+    let next = layer.call(Caller(200), Opcode::Write, args, WHO, &[Description(5)]);
+    assert_eq!(next.map(|next| next.tag), Ok(dose));
+    let refused = layer.answer(obtain).refused;
+    assert_eq!(refused[0].why, Refusal::Einval);
+    assert_eq!(layer.handle(Handle(0)), None);
+    // the Cancel of the first is not for it
+    let Some(Taken::Cancel(cancel)) = layer.next_entry() else {
+        panic!("a Cancel is queued")
+    };
+    assert_eq!(layer.serve(&mut plant), Served::default());
+    assert_eq!(cancel.tag(), plant.dosing[0].tag());
+    assert!(!cancel.is_for(&plant.dosing[0]));
+    assert_eq!(layer.slot(dose).descriptions, [Description(5)]);
+}
+
+#[test]
+fn a_caller_is_killed() {
+    let (mut layer, mut plant) = (layer(), Plant::default());
+    let dose = call(&mut layer, 100, Opcode::Write, DOSER);
+    let valve = call(&mut layer, 100, Opcode::Write, VALVE);
+    let other = call(&mut layer, 200, Opcode::Write, DOSER);
+    assert_eq!(woken(&layer.serve(&mut plant)), [(100, valve.0)]);
+    let span = Span { base: 3, count: 1 };
+    let left = layer.kill(
+        Caller(100),
+        |tag| if tag == dose { span } else { Span::NONE },
+    );
+    let [(first, Killed::Returned), (second, Killed::Replied(reply))] = &left[..] else {
+        panic!("{left:?}")
+    };
+    assert_eq!((*first, *second), (dose, valve));
+    assert_eq!(reply.clone().into_regular(), Ok(1));
+    let slot = layer.slot(dose);
+    assert!(slot.ended && slot.returned && slot.span == span);
+    assert!(layer.kill(Caller(100), |_| Span::NONE).is_empty());
+    // the late reply frees the slot, and the other call goes on
+    let served = layer.answer(plant.dosing.remove(0).ok(20));
+    assert_eq!(served.effects, [Effect::Unmap { span }]);
+    let occupied = layer.occupied();
+    assert_eq!((occupied.len(), occupied[0].0), (1, other));
+}
+
+/// What was served before a driver panics is there.
+#[test]
+fn a_driver_that_panics() {
+    struct Broken;
+    impl Driver for Broken {
+        fn read(&mut self, call: Call) -> Answer {
+            call.ok(1).into()
+        }
+
+        fn write(&mut self, _: Call) -> Answer {
+            panic!("as it was asked to")
+        }
+    }
+    let mut layer = layer();
+    let good = call(&mut layer, 100, Opcode::Read, 0);
+    let bad = call(&mut layer, 101, Opcode::Write, 0);
+    let mut served = Served::default();
+    let turn = std::panic::AssertUnwindSafe(|| layer.serve_into(&mut Broken, &mut served));
+    assert!(std::panic::catch_unwind(turn).is_err());
+    assert_eq!(woken(&served), [(100, good.0)]);
+    let gone = layer.driver_gone(Errno::EIO);
+    let caller = Caller(101);
+    assert_eq!(gone.effects, [Effect::Wake { caller, tag: bad }]);
+}
+
+#[test]
+fn words_that_read_as_errors() {
+    let (mut layer, mut plant) = (layer(), Plant::default());
+    let tag = call(&mut layer, 100, Opcode::Write, DOSER);
+    assert_eq!(layer.serve(&mut plant), Served::default());
+    // a gauge of -100 in 32 bits
+    let call = plant.dosing.remove(0).try_ok(0xffff_ff9c).unwrap_err();
+    let reply = call.try_ok(0xffff_ffff_0000_0064).unwrap();
+    assert_eq!(woken(&layer.answer(reply)), [(100, 0)]);
+    assert_eq!(read(&mut layer, tag, 100), Ok(0xffff_ffff_0000_0064));
 }
 
 /// A scheduler and a driver on threads of their own: the layer is free while the driver works.
@@ -481,7 +599,7 @@ fn threads_take_turns() {
                     continue;
                 };
                 let answer = tilgurap::dispatch(&mut Numbered, taken);
-                let served = layer.lock().unwrap().answer(answer);
+                let served = layer.lock().unwrap().answer_for(&mut Numbered, answer);
                 assert_eq!((served.effects.len(), served.refused.len()), (1, 0));
                 left -= 1;
             }

@@ -338,7 +338,10 @@ fn woken_too_early_and_killed() {
     assert_eq!(layer.wake(tag, CALLER), Ok(Wake::Blocked(Some(READABLE))));
     assert_eq!(layer.wake(tag, CALLER), Ok(Wake::Blocked(None)));
     assert!(layer.slot(tag).cancelling);
-    assert_eq!(layer.next_entry(), Some(Taken::Cancel { tag }));
+    let Some(Taken::Cancel(cancel)) = layer.next_entry() else {
+        panic!("a Cancel is queued")
+    };
+    assert!(cancel.is_for(&call) && cancel.tag() == tag);
     let span = Span { base: 5, count: 2 };
     assert_eq!(layer.wake_killed(tag, CALLER, span), Ok(Killed::Returned));
     assert_eq!(
