@@ -82,6 +82,11 @@
  * waits for good and keeps its slot. And a fresh state goes only with a driver that has forgotten every call: a late reply by
  * an old tag would serve a new call.
  *
+ * A driver that dies while the host goes on leaves calls that wait. See to it that nothing of its own is written any more. Read
+ * the queue empty, and keep the map requests among it for the driver that comes next; then write an error for each tag in the
+ * word of Waiting slots (tilgurap_status), an entry of TILGURAP_CQE_REGULAR with tilgurap_mux_error as its result. A map
+ * request that the dead one had read stays until somebody supplies a page.
+ *
  *
  * WHAT A DRIVER MUST DO
  *

@@ -59,7 +59,7 @@ stub() { # FOLDER SOURCE [COMPILER...]: a static library of one C function
 }
 
 unset TILGURAP_LIB
-todo='run `rt staticlib tilgurap` at its top, and set TILGURAP_LIB'
+todo='run `./tilgurap build` at its top, and set TILGURAP_LIB to the absolute path'
 says "no library" "" "the library is missing" "$todo"
 mkdir "$work/empty" "$work/text"
 says "an empty folder" "$work/empty" "$work/empty/libtilgurap.a" "TILGURAP_LIB names its folder" "the library is missing" "$todo"

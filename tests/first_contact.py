@@ -300,7 +300,7 @@ class List(unittest.TestCase):
 
 class Output(unittest.TestCase):
     COMMANDS = [["replay", ACCIDENT], ["replay", "--explain", ACCIDENT], ["replay", "--json", ACCIDENT], ["status", ACCIDENT],
-                ["list", ENTRIES], ["list", "--json", ENTRIES], ["help"], ["version"]]
+                ["list", ENTRIES], ["list", "--json", ENTRIES], ["help"], ["build"], ["version"]]
 
     def test_lost(self):
         for command in self.COMMANDS:
@@ -481,6 +481,8 @@ echo '{"executable":"/bin/driver"}' | sed "s|/bin|${0%/*}|"
         self.assertEqual(self.log.read_text().count("proved (1 s)"), self.count - 1)
         again = run("replay", top=self.top, env=self.env)
         self.assertEqual((again.stdout, again.stderr), ("it runs\n", "tilgurap: building rust/driver\n"))
+        done = run("build", top=self.top, env=self.env)
+        self.assertEqual((done.returncode, done.stdout, done.stderr), (0, f"{self.top / LIBRARY}\n", ""))
 
     def test_at_a_terminal_a_line_that_moves(self):
         (self.top / "wait at events").touch()

@@ -38,7 +38,7 @@ fn main() {
             };
             println!("cargo::error={}{named}: {why}", library.display());
             println!(
-                "cargo::error=clone the repository at the commit of this crate, run `rt staticlib tilgurap` at its top, and set TILGURAP_LIB to the path of its target/staticlib (not needed where this crate is built from that clone)"
+                "cargo::error=clone the repository at the commit of this crate, run `./tilgurap build` at its top, and set TILGURAP_LIB to the absolute path of its target/staticlib (not needed where this crate is built from that clone)"
             );
         }
     }

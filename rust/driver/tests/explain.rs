@@ -63,7 +63,7 @@ fn events_that_are_accepted() {
         ),
         (
             "close 20",
-            "The driver is to be told that file 20 was closed; accepted; effect: the queue of scheme 7 has something to read.",
+            "The driver is to be told that file 20 was closed; accepted; effect: the queue of scheme 7 has something to read, with HUP.",
         ),
         (
             "detach 20 9",

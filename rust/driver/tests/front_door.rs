@@ -194,7 +194,7 @@ fn a_file_is_listed() {
     }
 }
 
-const COMMANDS: [&str; 9] = [
+const COMMANDS: [&str; 10] = [
     "replay",
     "status",
     "list",
@@ -202,6 +202,7 @@ const COMMANDS: [&str; 9] = [
     "compare",
     "bench",
     "instructions",
+    "build",
     "version",
     "help",
 ];

@@ -2,6 +2,8 @@
 
 use std::str::Split;
 
+const ONE_SPACE: &str = "one space parts the fields, and none stands around them";
+
 pub struct Fields<'a>(Split<'a, char>);
 
 impl<'a> Fields<'a> {
@@ -10,9 +12,11 @@ impl<'a> Fields<'a> {
     }
 
     pub fn word(&mut self, name: &str) -> Result<&'a str, String> {
-        self.0
-            .next()
-            .ok_or_else(|| format!("field {name} is missing"))
+        match self.0.next() {
+            Some("") => Err(format!("field {name} is empty: {ONE_SPACE}")),
+            Some(word) => Ok(word),
+            None => Err(format!("field {name} is missing")),
+        }
     }
 
     /// A decimal number that has at most `bits` bits.
@@ -52,7 +56,8 @@ impl<'a> Fields<'a> {
     }
 
     pub fn hex(&mut self, name: &str) -> Result<Vec<u8>, String> {
-        let word = self.word(name)?;
+        let word = self.0.next();
+        let word = word.ok_or_else(|| format!("field {name} is missing"))?;
         bytes(word).map_err(|what| format!("field {name}: {what}"))
     }
 
@@ -67,6 +72,7 @@ impl<'a> Fields<'a> {
     pub fn end(&mut self) -> Result<(), String> {
         match self.0.next() {
             None => Ok(()),
+            Some("") => Err(format!("a space at the end: {ONE_SPACE}")),
             Some(word) => Err(format!("spare field `{word}`")),
         }
     }

@@ -215,7 +215,10 @@ mod tests {
     #[test]
     fn mistakes_in_lines() {
         for (text, what) in [
-            ("", "unknown answer ``"),
+            (
+                "",
+                "field ANSWER is empty: one space parts the fields, and none stands around them",
+            ),
             ("ok", "field N is missing"),
             ("ok 1 2", "spare field `2`"),
             ("ok 1 ;", "spare field `;`"),

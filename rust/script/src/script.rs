@@ -42,6 +42,12 @@ impl Script {
         let mut number = None;
         let mut events = Vec::new();
         let mut last = 1;
+        if text.starts_with('\u{feff}') {
+            return Err(Mistake {
+                line: 1,
+                what: "the script begins with a byte order mark: store it without".to_owned(),
+            });
+        }
         for line in source_lines(text) {
             last = line.number;
             if line.said.is_empty() {
@@ -164,7 +170,7 @@ supply 0 0 4096 1
         );
         assert_eq!(
             mistake("scheme 1\n\n# x\r\n open 1"),
-            "line 4: unknown event ``"
+            "line 4: field EVENT is empty: one space parts the fields, and none stands around them"
         );
         assert_eq!(mistake("scheme 1\nopen # 1"), "line 2: field D is missing");
         assert_eq!(
@@ -173,10 +179,17 @@ supply 0 0 4096 1
         );
         assert_eq!(mistake("scheme 1\nput 1"), "line 2: field H is missing");
         assert_eq!(mistake("scheme 1\nopen 1 2"), "line 2: spare field `2`");
-        assert_eq!(mistake("scheme 1\nopen 1 "), "line 2: spare field ``");
+        assert_eq!(
+            mistake("scheme 1\nopen 1 "),
+            "line 2: a space at the end: one space parts the fields, and none stands around them"
+        );
+        assert_eq!(
+            mistake("\u{feff}scheme 1\n"),
+            "line 1: the script begins with a byte order mark: store it without"
+        );
         assert_eq!(
             mistake("scheme 1\nopen  1"),
-            "line 2: field D: `` is no decimal number"
+            "line 2: field D is empty: one space parts the fields, and none stands around them"
         );
         assert_eq!(
             mistake("scheme 1\nopen -1"),

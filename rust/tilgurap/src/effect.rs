@@ -120,8 +120,13 @@ impl Display for Effect {
                     flags.bits()
                 )
             }
-            Effect::Readable { scheme, .. } => {
-                write!(f, "the queue of scheme {scheme} has something to read")
+            Effect::Readable { scheme, flags } => {
+                let hup = if flags.contains(EventFlags::HUP) {
+                    ", with HUP"
+                } else {
+                    ""
+                };
+                write!(f, "the queue of scheme {scheme} has something to read{hup}")
             }
         }
     }

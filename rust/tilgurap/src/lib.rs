@@ -94,8 +94,8 @@
 //!
 //! # Building
 //!
-//! The library is taken from the folder that `TILGURAP_LIB` names, or from where `rt staticlib tilgurap` puts it in this
-//! checkout. One that is missing, foreign, or of another interface than [`limits::ABI`] stops the build with what to do.
+//! The library is taken from the folder that `TILGURAP_LIB` names (an absolute path), or from where `./tilgurap build` puts it in
+//! this checkout. One that is missing, foreign, or of another interface than [`limits::ABI`] stops the build with what to do.
 //! The crate needs `alloc` and no `std`.
 //!
 //! With the feature `script` there is also the module `numbers`, on which the tools that run event
