@@ -330,8 +330,8 @@ impl Layer {
     }
 
     /// Puts to the layer what a driver answers: a reply, an event, a page, several. Each entry is an event of its own,
-    /// so that a refused one hides none behind it. What goes with a call that was taken from another layer, or that was
-    /// replied to, is refused with [`Einval`](Refusal::Einval), and the layer is not asked: the tag is another call's.
+    /// so that a refused one hides none behind it. What goes with a call of another layer's, or whose tag is another call's by
+    /// now, is refused with [`Einval`](Refusal::Einval), and the layer is not asked.
     pub fn answer(&mut self, answer: impl Into<Answer>) -> Served {
         let mut served = Served::default();
         self.put_answer(answer.into(), &mut served);
@@ -366,7 +366,6 @@ impl Layer {
         }
         let mut effects = Vec::new();
         for tag in self.status().waiting.tags() {
-            self.outstanding.set(tag, Serial::NONE);
             let entry = Cqe::new(0, tag, mux(Err(errno)));
             let written = self.write(&entry.to_bytes());
             debug_assert_eq!(written.answer, Ok(Cqe::BYTES));
@@ -418,7 +417,6 @@ impl Layer {
         if let Err(why) = self.own(tag, supply.request.serial) {
             return refuse(why, Some(supply.request));
         }
-        self.outstanding.set(tag, Serial::NONE);
         if let Err(why) = self.provide_mmap(tag, supply.offset, supply.base, 1) {
             refuse(why, None);
         }
@@ -443,13 +441,9 @@ impl Layer {
             return refuse(why, call);
         }
         let Written { answer, effects } = self.write(&entry.to_bytes());
-        match answer {
-            Ok(_) if call.is_some() => self.outstanding.set(entry.tag(), Serial::NONE),
-            Ok(_) => {}
-            Err(why) => {
-                let waits = |call: &Call| self.slot(call.tag()).state == SlotState::Waiting;
-                refuse(why, call.filter(waits));
-            }
+        if let Err(why) = answer {
+            let waits = |call: &Call| self.slot(call.tag()).state == SlotState::Waiting;
+            refuse(why, call.filter(waits));
         }
         served.effects.extend(effects);
     }

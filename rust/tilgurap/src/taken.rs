@@ -27,7 +27,7 @@ impl Serial {
     }
 }
 
-/// What the driver at a layer has taken and not answered, by its slot.
+/// The call or map request that a driver has taken at each slot, until the slot is another's.
 pub(crate) struct Outstanding([Serial; SLOTS]);
 
 impl Outstanding {

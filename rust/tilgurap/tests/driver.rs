@@ -422,6 +422,8 @@ fn a_call_is_answered_at_its_own_layer() {
     let tag = call(&mut other, 200, Opcode::Write, DOSER);
     assert_eq!(dose, tag);
     assert_eq!(first.serve(&mut plant), Served::default());
+    let mut rack = Plant::default();
+    assert_eq!(other.serve(&mut rack), Served::default());
 
     let before = other.clone();
     let mixed_up = other.answer(plant.dosing.remove(0).ok(20));
@@ -433,7 +435,7 @@ fn a_call_is_answered_at_its_own_layer() {
     assert_eq!(woken(&first.answer(done)), [(100, dose.0)]);
 
     // a copy has none of the calls that were taken
-    assert_eq!(other.serve(&mut plant), Served::default());
+    let mut plant = rack;
     let mut copy = other.clone();
     let obtain = plant.dosing[0].obtain(Handle(0), ObtainFlags::NONE);
     assert_eq!(copy.answer(obtain).refused[0].why, Refusal::Einval);
@@ -513,6 +515,23 @@ fn nothing_outlives_its_call() {
     assert_eq!(layer.slot(dose).descriptions, [Description(5)]);
 }
 
+/// A reply by bytes leaves the call in its driver's hands; the tag's next user is safe from it.
+#[test]
+fn a_call_that_was_answered_by_bytes() {
+    let (mut layer, mut plant) = (layer(), Plant::default());
+    let dose = call(&mut layer, 100, Opcode::Write, DOSER);
+    assert_eq!(layer.serve(&mut plant), Served::default());
+    assert_eq!(layer.write(&[0; 16]).answer, Ok(16));
+    assert_eq!(read(&mut layer, dose, 100), Ok(0));
+    assert_eq!(call(&mut layer, 200, Opcode::Write, VALVE), dose);
+    let late = layer.answer(plant.dosing.remove(0).ok(20));
+    assert_eq!(
+        (late.effects.len(), late.refused[0].why),
+        (0, Refusal::Einval)
+    );
+    assert_eq!(woken(&layer.serve(&mut plant)), [(200, dose.0)]);
+}
+
 #[test]
 fn a_caller_is_killed() {
     let (mut layer, mut plant) = (layer(), Plant::default());
@@ -521,10 +540,10 @@ fn a_caller_is_killed() {
     let other = call(&mut layer, 200, Opcode::Write, DOSER);
     assert_eq!(woken(&layer.serve(&mut plant)), [(100, valve.0)]);
     let span = Span { base: 3, count: 1 };
-    let left = layer.kill(
-        Caller(100),
-        |tag| if tag == dose { span } else { Span::NONE },
-    );
+    let left = layer.kill(Caller(100), |tag| {
+        assert_ne!(tag, other);
+        if tag == dose { span } else { Span::NONE }
+    });
     let [(first, Killed::Returned), (second, Killed::Replied(reply))] = &left[..] else {
         panic!("{left:?}")
     };
