@@ -93,7 +93,8 @@ fn occupied_in_the_rust(step: &Step) -> (Line, State) {
     (step.line.clone(), state)
 }
 
-const fn limit(
+/// Only the layer refuses, and the Rust skips the event.
+const fn left_out_by(
     name: &'static str,
     row: &'static str,
     sentence: &'static str,
@@ -110,51 +111,55 @@ const fn limit(
     }
 }
 
+/// A number of the layer's own.
+const fn limit<const NUMBER: u64>(
+    name: &'static str,
+    row: &'static str,
+    sentence: &'static str,
+) -> Reason {
+    left_out_by(name, row, sentence, |table, step| {
+        table.refused_with(step, NUMBER)
+    })
+}
+
 /// What is known, the first that is recognised first.
 pub const ALL: &[Reason] = &[
-    limit(
+    limit::<201>(
         "limit_201",
         "201",
         "only the layer refuses: the slot or the call is not this caller's",
-        |table, step| table.refused_with(step, 201),
     ),
-    limit(
+    limit::<202>(
         "limit_202",
         "202",
         "only the layer refuses: no slot is vacant",
-        |table, step| table.refused_with(step, 202),
     ),
-    limit(
+    limit::<203>(
         "limit_203",
         "203",
         "only the layer refuses: the queue is full",
-        |table, step| table.refused_with(step, 203),
     ),
-    limit(
+    limit::<204>(
         "limit_204",
         "204",
         "only the layer refuses: too few words are lent for effects",
-        |table, step| table.refused_with(step, 204),
     ),
-    limit(
+    limit::<205>(
         "limit_205",
         "205",
         "only the layer refuses: an argument that the Rust's types rule out",
-        |table, step| table.refused_with(step, 205),
     ),
-    limit(
+    limit::<206>(
         "limit_206",
         "206",
         "only the layer refuses: a list of more than 16",
-        |table, step| table.refused_with(step, 206),
     ),
-    limit(
+    limit::<207>(
         "limit_207",
         "207",
         "only the layer refuses: a description has 65,535 holds",
-        |table, step| table.refused_with(step, 207),
     ),
-    limit(
+    left_out_by(
         "wide_tag",
         "a tag of 2^32 or more in a wake or a map supply",
         "the Rust's types do not hold the tag, which counts as vacant in the layer",
