@@ -54,7 +54,10 @@
  *        TILGURAP_EFFECT_READABLE   scheme          TILGURAP_EVENT_...   tell the driver that it has something to read
  *
  *    Most events make at most one, which comes with the answer. A write stores its effects in words that it is lent; they count
- *    also where the write is refused.
+ *    also where the write is refused. Carry them out in order, and a WAKE before its caller calls again: later it would ask for
+ *    the caller's next call, and cancel it. Not every last hold makes a CLOSE: one that is dropped with a replaced list, with a
+ *    refused tilgurap_call_fdwrite or entry, with an obtain into a handle that is in use or over 63, or with the descriptor of a
+ *    reply to an ended caller makes none, as in the Rust.
  *
  * 6. Tell the layer of an ended caller at once. Kill a caller so: tilgurap_wake with killed 1 for each call that it waits for,
  *    which still hands a reply over that is there; then tilgurap_ended; no write of the driver in between. A killed call keeps
@@ -95,8 +98,8 @@
  * that slot. What an entry wants is told by its opcode, never by its tag or its flags; tilgurap_wants() tells it:
  *
  *   - A call wants one reply, by the tag of its entry: exactly one, also if it fails, also after a Cancel for it, also if its
- *     caller was killed. A second reply to a tag is refused only as long as the first was not fetched; later it serves the next
- *     call that has the tag. A reply is an entry of kind 0, 1, 4 or 5; kinds 2 and 3 serve no call.
+ *     caller was killed. A second reply to a tag is refused only until the slot is given out again; then it serves the next call
+ *     that has the tag. A reply is an entry of kind 0, 1, 4 or 5; kinds 2 and 3 serve no call.
  *   - TILGURAP_OP_CLOSE_MSG and TILGURAP_OP_DETACH want NO reply. They come with tag 0 and without a flag that says so. They
  *     have no slot, and tag 0 is that of some other call: a reply by their tag would serve the call in slot 0, whose caller
  *     would take a closed file for a finished dose. That is the accident that examples/host.c shows.
@@ -294,8 +297,7 @@ static inline enum TilgurapWants tilgurap_wants(uint8_t opcode)
     case TILGURAP_OP_REQUEST_MMAP:
         return TILGURAP_WANTS_SUPPLY;
     default:
-        /* the layer queues no opcode outside these */
-        return opcode >= TILGURAP_OP_CLOSE && opcode <= TILGURAP_OP_DETACH ? TILGURAP_WANTS_REPLY : TILGURAP_WANTS_NOTHING;
+        return TILGURAP_WANTS_REPLY;
     }
 }
 
@@ -664,7 +666,8 @@ TilgurapAnswerWords tilgurap_read(uint64_t words[TILGURAP_STATE_WORDS], uint8_t 
  *   any: EINVAL for kind 6 or 7, or flags of an event or an obtain that do not exist;
  *   a reply with a descriptor: EINVAL for an empty handle; where its tag is refused after that, its handle is empty all the same;
  *   a reply: EBADFD where the slot is vacant or only given out; EINVAL where it has a reply already or is a map request's;
- *   an obtain: EINVAL where the slot is vacant, ENOENT where it does not wait or no description is listed. */
+ *   an obtain: EINVAL where the slot is vacant, ENOENT where it does not wait or no description is listed.
+ * An obtain into a handle that is in use, or over 63, is taken, and the description's hold is dropped, with no close. */
 TilgurapCompleted tilgurap_write(
     uint64_t words[TILGURAP_STATE_WORDS],
     uint64_t *fx,

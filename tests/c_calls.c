@@ -216,7 +216,7 @@ static void entries(void)
         CHECK(known ? done(answer, 0) : refused(answer, TILGURAP_REFUSAL_OUT_OF_RULES));
         bool own = opcode == TILGURAP_OP_REQUEST_MMAP || opcode == TILGURAP_OP_CANCEL || opcode == TILGURAP_OP_CLOSE_MSG ||
                    opcode == TILGURAP_OP_DETACH;
-        CHECK((tilgurap_wants((uint8_t)opcode) == TILGURAP_WANTS_REPLY) == (known && !own));
+        CHECK((tilgurap_wants((uint8_t)opcode) == TILGURAP_WANTS_REPLY) == !own);
     }
 }
 

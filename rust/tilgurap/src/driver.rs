@@ -7,11 +7,11 @@ use crate::completion::Completion;
 use crate::effect::Effect;
 use crate::entry::Cqe;
 use crate::errno::{Errno, mux};
-use crate::ids::{Description, FileNumber, Pid, Tag};
+use crate::ids::{Description, FileNumber, Handle, Pid, Tag};
 use crate::layer::{Layer, Written};
+use crate::limits::HANDLES;
 use crate::opcode::Opcode;
 use crate::refusal::Refusal;
-use crate::status::SlotState;
 use crate::taken::{Call, Cancel, MapRequest, Outstanding, Serial, Supply, Taken};
 
 /// What a driver gives back.
@@ -52,8 +52,21 @@ impl From<Supply> for Answer {
 pub struct Served {
     /// What the host has to do.
     pub effects: Vec<Effect>,
+    /// The pages that were accepted, for the host to map.
+    pub supplied: Vec<Supplied>,
     /// What the layer refused. It hid nothing: all else was put to the layer.
     pub refused: Vec<Refused>,
+}
+
+/// A page that a map request was supplied with. Its slot is vacant again.
+#[derive(Clone, Copy, Debug, PartialEq, Eq)]
+pub struct Supplied {
+    /// Which map request.
+    pub tag: Tag,
+    /// The page's offset in the file.
+    pub offset: u64,
+    /// Where it lies.
+    pub base: u64,
 }
 
 /// What a driver that is gone leaves. The effects have to be carried out, in order.
@@ -64,9 +77,12 @@ pub struct Gone {
     pub effects: Vec<Effect>,
     /// The map requests that it had not read, for the driver that takes its place.
     pub unread_maps: Vec<MapRequest>,
-    /// Those that it had taken: their slots stay taken until somebody supplies a page
-    /// ([`provide_mmap`](Layer::provide_mmap)), also where the caller has ended.
+    /// Those that it had taken, and those of an earlier `Gone` that were not supplied yet: their slots stay taken until
+    /// somebody supplies a page ([`provide_mmap`](Layer::provide_mmap)), also where the caller has ended.
     pub lost_maps: Vec<Tag>,
+    /// What its handles hold. They stay full: the next driver may reply with these descriptions, and nothing else empties
+    /// a handle.
+    pub handles: Vec<(Handle, Description)>,
 }
 
 /// What the layer refused of a driver's answers.
@@ -76,10 +92,11 @@ pub struct Refused {
     pub what: Rejected,
     /// Why.
     pub why: Refusal,
-    /// The call, where a reply was refused and it still wants one: that was a descriptor from an empty handle, say,
-    /// or the call is another layer's. One that is dropped leaves its caller waiting.
+    /// The call, where a reply was refused and it still wants one (that was a descriptor from an empty handle, say), or
+    /// where it is not this layer's: one that is dropped leaves its caller waiting. That of a driver that was
+    /// [gone](Layer::driver_gone) comes back too, has got its error, and is refused wherever it is put.
     pub call: Option<Call>,
-    /// The map request, where its page was put to another layer.
+    /// The map request, where it is not this layer's, in the same way.
     pub request: Option<MapRequest>,
 }
 
@@ -95,6 +112,8 @@ pub enum Rejected {
 impl Display for Refused {
     fn fmt(&self, f: &mut Formatter) -> fmt::Result {
         match &self.what {
+            // an event's flags stand where a tag does
+            Rejected::Entry(entry) if entry.kind() == 2 => write!(f, "an event")?,
             Rejected::Entry(entry) => {
                 let (kind, tag) = (entry.kind(), entry.tag());
                 write!(f, "an entry of kind {kind} with tag {tag}")?;
@@ -186,7 +205,8 @@ macro_rules! calls {
             }
 
             /// The reply to this call was refused, and the call still waits. [`Layer::serve`] and
-            /// [`Layer::answer_for`] ask this, once for a call; what is refused then gets [`EIO`](Errno::EIO).
+            /// [`Layer::answer_for`] ask this. A call whose reply is refused in what this answers gets
+            /// [`EIO`](Errno::EIO).
             fn on_refused(&mut self, call: Call, _why: Refusal) -> Answer {
                 call.err(Errno::EIO).into()
             }
@@ -300,18 +320,19 @@ impl Layer {
         answer: impl Into<Answer>,
     ) -> Served {
         let mut served = Served::default();
-        self.answer_into(driver, answer.into(), &mut served);
+        self.answer_into(driver, answer, &mut served);
         served
     }
 
-    fn answer_into<D: Driver + ?Sized>(
+    /// As [`answer_for`](Layer::answer_for), added to what was served before: it is there also if the driver panics.
+    pub fn answer_into<D: Driver + ?Sized>(
         &mut self,
         driver: &mut D,
-        answer: Answer,
+        answer: impl Into<Answer>,
         served: &mut Served,
     ) {
         let mut looked_at = served.refused.len();
-        self.put_answer(answer, served);
+        self.put_answer(answer.into(), served);
         let first = served.refused.len();
         while let Some(refused) = served.refused.get_mut(looked_at) {
             let outstanding = &self.outstanding;
@@ -340,7 +361,7 @@ impl Layer {
 
     /// A driver gives a call that it has taken these descriptions, out of outside holds, in the place of those that it
     /// has: [`move_list`](Layer::move_list), for this call and no other. [`Einval`](Refusal::Einval) where it is another
-    /// layer's, and nothing is dropped then.
+    /// layer's, and nothing is dropped then. What the call had is dropped, with no close.
     pub fn give_list(&mut self, call: &Call, list: &[Description]) -> Result<usize, Refusal> {
         self.own(call.tag(), call.serial)?;
         self.move_list(call.tag(), list)
@@ -355,7 +376,7 @@ impl Layer {
 
     /// The driver is gone with the calls that it had taken: what it has not read is removed, and every call that
     /// waits gets this error. A driver that takes its place begins with an empty queue and with the map requests that
-    /// were unread; what the one before still answers is refused.
+    /// were unread; what the one before still has to say of its calls is refused, an event is not.
     pub fn driver_gone(&mut self, errno: Errno) -> Gone {
         self.outstanding = Outstanding::none();
         let mut unread_maps = Vec::new();
@@ -375,10 +396,13 @@ impl Layer {
         let lost_maps = (self.status().fmap.tags())
             .filter(|tag| !unread(tag))
             .collect();
+        let handles = (0..HANDLES as u64).map(Handle);
+        let held = |handle| self.handle(handle).map(|held| (handle, held));
         Gone {
             effects,
             unread_maps,
             lost_maps,
+            handles: handles.filter_map(held).collect(),
         }
     }
 
@@ -417,8 +441,10 @@ impl Layer {
         if let Err(why) = self.own(tag, supply.request.serial) {
             return refuse(why, Some(supply.request));
         }
-        if let Err(why) = self.provide_mmap(tag, supply.offset, supply.base, 1) {
-            refuse(why, None);
+        let Supply { offset, base, .. } = supply;
+        match self.provide_mmap(tag, offset, base, 1) {
+            Ok(()) => served.supplied.push(Supplied { tag, offset, base }),
+            Err(why) => refuse(why, None),
         }
     }
 
@@ -442,7 +468,9 @@ impl Layer {
         }
         let Written { answer, effects } = self.write(&entry.to_bytes());
         if let Err(why) = answer {
-            let waits = |call: &Call| self.slot(call.tag()).state == SlotState::Waiting;
+            // by the status words, which take no copy of the state
+            let waiting = self.status().waiting;
+            let waits = |call: &Call| waiting.tags().any(|tag| tag == call.tag());
             refuse(why, call.filter(waits));
         }
         served.effects.extend(effects);

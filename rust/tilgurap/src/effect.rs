@@ -21,7 +21,7 @@ flags! {
     }
 }
 
-/// What the host has to do after an event. The layer does none of it, and one that is not looked at is warned of:
+/// What the host has to do after an event. The layer does none of it. One that is dropped where it comes back is warned of:
 ///
 /// ```compile_fail
 /// #![deny(unused_must_use)]
@@ -36,7 +36,8 @@ flags! {
 #[derive(Clone, Copy, Debug, PartialEq, Eq)]
 #[must_use = "the layer leaves it to its host"]
 pub enum Effect {
-    /// Wake this caller: the call with this tag has a reply.
+    /// Wake this caller: the call with this tag has a reply. To be carried out before the caller calls again, or not at all
+    /// if it has fetched the reply meanwhile.
     Wake {
         /// Whom.
         caller: Caller,
@@ -48,7 +49,9 @@ pub enum Effect {
         /// Which.
         span: Span,
     },
-    /// Close this description: its last hold is gone.
+    /// Close this description: its last hold is gone. A hold that is dropped with a replaced list, with a refused move or
+    /// entry, with an obtain into a handle that is in use or over 63, or with the descriptor of a reply to an ended caller makes
+    /// none, as in the Rust.
     Close {
         /// Which.
         description: Description,

@@ -130,7 +130,8 @@ pub struct Layer {
     pub(crate) outstanding: Outstanding,
 }
 
-/// A copy has the state, and none of the calls that were taken: they are the first one's to answer.
+/// A copy has the state, with the unread entries, and none of the calls that were taken: they are the first one's to answer. It is for
+/// looking: a driver at both would take the unread calls twice.
 impl Clone for Layer {
     fn clone(&self) -> Layer {
         Layer {
@@ -428,7 +429,11 @@ impl Layer {
 
     /// Kills a caller: of each of its calls the reply is fetched, or the call returns and its slot stays taken until the
     /// driver has replied; then it is reported as [`ended`](Layer::ended). No reply can come in between. `span` says which
-    /// pages a call had lent. What the replies hold is the host's to drop.
+    /// pages a call that returns had lent, and is asked before anything is done. What the replies hold is the host's to drop;
+    /// a [wake](Effect::Wake) for this caller that was not carried out is to be forgotten.
+    ///
+    /// Calls that had returned before are left out; so are reserved slots, which stay taken, and map requests, whose supply is
+    /// answered with [`Esrch`](Refusal::Esrch).
     ///
     /// ```
     /// use tilgurap::{Caller, Identity, Killed, Layer, Opcode, Pid, SchemeNumber, Span, Taken};
@@ -450,14 +455,21 @@ impl Layer {
         caller: Caller,
         mut span: impl FnMut(Tag) -> Span,
     ) -> Vec<(Tag, Killed)> {
-        let mut calls = Vec::new();
-        for (tag, slot) in self.occupied() {
+        let own = |(_, slot): &(Tag, Slot)| {
             let is_call = matches!(slot.state, SlotState::Waiting | SlotState::Responded);
-            if !is_call || slot.caller != caller {
-                continue;
-            }
-            // one that has returned before is refused
-            if let Ok(killed) = self.wake_killed(tag, caller, span(tag)) {
+            is_call && slot.caller == caller && !slot.returned && !slot.ended
+        };
+        let with_span = |(tag, slot): (Tag, Slot)| match slot.state {
+            SlotState::Waiting => (tag, span(tag)),
+            _ => (tag, Span::NONE),
+        };
+        let own: Vec<(Tag, Span)> = (self.occupied().into_iter())
+            .filter(own)
+            .map(with_span)
+            .collect();
+        let mut calls = Vec::new();
+        for (tag, span) in own {
+            if let Ok(killed) = self.wake_killed(tag, caller, span) {
                 calls.push((tag, killed));
             }
         }

@@ -182,7 +182,7 @@ impl Cancel {
         self.tag
     }
 
-    /// Is it this call that is to be given up?
+    /// Is it this call that is to be given up? Of entries from bytes only the tags tell.
     pub fn is_for(self, call: &Call) -> bool {
         self.tag == call.tag() && self.serial == call.serial
     }
@@ -270,10 +270,14 @@ impl Call {
     }
 
     /// The first description that came along with the call moves to this handle. It is no reply. Where the
-    /// handle is in use the description's hold is dropped.
+    /// handle is in use, or over 63, the description's hold is dropped, with no close.
     pub fn obtain(&self, handle: Handle, flags: ObtainFlags) -> Completion {
-        let [first, second, third, _] = flags.bits().to_le_bytes();
-        Completion::beside(3, self, handle.0).with_extra([first, second, third])
+        // three bytes have room; what does not fit is refused like any unknown flag
+        let extra = match flags.bits().to_le_bytes() {
+            [first, second, third, 0] => [first, second, third],
+            _ => [u8::MAX; 3],
+        };
+        Completion::beside(3, self, handle.0).with_extra(extra)
     }
 }
 

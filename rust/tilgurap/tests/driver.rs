@@ -3,8 +3,8 @@
 use tilgurap::{
     Answer, Call, Caller, Cancel, Completion, Description, Driver, Effect, Errno, EventFlags,
     FileNumber, Handle, Identity, Killed, Layer, MapRequest, ObtainFlags, Opcode, Pid, Refusal,
-    Rejected, Request, SchemeNumber, Served, SlotState, Span, SqeFlags, Tag, Taken, Wake, Wants,
-    limits,
+    Rejected, Request, SchemeNumber, Served, SlotState, Span, SqeFlags, Supplied, Tag, Taken, Wake,
+    Wants, limits,
 };
 
 const WHO: Identity = Identity {
@@ -256,7 +256,14 @@ fn a_map_request_is_supplied() {
         .supply(0, 4095)
         .unwrap_err();
     let supply = map.supply(0, 4096).unwrap();
-    assert_eq!(layer.answer(supply), Served::default());
+    let served = layer.answer(supply);
+    let page = Supplied {
+        tag,
+        offset: 0,
+        base: 4096,
+    };
+    assert_eq!(served.supplied, [page]);
+    assert!(served.effects.is_empty() && served.refused.is_empty());
     assert_eq!(layer.slot(tag).state, SlotState::Vacant);
 
     let tag = request(&mut layer);
@@ -293,7 +300,7 @@ fn a_refused_entry_is_passed() {
         assert!(matches!(refused.what, Rejected::Entry(entry) if entry.kind() == 2));
         assert_eq!(
             refused.to_string(),
-            "an entry of kind 2 with tag 1048576 was refused: not valid there (22)"
+            "an event was refused: not valid there (22)"
         );
         for (tag, caller) in tags.into_iter().zip([100, 101]) {
             assert_eq!(read(&mut layer, tag, caller), Ok(4));
@@ -380,7 +387,10 @@ fn a_driver_that_is_gone() {
     let map_unread = layer.request_fmap(Caller(101), FileNumber(8), 1, 0, WHO);
     let map_unread = map_unread.unwrap().tag;
 
+    assert!(layer.open(Description(7)).is_ok());
+    assert!(layer.put(Description(7), Handle(63)).is_ok());
     let gone = layer.driver_gone(Errno::EIO);
+    assert_eq!(gone.handles, [(Handle(63), Description(7))]);
     let wakes = [(100, taken), (102, unread)].map(|(caller, tag)| Effect::Wake {
         caller: Caller(caller),
         tag,
@@ -407,10 +417,8 @@ fn a_driver_that_is_gone() {
     assert_eq!(layer.answer(late).refused[0].why, Refusal::Einval);
     assert_eq!(woken(&layer.serve(&mut next)), [(100, valve.0)]);
     assert_eq!(read(&mut layer, valve, 100), Ok(1));
-    assert_eq!(
-        layer.answer(request.supply(0, 4096).unwrap()),
-        Served::default()
-    );
+    let supplied = layer.answer(request.supply(0, 4096).unwrap()).supplied;
+    assert_eq!(supplied.len(), 1);
     assert_eq!(layer.slot(map_unread).state, SlotState::Vacant);
 }
 
@@ -460,7 +468,7 @@ fn a_call_is_answered_at_its_own_layer() {
     let [refused] = <[_; 1]>::try_from(other.answer(supply).refused).unwrap();
     assert_eq!(refused.why, Refusal::Einval);
     let supply = refused.request.expect("it comes back").supply(0, 4096);
-    assert_eq!(first.answer(supply.unwrap()), Served::default());
+    assert_eq!(first.answer(supply.unwrap()).supplied.len(), 1);
 
     // a driver that puts another layer's call to its own is passed, too
     struct Mixed(Option<Call>);
@@ -515,7 +523,7 @@ fn nothing_outlives_its_call() {
     assert_eq!(layer.slot(dose).descriptions, [Description(5)]);
 }
 
-/// A reply by bytes leaves the call in its driver's hands; the tag's next user is safe from it.
+/// A reply by bytes to a call that was taken leaves it in its driver's hands; the tag's next user is safe from it.
 #[test]
 fn a_call_that_was_answered_by_bytes() {
     let (mut layer, mut plant) = (layer(), Plant::default());
@@ -540,10 +548,16 @@ fn a_caller_is_killed() {
     let other = call(&mut layer, 200, Opcode::Write, DOSER);
     assert_eq!(woken(&layer.serve(&mut plant)), [(100, valve.0)]);
     let span = Span { base: 3, count: 1 };
+    let returned = call(&mut layer, 100, Opcode::Write, DOSER);
+    let early = layer.wake_killed(returned, Caller(100), Span::NONE);
+    assert_eq!(early, Ok(Killed::Returned));
+    // asked for those alone that return now
+    let mut asked = Vec::new();
     let left = layer.kill(Caller(100), |tag| {
-        assert_ne!(tag, other);
-        if tag == dose { span } else { Span::NONE }
+        asked.push(tag);
+        span
     });
+    assert_eq!(asked, [dose]);
     let [(first, Killed::Returned), (second, Killed::Replied(reply))] = &left[..] else {
         panic!("{left:?}")
     };
@@ -555,8 +569,8 @@ fn a_caller_is_killed() {
     // the late reply frees the slot, and the other call goes on
     let served = layer.answer(plant.dosing.remove(0).ok(20));
     assert_eq!(served.effects, [Effect::Unmap { span }]);
-    let occupied = layer.occupied();
-    assert_eq!((occupied.len(), occupied[0].0), (1, other));
+    let occupied: Vec<Tag> = layer.occupied().iter().map(|(tag, _)| *tag).collect();
+    assert_eq!(occupied, [other, returned]);
 }
 
 /// What was served before a driver panics is there.
@@ -571,6 +585,10 @@ fn a_driver_that_panics() {
         fn write(&mut self, _: Call) -> Answer {
             panic!("as it was asked to")
         }
+
+        fn on_refused(&mut self, _: Call, _: Refusal) -> Answer {
+            panic!("as it was asked to")
+        }
     }
     let mut layer = layer();
     let good = call(&mut layer, 100, Opcode::Read, 0);
@@ -582,6 +600,22 @@ fn a_driver_that_panics() {
     let gone = layer.driver_gone(Errno::EIO);
     let caller = Caller(101);
     assert_eq!(gone.effects, [Effect::Wake { caller, tag: bad }]);
+
+    let good = call(&mut layer, 102, Opcode::Read, 0);
+    let bad = call(&mut layer, 103, Opcode::Read, 0);
+    let mut calls = Vec::new();
+    while let Some(Taken::Call(call)) = layer.next_entry() {
+        calls.push(call);
+    }
+    let second = calls.pop().unwrap().descriptor(Handle(5));
+    let first = calls.pop().unwrap().ok(1);
+    let mut served = Served::default();
+    let turn = std::panic::AssertUnwindSafe(|| {
+        layer.answer_into(&mut Broken, vec![first, second], &mut served);
+    });
+    assert!(std::panic::catch_unwind(turn).is_err());
+    assert_eq!(woken(&served), [(102, good.0)]);
+    assert_eq!(layer.slot(bad).state, SlotState::Waiting);
 }
 
 #[test]

@@ -307,6 +307,8 @@ fn each_kind_of_completion() {
     assert_eq!((entry.kind(), entry.tag(), entry.parse()), (3, tag, Ok(())));
     assert_eq!(accepted(&mut layer, obtain), []);
     assert_eq!(layer.handle(Handle(0)), Some(Description(1)));
+    let wide = call.obtain(Handle(0), ObtainFlags::from_bits(1 << 24));
+    assert_eq!(wide.cqe().parse(), Err(Refusal::Einval));
     let unknown = call.obtain(Handle(0), ObtainFlags::from_bits(16));
     assert_eq!(unknown.cqe().parse(), Err(Refusal::Einval));
     assert_eq!(refused(&mut layer, unknown), Refusal::Einval);
