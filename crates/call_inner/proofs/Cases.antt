@@ -20,7 +20,6 @@ use Rattle.schemev2.specs.declared.Sqe.{Sqe}
 use Rattle.slot.specs.declared.PageSpan.{PageSpan}
 use Rattle.slot.specs.declared.Phase.{Phase}
 use Rattle.slot.specs.declared.Phase.the-variants.{Vacant, Placeholder, Waiting, Responded, Fmap}
-use Rattle.slot.specs.declared.Reply.{Reply}
 use Rattle.slot.specs.declared.Slot.{Slot}
 use Rattle.slot.specs.Slots.{phaseOf, vacantSlot, canceledOf, interruptedOf}
 use Rattle.table.specs.Table.{noSlot}

@@ -1,10 +1,10 @@
 -- What a wake hands over, looked at before it: the reply in a slot as it stands, and its list where it is one of many.
 use Prim.Native.Nat.{ℕ, zero, suc}
+use mathlib.Core.List.{[]}
 use Rattle.fd_list.specs.declared.List.{List as Fds}
 use Rattle.fd_list.specs.Lists.{listOf}
 use Rattle.slot.specs.declared.Slot.{Slot}
 use Rattle.call_inner.specs.declared.Stored.{Stored}
-use mathlib.Core.List.{[]}
 
 -- by the reply's kind: a list beside another reply is not handed over
 abbrev pub listBeside : ℕ → Fds → Fds

@@ -48,7 +48,7 @@
 //!   cannot tell a second reply to a tag from the first reply to the tag's next call.
 //! - **Reply to nothing else.** CloseMsg and Detach come with tag 0 and no flag and want no reply: one by their tag would
 //!   serve the call in slot 0. Cancel bears its call's tag and wants none of its own.
-//! - **Supply a map request** ([`provide_mmap`](Layer::provide_mmap)). A reply to it is refused.
+//! - **Supply a map request** ([`MapRequest::supply`]). A reply to it is refused.
 //! - **Write on behind a refused entry.** A [`write`](Layer::write) ends at the first one, and those behind it were not
 //!   looked at.
 //!

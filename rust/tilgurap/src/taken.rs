@@ -55,7 +55,7 @@ impl Outstanding {
 pub enum Wants {
     /// One reply, by its tag.
     Reply,
-    /// One [supply](crate::Layer::provide_mmap), by its tag. A reply is refused.
+    /// One [supply](MapRequest::supply), by its tag. A reply is refused.
     Supply,
     /// Nothing: its tag is 0 or another call's.
     Nothing,
