@@ -132,8 +132,8 @@ macro_rules! calls {
         /// [`Nothing`](Answer::Nothing), and puts the reply to its layer later ([`Layer::answer`]).
         ///
         /// A call whose method is not written gets [`EOPNOTSUPP`](Errno::EOPNOTSUPP). The arguments named below
-        /// are those that the Redox kernel sends along; the layer passes any on, and the sixth is the caller's
-        /// uid and gid (gid times 2^32).
+        /// are those that the Redox kernel sends (src/scheme/user.rs); an opcode without any is one that it does not send there.
+        /// The layer passes any on. A [`Layer::call`] has the caller's uid and gid (gid times 2^32) as its sixth.
         ///
         /// ```
         /// use tilgurap::{
@@ -223,7 +223,7 @@ macro_rules! calls {
 }
 
 calls! {
-    /// Close: file.
+    /// Close.
     close = Close;
     /// Open again: file, address, length.
     dup = Dup;
@@ -233,7 +233,7 @@ calls! {
     write = Write;
     /// A file's size: file.
     fsize = Fsize;
-    /// Change the mode: file, mode.
+    /// Change the mode.
     fchmod = Fchmod;
     /// Change the owner: file, uid, gid.
     fchown = Fchown;
@@ -249,13 +249,13 @@ calls! {
     frename = Frename;
     /// A file's data: file, address, length.
     fstat = Fstat;
-    /// A file system's data: file, address, length.
+    /// A file system's data.
     fstatvfs = Fstatvfs;
     /// Write out what is buffered: file.
     fsync = Fsync;
-    /// Set the length: file, length.
+    /// Set the length.
     ftruncate = Ftruncate;
-    /// Set the times: file, address, length.
+    /// Set the times.
     futimens = Futimens;
     /// Get ready to map: file, size, flags, offset.
     mmap_prep = MmapPrep;
@@ -265,9 +265,9 @@ calls! {
     munmap = Munmap;
     /// Write a mapping out.
     msync = Msync;
-    /// List a folder: file, address, length.
+    /// List a folder.
     getdents = Getdents;
-    /// A call of the driver's own: file, address, length, metadata.
+    /// A call of the driver's own: file, address, length, metadata; with two files the second as the sixth.
     call = Call;
     /// Open a path: file, address, length, flags, descriptor flags.
     openat = OpenAt;
@@ -275,7 +275,7 @@ calls! {
     flink = Flink;
     /// Descriptors are asked for: file, flags, how many, two metadata words.
     recvfd = Recvfd;
-    /// Remove a path: file, address, length.
+    /// Remove a path.
     unlinkat = UnlinkAt;
     /// A standard file system call: file, address, length, kind, two arguments.
     std_fs_call = StdFsCall;

@@ -214,7 +214,7 @@ impl Call {
         self.entry.tag
     }
 
-    /// The first argument, which is a file of the driver's with every opcode.
+    /// The first argument, which is a file of the driver's with every opcode that the Redox kernel sends.
     pub fn file(&self) -> FileNumber {
         FileNumber(self.entry.args[0])
     }
