@@ -92,6 +92,8 @@ def at_terminal(argv, typed=b"", until=b"", env=ENVIRONMENT):
     """Runs a program at a terminal, types once it has shown `until`; its status and all that it showed."""
     child, terminal = pty.fork()
     if child == 0:
+        # as at a terminal, also where these tests were started in the background
+        signal.signal(signal.SIGINT, signal.SIG_DFL)
         os.execve(argv[0], argv, env)
     shown, deadline = b"", time.time() + 30
     while time.time() < deadline:

@@ -5,6 +5,7 @@ use std::fs;
 use std::os::unix::fs::PermissionsExt;
 use std::path::{Path, PathBuf};
 use std::process::{Command, Output, Stdio};
+use std::sync::{Mutex, MutexGuard, PoisonError};
 
 /// It reads as many bytes as the listing program, and numbers the entries as it does.
 const LISTING: &str = "#!/bin/sh
@@ -14,11 +15,16 @@ seq 0 $((bytes / 16 - 1)) | sed 's/$/ listed/'
 echo left $((bytes % 16))
 ";
 
-/// A folder whose name has a space in it.
-struct Folder(PathBuf);
+/// One test at a time: a file that one test writes while another starts a process is open for writing in that process too until it runs
+/// its program, and so long the file cannot be run ("Text file busy").
+static ALONE: Mutex<()> = Mutex::new(());
+
+/// A folder whose name has a space in it, for as long as no other test has one.
+struct Folder(PathBuf, #[expect(dead_code)] MutexGuard<'static, ()>);
 
 impl Folder {
     fn new(name: &str) -> Folder {
+        let alone = ALONE.lock().unwrap_or_else(PoisonError::into_inner);
         let path = Path::new(env!("CARGO_TARGET_TMPDIR")).join(format!("front door {name}"));
         let _ = fs::remove_dir_all(&path);
         fs::create_dir_all(path.join("crates")).expect("a folder");
@@ -27,7 +33,7 @@ impl Folder {
         let script = Path::new(env!("CARGO_MANIFEST_DIR")).join("../../tilgurap");
         fs::copy(script, path.join("tilgurap")).expect("the script");
         fs::write(path.join("crates.txt"), "").expect("a file");
-        let folder = Folder(path);
+        let folder = Folder(path, alone);
         let listing = folder.0.join("target/bin/listing");
         fs::write(&listing, LISTING).expect("a file");
         fs::set_permissions(&listing, fs::Permissions::from_mode(0o755)).expect("a program");
