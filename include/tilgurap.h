@@ -26,6 +26,7 @@
  *        ------  --------------------------------------------  --------------------------------------------------------------
  *        caller  calls the driver                              tilgurap_call, or tilgurap_next_id and tilgurap_submit;
  *                                                              tilgurap_call_generic, tilgurap_translate_std_fs_call
+ *        caller  sends descriptions, or asks for some          tilgurap_kfdwrite, tilgurap_kfdread
  *        caller  asks for a mapping                            tilgurap_request_fmap
  *        caller  is woken, and fetches its reply or waits on   tilgurap_wake with killed 0
  *        caller  is killed                                     tilgurap_wake with killed 1, then tilgurap_ended
@@ -120,7 +121,7 @@
 #include <stdint.h>
 
 /* The number of the interface that this header declares: to be compared with tilgurap_abi() before the first event. */
-#define TILGURAP_ABI 1
+#define TILGURAP_ABI 2
 
 /* Limits */
 
@@ -219,6 +220,17 @@
 
 #define TILGURAP_SQE_ONEWAY 1       /* a Cancel has it. Set by a host it changes nothing: its call waits for a reply */
 #define TILGURAP_SQE_MULTIPLE_IDS 2 /* the call is about two files */
+
+/* Flags of tilgurap_kfdwrite and tilgurap_kfdread. Other bits are not looked at. */
+
+#define TILGURAP_CALL_FD_EXCLUSIVE 0x1000 /* of descriptions that are sent: nobody else is to hold them */
+#define TILGURAP_CALL_FD_UPPER 0x4000     /* of descriptions that are asked for: into the upper file table */
+
+/* What the driver is told of them, as the second argument of TILGURAP_OP_SENDFD and of TILGURAP_OP_RECVFD. Whether it is so, and
+ * where descriptions go, is the host's to see to. */
+
+#define TILGURAP_SEND_FD_EXCLUSIVE 1
+#define TILGURAP_RECV_FD_UPPER_TBL 2
 
 /* Kinds of a completion entry: the low three bits of its flags. The upper five are not looked at; 6 and 7 are refused. */
 
@@ -616,6 +628,39 @@ TilgurapStepWords tilgurap_translate_std_fs_call(
     uint64_t base,
     uint64_t len);
 
+/* Sends descriptions with a call (TILGURAP_OP_SENDFD) about the driver's file of that number; they are taken from outside holds. The
+ * entry's arguments are number, the flags that the driver is told, the first word of metadata (0 where there is none), fds_len, 0
+ * and uid + gid * 2^32. Answers the tag, and makes READABLE. Refused: OUT_OF_RULES, MANY_DESCRIPTIONS, NO_VACANT_SLOT,
+ * QUEUE_FULL. */
+TilgurapStepWords tilgurap_kfdwrite(
+    uint64_t words[TILGURAP_STATE_WORDS],
+    const uint64_t *fds,
+    size_t fds_len,
+    const uint64_t *metadata,
+    size_t metadata_len,
+    uint32_t caller,
+    uint64_t number,
+    uint64_t flags,
+    uint32_t uid,
+    uint32_t gid,
+    uint64_t pid);
+
+/* Asks for descriptions by a call (TILGURAP_OP_RECVFD) about the driver's file of that number, with room for as many as len bytes
+ * hold, eight for each. The entry's arguments are number, the flags that the driver is told, len / 8, two words of metadata (0 where
+ * there are fewer) and uid + gid * 2^32. Answers the tag, and makes READABLE. Refused: EINVAL for a len that is no multiple of 8,
+ * NO_VACANT_SLOT, QUEUE_FULL. */
+TilgurapStepWords tilgurap_kfdread(
+    uint64_t words[TILGURAP_STATE_WORDS],
+    const uint64_t *metadata,
+    size_t metadata_len,
+    uint32_t caller,
+    uint64_t number,
+    uint64_t len,
+    uint64_t flags,
+    uint32_t uid,
+    uint32_t gid,
+    uint64_t pid);
+
 /* Asks the driver for a mapping of its file id. It is no call: nobody is woken, no reply serves it, and tilgurap_provide_mmap
  * alone vacates its slot. The entry's arguments are id, flags, pages, 0, 0 and uid + gid * 2^32. Answers the tag, and makes
  * READABLE. Refused: NO_VACANT_SLOT, QUEUE_FULL. */
@@ -708,6 +753,12 @@ TilgurapAnswerWords tilgurap_into_regular(TilgurapReply reply, TilgurapList fds)
 
 /* tilgurap_call_generic and tilgurap_translate_std_fs_call: the same, and the notice. */
 TilgurapRegular tilgurap_read_call_generic(TilgurapReply reply, TilgurapList fds);
+
+/* tilgurap_kfdwrite: the word or the error; descriptions read as EIO. */
+TilgurapAnswerWords tilgurap_read_kfdwrite(TilgurapReply reply, TilgurapList fds);
+
+/* tilgurap_kfdread: how many descriptions came, or the error; a word or one description alone reads as EIO. */
+TilgurapAnswerWords tilgurap_read_kfdread(TilgurapReply reply, TilgurapList fds);
 
 /* TILGURAP_OP_OPEN_AT: the error first, then EINVAL for unknown bits in extra0; many descriptions EIO. */
 TilgurapOpenedWords tilgurap_kopenat(TilgurapReply reply, TilgurapList fds);

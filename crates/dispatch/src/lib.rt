@@ -55,6 +55,8 @@ pub fn event(s: &mut [u64; 2060], r: Record, first: &[u64], second: &[u64]) -> S
         16 => step::answered(Answer::BadArgument),
         17 => call_fd::call_fdwrite(s, first, second),
         18 => call_fd::call_fdread(s, first),
+        20 => kfd::kfdwrite(s, second, first, c, a.0, a.1, r.uid, r.gid, a.2),
+        21 => kfd::kfdread(s, first, c, a.0, a.1, a.2, r.uid, r.gid, a.3),
         _ => provide_mmap::provide_mmap(s, Tag(a.0), a.1, a.2, a.3),
     }
 }

@@ -24,6 +24,7 @@ use Rattle.host_put.specs.Put.{put}
 use Rattle.parse_cqe.specs.Parsed.{parsedOf}
 use Rattle.parse_cqe.specs.declared.ParsedCqe.{ParsedCqe}
 use Rattle.parse_cqe.specs.declared.ParsedCqe.the-variants as parsed
+use Rattle.schemev2.specs.declared.Args.{Args}
 use Rattle.schemev2.specs.declared.Cqe.{Cqe}
 use Rattle.slot.specs.declared.PageSpan.{PageSpan}
 use Rattle.slot.specs.declared.Phase.{Phase}
@@ -33,17 +34,17 @@ use Rattle.wait_queue.specs.declared.WaitQueue.{WaitQueue}
 use Rattle.wait_queue_receive.specs.Receive.{emptyBy, receivedIf}
 use Rattle.events.specs.World.{World, tableOf, queueOf, holdsOf, handlesOf, slotIn, phaseIn, queueFull}
 use Rattle.events.specs.Outcome.{Answer, ok, no, wait, said, Outcome, outcome, Row, row, checked, refuse}
-use Rattle.events.specs.Submit.{reserveRows, submitRows, callRows, genericRows, stdfsRows, fmapRows, queueRows, longList, kindByte, isPlaceholder, tableFull}
+use Rattle.events.specs.Submit.{badOpcode, reserveRows, submitRows, callRows, callOf, fdwriteArgs, fdreadArgs, lengthRows, genericRows, stdfsRows, fmapRows, queueRows, longList, kindByte, isPlaceholder, tableFull}
 use Rattle.events.specs.Wake.{responseOf, wakeable, wakeRows, waitedBy, wokenBy}
 use Rattle.events.specs.Descriptors.{requestOf, requestRows, listRows}
 use Rattle.events.specs.Supply.{wrongPages, pageRows, suppliedAs, suppliedBy}
 use Rattle.events.specs.Entry.{Decision, closesOf, Offer, result, one, listed, goneFds, namedOf, ownFds, unmapOf, releaseOf, servedBy, respondBy, inHandle, handleRows, isVacant, isWaiting, obtainRows, decisionOf}
 use Rattle.events.specs.Complete.{writeRows, Entered, accepted, rejected, worldOf, entryOf, cut, entriesOf, stopped, onEntered, writeOn}
-use Rattle.events.specs.Event.{DriverEvent, hostPut, reserve, submit, call, generic, stdfs, fmap, close, detach, wake, read, write, move, obtain, supply, Event, hostOpen, hostCopy, hostDrop, hostEnded, on, step}
+use Rattle.events.specs.Event.{DriverEvent, hostPut, reserve, submit, call, fdwrite, fdread, generic, stdfs, fmap, close, detach, wake, read, write, move, obtain, supply, Event, hostOpen, hostCopy, hostDrop, hostEnded, on, step}
 use Rattle.events.specs.History.{Fact, Stage, waits, replied, mapping, Call, book}
 use Rattle.events.specs.Run.{Run}
 use Rattle.events.specs.WellFormed.{WellFormed}
-use Rattle.events.specs.Exactly.{ruled, state, inState, noTagVacant, nextTag, all128Unread, holdsIn, listLacks, driverAnswer, answerTo, ExactAt}
+use Rattle.events.specs.Exactly.{ruled, state, inState, noTagVacant, nextTag, all128Unread, holdsIn, listLacks, wrongOpcode, driverAnswer, answerTo, ExactAt}
 use Rattle.events.proofs.Checked.{checked-cases}
 use Rattle.events.proofs.Decided.{refusedIn, carried-cases}
 use Rattle.events.proofs.Conditions.{Named, opcode-same, not-ltb, some-same, odd-same, count-same, kind-same, unread-length, queue-same, empty-same, isResponded, slot-named, table-same, next-tag, submit-same, wake-same, lacks-same, free-same, words-same}
@@ -363,6 +364,15 @@ module _ (r : Run) (i : WellFormed (r .world)) (inv : InvOf (r .world) (r .facts
       ∷ [])
       (cond (empty-same w j && eqb (flags / 0x4_0000 % 2) 0) wait (ok (min len (sym (unread-length w) j)))))
 
+  -- the rows of a `call`, by whether its opcode is none
+  call-answer :
+      (c op : ℕ) (args : Args) (uid gid pid : ℕ) (ds : List ℕ) (wrong : Bool) → badOpcode op ≡ wrong
+      → callOf w c op args uid gid pid ds .answer
+      ≡ ruled (row 205 (wrong || listLacks w ds) ∷ row 206 (longList ds) ∷ row 202 (noTagVacant h) ∷ row 203 (all128Unread w) ∷ []) (ok (nextTag h))
+  call-answer c op args uid gid pid ds wrong e =
+      answer-checked w (callRows w op ds) _
+      ∙ row-same 205 (ap (λ (b : Bool). b || listLacks w ds) e) (λ a. row-same 206 {b = longList ds} refl (λ b. give-answer _ _ begun-answer))
+
   driver-answer : (e : DriverEvent) → step w (on e) .answer ≡ driverAnswer r e
   driver-answer (hostPut d k) =
       under (ok 0) (put-answer (unheld (holdsOf w .holds) (holdsOf w .outside) d || not (isFree (handlesOf w) k)) _ _ _ _)
@@ -376,9 +386,10 @@ module _ (r : Run) (i : WellFormed (r .world)) (inv : InvOf (r .world) (r .facts
       ∷ row 201 (submit-same w h inv n c j)
       ∷ row 203 (queue-same w i j)
       ∷ [])
-  driver-answer (call c op args uid gid pid ds) =
-      answer-checked w (callRows w op ds) _
-      ∙ row-same 205 (ap (λ (b : Bool). b || listLacks w ds) (opcode-same op)) (λ a. row-same 206 {b = longList ds} refl (λ b. give-answer _ _ begun-answer))
+  driver-answer (call c op args uid gid pid ds) = call-answer c op args uid gid pid ds (wrongOpcode op) (opcode-same op)
+  driver-answer (fdwrite c number flags ms uid gid pid ds) = call-answer c 12 (fdwriteArgs number flags ms ds) uid gid pid ds false refl
+  driver-answer (fdread c number len flags ms uid gid pid) =
+      answer-checked w (lengthRows len) _ ∙ ap (ruled (lengthRows len)) (call-answer c 31 (fdreadArgs number len flags ms) uid gid pid [] false refl)
   driver-answer (generic c pid fds base len ms) = answer-checked w (genericRows w fds) _ ∙ row-same 22 (count-same (length fds)) (λ a. give-answer _ _ begun-answer)
   driver-answer (stdfs c pid fds base len ms) =
       answer-checked w (stdfsRows w fds ms) _

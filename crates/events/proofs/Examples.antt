@@ -4,8 +4,8 @@ use mathlib.Core.Path.{_≡_, refl}
 use mathlib.Core.Bool.{true, false}
 use mathlib.Core.List.{List, [], _∷_, _++_, map}
 use lib.Count.{ones}
-use lib.ListN.{replicate}
-use Rattle.flag.specs.Flags.{eventRead, eventHup, eventFlags, newFdFlags, sqeOneway, sqeMultipleIds}
+use lib.ListN.{replicate, drop}
+use Rattle.flag.specs.Flags.{eventRead, eventHup, eventFlags, newFdFlags, fdExclusive, fdUpper, sendFdExclusive, recvFdUpperTbl, sqeOneway, sqeMultipleIds}
 use Rattle.handles.specs.Handles.{heldAt}
 use Rattle.le.specs.Le.{bytesOf}
 use Rattle.schemev2.specs.Entry.{sqeBytes}
@@ -15,10 +15,10 @@ use Rattle.events.specs.World.{handlesOf, queueOf, phaseIn}
 use Rattle.events.specs.Outcome.{ok, no, blocked, reply, success, error, descriptor, many}
 use Rattle.events.specs.Submit.{args6}
 use Rattle.events.specs.Wake.{cancelEntry}
-use Rattle.events.specs.Replies.{intoRegularOf, callGenericOf, noticeOf, schemeLocal, external, failed, kopenatOf, kdupOf}
-use Rattle.events.specs.Event.{hostPut, reserve, submit, call, generic, stdfs, fmap, close, detach, wake, read, write, move, supply, Event, hostOpen, hostCopy, hostEnded, on}
+use Rattle.events.specs.Replies.{intoRegularOf, callGenericOf, noticeOf, kfdwriteOf, kfdreadOf, schemeLocal, external, failed, kopenatOf, kdupOf}
+use Rattle.events.specs.Event.{hostPut, reserve, submit, call, fdwrite, fdread, generic, stdfs, fmap, close, detach, wake, read, write, move, supply, Event, hostOpen, hostCopy, hostDrop, hostEnded, on}
 use Rattle.events.specs.History.{to, end, gave, took, serve, block, interrupt, pass, filled}
-use Rattle.events.specs.Examples.{line, linesOf, factsOf, countsOf, leaves, callBy, completion, woke, more}
+use Rattle.events.specs.Examples.{Line, line, linesOf, factsOf, countsOf, leaves, callBy, completion, woke, more}
 
 -- The accident: a killed dosing call keeps its slot until its driver has replied, and the late reply serves it, not the valve call.
 abbrev accident : List Event
@@ -256,6 +256,95 @@ entries-lines :
     ∷ []
 unfolding wordsFrom
 entries-lines = refl
+
+-- 02's T-01. A single descriptor in reply to `kfdread` is handed over once, reads EIO, and is the host's to drop.
+abbrev received : List Event
+received =
+    hostOpen 9
+    ∷ on (hostPut 9 2)
+    ∷ on (fdread 1 20 16 fdUpper (5 ∷ 6 ∷ []) 7 8 9)
+    ∷ on (read 64 0)
+    ∷ on (write 54 (completion 1 0 2))
+    ∷ on (wake 0 1 0 0 0)
+    ∷ on (wake 0 1 0 0 0)
+    ∷ hostDrop 9
+    ∷ hostDrop 9
+    ∷ []
+
+received-lines :
+    linesOf received
+    ≡ line (ok 0) []
+    ∷ line (ok 0) []
+    ∷ line (ok 0) more
+    ∷ record { answer = ok 64; effects = []; bytes = bytesOf (31 ∷ 20 ∷ recvFdUpperTbl ∷ 2 ∷ 5 ∷ 6 ∷ 0x8_0000_0007 ∷ 9 ∷ []) }
+    ∷ line (ok 16) (woke 1 0)
+    ∷ line (reply (descriptor 9)) []
+    ∷ line (no 77) []
+    ∷ line (ok 0) []
+    ∷ line (no 205) []
+    ∷ []
+unfolding wordsFrom
+received-lines = refl
+
+received-front : kfdreadOf (descriptor 9) ≡ no 5
+received-front = refl
+
+received-facts :
+    factsOf received ≡ to 0 (pass (descriptor 9)) ∷ to 0 (serve 4 0 (descriptor 9)) ∷ to 0 took ∷ to 0 (gave false 1) ∷ []
+received-facts = refl
+
+-- accepted, handed over; none is held, none was dropped
+received-counts : countsOf received ≡ 1 ∷ 1 ∷ 0 ∷ 0 ∷ []
+unfolding ones
+received-counts = refl
+
+-- What a driver reads: all bits but the one are kept from it, metadata is 0 where absent, the list's length is an argument.
+abbrev sent : List Event
+sent =
+    hostOpen 3
+    ∷ hostCopy 3
+    ∷ on (fdwrite 1 20 (fdExclusive + fdUpper) (5 ∷ 6 ∷ []) 7 8 9 (3 ∷ 3 ∷ []))
+    ∷ on (fdwrite 1 21 fdUpper [] 0 0 0 [])
+    ∷ on (fdread 1 22 8 (fdExclusive + fdUpper) (5 ∷ 6 ∷ 7 ∷ []) 0 0 0)
+    ∷ on (fdread 1 23 0 fdExclusive [] 0 0 0)
+    ∷ on (read 256 0)
+    ∷ []
+
+sent-lines :
+    linesOf sent
+    ≡ line (ok 0) []
+    ∷ line (ok 0) []
+    ∷ line (ok 0) more
+    ∷ line (ok 1) more
+    ∷ line (ok 2) more
+    ∷ line (ok 3) more
+    ∷ record {
+      answer = ok 256;
+      effects = [];
+      bytes =
+          bytesOf
+          ((12 ∷ 20 ∷ sendFdExclusive ∷ 5 ∷ 2 ∷ 0 ∷ 0x8_0000_0007 ∷ 9 ∷ [])
+          ++ (0x1_0000_000c ∷ 21 ∷ 0 ∷ 0 ∷ 0 ∷ 0 ∷ 0 ∷ 0 ∷ [])
+          ++ (0x2_0000_001f ∷ 22 ∷ recvFdUpperTbl ∷ 1 ∷ 5 ∷ 6 ∷ 0 ∷ 0 ∷ [])
+          ++ (0x3_0000_001f ∷ 23 ∷ 0 ∷ 0 ∷ 0 ∷ 0 ∷ 0 ∷ 0 ∷ []));
+    }
+    ∷ []
+unfolding wordsFrom
+sent-lines = refl
+
+-- A length that is no multiple of 8, on a full table: 22, before 202.
+odd-length :
+    map (λ (l : Line). l .answer) (drop 64 (linesOf (replicate 64 (on (reserve 1)) ++ on (fdread 1 20 23 0 [] 0 0 0) ∷ on (fdread 1 20 24 0 [] 0 0 0) ∷ [])))
+    ≡ no 22 ∷ no 202 ∷ []
+odd-length = refl
+
+-- Descriptors that were waited for are their count; where they were not, and where a success came in their place: EIO.
+received-read :
+    map kfdreadOf (success 9 0 false ∷ error 7 0 true ∷ descriptor 3 ∷ many [] ∷ many (3 ∷ 3 ∷ 4 ∷ []) ∷ []) ≡ no 5 ∷ no 7 ∷ no 5 ∷ ok 0 ∷ ok 3 ∷ []
+received-read = refl
+
+sent-read : map kfdwriteOf (success 9 0 true ∷ error 7 0 true ∷ descriptor 3 ∷ many [] ∷ []) ≡ ok 9 ∷ no 7 ∷ no 5 ∷ no 5 ∷ []
+sent-read = refl
 
 -- Reading replies: the error before extra0's bits, the notice even with an error, descriptors where none are expected.
 regular : map intoRegularOf (success 9 0 false ∷ error 7 0 false ∷ descriptor 3 ∷ many [] ∷ []) ≡ ok 9 ∷ no 7 ∷ no 5 ∷ no 5 ∷ []

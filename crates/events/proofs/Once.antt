@@ -15,7 +15,7 @@ use Rattle.schemev2.specs.Entry.{kindOf, cqeOpcodeOf}
 use Rattle.events.specs.World.{World, slotIn}
 use Rattle.events.specs.Outcome.{Response, success, Answer, ok, no, wait, blocked, reply, onOk}
 use Rattle.events.specs.Entry.{responseTo}
-use Rattle.events.specs.Event.{DriverEvent, hostPut, reserve, submit, call, generic, stdfs, fmap, close, detach, wake, read, write, move, obtain, supply, Event, hostOpen, hostCopy, hostDrop, hostEnded, on}
+use Rattle.events.specs.Event.{DriverEvent, hostPut, reserve, submit, call, fdwrite, fdread, generic, stdfs, fmap, close, detach, wake, read, write, move, obtain, supply, Event, hostOpen, hostCopy, hostDrop, hostEnded, on}
 use Rattle.events.specs.History.{What, Fact, to, end, gave, took, serve, block, interrupt, pass, filled, Stage, free, reserved, waits, replied, mapping, Call, change, book, View, tells, sends, wakes, reads, writes, moves, supplies, viewOf, entryAt, afterEntries, offers, served, poured, toldByWake, toldBySupply, news}
 use Rattle.events.specs.Demand3.{needs, fair, Every, Some, apart, source, sourced, onReply, sum}
 use Rattle.events.proofs.Stage.{num}
@@ -195,6 +195,8 @@ module _ (e : ℕ) where
   driver-quiet (reserve c) = λ v. refl
   driver-quiet (submit n c op fl args pid ds) = λ v. refl
   driver-quiet (call c op args uid gid pid ds) = λ v. refl
+  driver-quiet (fdwrite c number flags ms uid gid pid ds) = λ v. refl
+  driver-quiet (fdread c number len flags ms uid gid pid) = λ v. refl
   driver-quiet (generic c pid fds base len ms) = λ v. refl
   driver-quiet (stdfs c pid fds base len ms) = λ v. refl
   driver-quiet (fmap c id pages flags uid gid pid) = λ v. refl

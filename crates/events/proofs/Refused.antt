@@ -23,6 +23,7 @@ use Rattle.host_holds.specs.Host.{openOf, copyOf, dropOf}
 use Rattle.host_put.specs.declared.HoldPut.{HoldPut}
 use Rattle.host_put.specs.Put.{putOf}
 use Rattle.parse_cqe.specs.Parsed.{eventIf, obtainIf, parsedBy}
+use Rattle.schemev2.specs.declared.Args.{Args}
 use Rattle.schemev2.specs.declared.Cqe.{Cqe}
 use Rattle.schemev2.specs.declared.CqeOpcode.{CqeOpcode}
 use Rattle.schemev2.specs.declared.CqeOpcode.the-variants.{RespondRegular, RespondWithFd, SendFevent, ObtainFd, RespondWithMultipleFds, RespondAndNotifyOnDetach, Unknown}
@@ -36,14 +37,14 @@ use Rattle.wait_queue.specs.Queue.{unread}
 use Rattle.wait_queue_receive.specs.Receive.{copied, receivedIf}
 use Rattle.events.specs.World.{World, tableOf, holdsOf, handlesOf, queueOf, slotIn, phaseIn, withTable, withHolds, withHandles, withQueue, queueFull}
 use Rattle.events.specs.Outcome.{Answer, ok, no, wait, onAnswer, said, Outcome, outcome, Row, checked, refuse}
-use Rattle.events.specs.Submit.{reserveRows, submitRows, callRows, genericRows, stdfsRows, fmapRows, queueRows}
+use Rattle.events.specs.Submit.{reserveRows, submitRows, callRows, callEntry, callOf, fdwriteArgs, fdreadArgs, lengthRows, genericRows, stdfsRows, fmapRows, queueRows}
 use Rattle.events.specs.Wake.{wakeable, wakeRows, blockedBy, waitedBy, wokenBy}
 use Rattle.events.specs.Entry.{Decision, dropped, Offer, result, one, listed, namedOf, servedBy, respondBy, inHandle, takenOut, byDescriptor, isVacant, isWaiting, obtainRows, obtained}
 use Rattle.events.specs.Complete.{shortWords, Entered, accepted, rejected, carried, entryBy, entryOf, worldOf, cut, entriesOf, stopped, onEntered, writeOn}
 use Rattle.events.specs.Descriptors.{requestOf, wrongWords, requestRows, listRows, broughtBack, moved}
 use Rattle.events.specs.Supply.{pageRows, suppliedAs, suppliedBy}
-use Rattle.events.specs.Event.{DriverEvent, hostPut, reserve, submit, call, generic, stdfs, fmap, close, detach, wake, read, write, move, obtain, supply, Event, hostOpen, hostCopy, hostDrop, hostEnded, on, driverStep, step}
-use Rattle.events.specs.History.{viewOf, entryAt, afterEntries}
+use Rattle.events.specs.Event.{DriverEvent, hostPut, reserve, submit, call, fdwrite, fdread, generic, stdfs, fmap, close, detach, wake, read, write, move, obtain, supply, Event, hostOpen, hostCopy, hostDrop, hostEnded, on, driverStep, step}
+use Rattle.events.specs.History.{begins, viewOf, entryAt, afterEntries}
 use Rattle.events.specs.Refusals.{Nothing, leftBy, leftEntry, left, leftAfter, Demand1}
 use Rattle.events.proofs.Checked.{checked-cases}
 use Rattle.events.proofs.Writes.{entry-at, next-at}
@@ -311,11 +312,19 @@ module _ (w : World) where
       either (λ (o : HoldPut). Leaves (o .answer) (o .holds) (o .handles))
       (unheld (holdsOf w .holds) (holdsOf w .outside) d || not (isFree (handlesOf w) k)) (same (λ k. refl) refl refl refl) (went refl)
 
+call-spares :
+    (w : World) (c op : ℕ) (args : Args) (uid gid pid : ℕ) (ds : List ℕ)
+    → Spares w (left w (begins c (callEntry op args uid gid pid))) (callOf w c op args uid gid pid ds)
+call-spares w c op args uid gid pid ds = spared (callRows w op ds) _ (refl, (refl, (refl, (refl, tt)))) (went refl)
+
 driver-spares : (w : World) (e : DriverEvent) → Spares w (left w (viewOf (on e))) (driverStep w e)
 driver-spares w (hostPut d k) = put-spares w d k
 driver-spares w (reserve c) = spared (reserveRows w) _ (refl, tt) (went refl)
 driver-spares w (submit n c op fl args pid ds) = spared (submitRows w n c op ds) _ (refl, (refl, (refl, (refl, tt)))) (went refl)
-driver-spares w (call c op args uid gid pid ds) = spared (callRows w op ds) _ (refl, (refl, (refl, (refl, tt)))) (went refl)
+driver-spares w (call c op args uid gid pid ds) = call-spares w c op args uid gid pid ds
+driver-spares w (fdwrite c number flags ms uid gid pid ds) = call-spares w c 12 (fdwriteArgs number flags ms ds) uid gid pid ds
+driver-spares w (fdread c number len flags ms uid gid pid) =
+    spared (lengthRows len) _ (refl, tt) (call-spares w c 31 (fdreadArgs number len flags ms) uid gid pid [])
 driver-spares w (generic c pid fds base len ms) = spared (genericRows w fds) _ (refl, (refl, (refl, tt))) (went refl)
 driver-spares w (stdfs c pid fds base len ms) = spared (stdfsRows w fds ms) _ (refl, (refl, (refl, (refl, (refl, tt))))) (went refl)
 driver-spares w (fmap c id pages flags uid gid pid) = spared (fmapRows w) _ (refl, (refl, tt)) (went refl)

@@ -1,24 +1,27 @@
 -- The definitions that the claims take over are as they are spelled out. Assumes nothing.
-use Prim.Native.Nat.{ℕ, zero, suc, _-_}
+use Prim.Native.Nat.{ℕ, zero, suc, _+_, _-_, _*_, _/_, _%_}
 use mathlib.Core.Path.{_≡_, refl, ap}
-use mathlib.Core.Bool.{Bool, true, false, cond}
-use mathlib.Core.List.{List}
+use mathlib.Core.Bool.{Bool, true, false, not, cond}
+use mathlib.Core.List.{List, []}
 use native.Mathlib.Omega.{arith}
 use lib.Dec.{eqb, ltb}
 use lib.ListN.{length, getD, replicate}
+use borrow.Author.Tests.{eq-eqb, ne-eqb}
 use Rattle.error.specs.declared.Error.{Error}
 use Rattle.error.specs.declared.Result.the-variants.{Err}
 use Rattle.error.specs.Reference.{asUsize}
+use Rattle.flag.specs.Flags.{recvFdFlags}
 use Rattle.handles.specs.Handles.{heldAt}
 use Rattle.schemev2.specs.Entry.{sqeWords}
 use Rattle.slot.specs.declared.Phase.the-variants.{Vacant}
 use Rattle.slot.specs.Slots.{phaseOf, vacantSlot}
 use Rattle.table.specs.Table.{noSlot}
 use Rattle.wait_queue.specs.Queue.{wordsFrom}
-use Rattle.events.specs.Outcome.{error, descriptor}
-use Rattle.events.specs.Submit.{sqe, genericArgs, genericEntry}
+use Rattle.events.specs.World.{World}
+use Rattle.events.specs.Outcome.{refuse, error, descriptor}
+use Rattle.events.specs.Submit.{args6, sqe, callOf, fdreadArgs, fdreadOf, genericArgs, genericEntry}
 use Rattle.events.specs.Entry.{storedResult}
-use Rattle.events.specs.Spelled.{Started, words8, last, manyIds, Spelled}
+use Rattle.events.specs.Spelled.{Started, words8, last, manyIds, AreCalls, Spelled}
 
 started : (scheme : ℕ) (words : List ℕ) → Started scheme words
 unfolding wordsFrom
@@ -46,6 +49,28 @@ generic-is op pid fds base len ms n = go (eqb (length fds) 2) (manyIds fds)
     go true fl = refl
     go false fl = refl
 
+calls-are : AreCalls
+calls-are =
+    record {
+      kfdwrite = λ w c number flags ms uid gid pid ds. refl;
+      kfdread = λ w c number words flags ms uid gid pid.
+          even w c number (8 * words) words flags ms uid gid pid (let z : 8 * words % 8 ≡ 0 = omega arith in z) (let z : 8 * words / 8 ≡ words = omega arith in z);
+      refused = λ w c number words k flags ms uid gid pid p q.
+          odd w c number (8 * words + k) flags ms uid gid pid (λ e. let z : ⊥ = omega (arith, p, q, e) in z);
+    }
+  where
+    even :
+        (w : World) (c number len words flags : ℕ) (ms : List ℕ) (uid gid pid : ℕ) → len % 8 ≡ 0 → len / 8 ≡ words
+        → fdreadOf w c number len flags ms uid gid pid ≡ callOf w c 31 (args6 number (recvFdFlags flags) words (getD ms 0 0) (getD ms 1 0) 0) uid gid pid []
+    even w c number len words flags ms uid gid pid e d i =
+        cond (not (eq-eqb (len % 8) 0 e i)) (refuse w 22) (callOf w c 31 (args6 number (recvFdFlags flags) (d i) (getD ms 0 0) (getD ms 1 0) 0) uid gid pid [])
+
+    odd :
+        (w : World) (c number len flags : ℕ) (ms : List ℕ) (uid gid pid : ℕ) → (len % 8 ≡ 0 → ⊥)
+        → fdreadOf w c number len flags ms uid gid pid ≡ refuse w 22
+    odd w c number len flags ms uid gid pid e i =
+        cond (not (ne-eqb (len % 8) 0 e i)) (refuse w 22) (callOf w c 31 (fdreadArgs number len flags ms) uid gid pid [])
+
 error-is :
     (c : Bool) (e : Error) (x : ℕ) (b : Bool)
     → storedResult c (Err e) x b
@@ -67,6 +92,8 @@ spelled =
             close = λ id. refl;
             detach = λ id pid. refl;
           };
+      calls = calls-are;
+      fronts = record { written = λ r. refl; success = λ w x b. refl; error = λ e x b. refl; descriptor = λ d. refl; many = λ ds. refl };
       readings =
           record {
             success = λ v w x b. refl;

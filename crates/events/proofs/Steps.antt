@@ -35,14 +35,14 @@ use Rattle.wait_queue.proofs.Unread.{unread-more, unread-sent, unread-removed}
 use Rattle.wait_queue_receive.specs.Receive.{copied, emptyBy, receivedIf}
 use Rattle.events.specs.World.{World, tableOf, holdsOf, handlesOf, queueOf, slotIn, phaseIn, withTable, withQueue, queueFull, queued, unreadIn}
 use Rattle.events.specs.Outcome.{Answer, ok, no, wait, blocked, reply, isReply, onOk, Outcome, outcome, said, refuse, checked}
-use Rattle.events.specs.Submit.{badOpcode, badList, longList, isPlaceholder, submittable, tableFull, reserveRows, reserved, takenHolds, begun, callRows, genericRows, stdfsRows, fmapRows, queueRows, notified, submitEntry, callEntry, genericEntry, stdMeta, fmapEntry, closeEntry, detachEntry}
+use Rattle.events.specs.Submit.{badOpcode, badList, longList, isPlaceholder, submittable, tableFull, reserveRows, reserved, takenHolds, begun, callRows, callOf, fdwriteArgs, fdreadArgs, lengthRows, genericRows, stdfsRows, fmapRows, queueRows, notified, submitEntry, callEntry, genericEntry, stdMeta, fmapEntry, closeEntry, detachEntry}
 use Rattle.events.specs.Wake.{responseOf, cancelEntry, blockedBy, waitedBy, wokenBy, wakeable, wakeRows}
 use Rattle.events.specs.Entry.{isWaiting}
 use Rattle.events.specs.Complete.{writeRows, writeOn, entriesOf}
 use Rattle.events.specs.Descriptors.{requestOf, requestRows, listRows, broughtBack, moved, givenUp}
 use Rattle.events.specs.Supply.{wrongPages, suppliedAs, suppliedBy}
-use Rattle.events.specs.Event.{DriverEvent, hostPut, reserve, submit, call, generic, stdfs, fmap, close, detach, wake, read, write, move, obtain, supply, Event, hostOpen, hostCopy, hostDrop, hostEnded, on, step}
-use Rattle.events.specs.History.{Fact, to, end, gave, took, filled, Stage, free, reserved as held-back, waits, replied, mapping, Call, book, View, tells, sends, wakes, reads, writes, moves, supplies, viewOf, poured, news}
+use Rattle.events.specs.Event.{DriverEvent, hostPut, reserve, submit, call, fdwrite, fdread, generic, stdfs, fmap, close, detach, wake, read, write, move, obtain, supply, Event, hostOpen, hostCopy, hostDrop, hostEnded, on, step}
+use Rattle.events.specs.History.{Fact, to, end, gave, took, filled, Stage, free, reserved as held-back, waits, replied, mapping, Call, book, View, tells, sends, wakes, reads, writes, moves, supplies, begins, viewOf, poured, news}
 use Rattle.events.specs.Demand3.{Right, owes, due, cancelBytes}
 use Rattle.events.specs.Effects.{Rest, wakesFor}
 use Rattle.events.specs.Run.{Run}
@@ -461,13 +461,23 @@ module _ (r : Run) (whole : WellFormed (r .world)) (i : InvOf (r .world) (r .fac
         go true = down 22 refl
         go false = supply-go (phaseIn w n) refl
 
+  call-ok :
+      (e : Event) (c op : ℕ) (args : Args) (uid gid pid : ℕ) (ds : List ℕ)
+      → Ok r e (begins c (callEntry op args uid gid pid)) (callOf w c op args uid gid pid ds)
+  call-ok e c op args uid gid pid ds =
+      checked-cases (Ok r e (begins c (callEntry op args uid gid pid))) (refuse w) (callRows w op ds)
+      (begun w (waitingOf c (listOf ds)) (takenHolds w ds) (callEntry op args uid gid pid)) (unsent _ _ _ _)
+      (λ f. sent-ok (f .1 .1 .0) _ c (listOf ds) (takenHolds w ds) (callEntry op args uid gid pid) (f .1 .1 .1 .0))
+
   driver-ok : (e : DriverEvent) → Ok r (on e) (viewOf (on e)) (step w (on e))
   driver-ok (hostPut d k) = host-ok _ _ _ (put-quiet (holdsOf w) d (handlesOf w) k) i (record { queue = refl; scheme = refl })
   driver-ok (reserve c) = reserve-ok c
   driver-ok (submit n c op fl args pid ds) = submit-ok n c op fl args pid ds
-  driver-ok (call c op args uid gid pid ds) =
-      checked-cases (Ok r _ (viewOf (on (call c op args uid gid pid ds)))) (refuse w) (callRows w op ds) (begun w (waitingOf c (listOf ds)) (takenHolds w ds) (callEntry op args uid gid pid)) (unsent _ _ _ _)
-      (λ f. sent-ok (f .1 .1 .0) _ c (listOf ds) (takenHolds w ds) (callEntry op args uid gid pid) (f .1 .1 .1 .0))
+  driver-ok (call c op args uid gid pid ds) = call-ok _ c op args uid gid pid ds
+  driver-ok (fdwrite c number flags ms uid gid pid ds) = call-ok _ c 12 (fdwriteArgs number flags ms ds) uid gid pid ds
+  driver-ok (fdread c number len flags ms uid gid pid) =
+      checked-cases (Ok r _ (viewOf (on (fdread c number len flags ms uid gid pid)))) (refuse w) (lengthRows len)
+      (callOf w c 31 (fdreadArgs number len flags ms) uid gid pid []) (unsent _ _ _ _) (λ f. call-ok _ c 31 (fdreadArgs number len flags ms) uid gid pid [])
   driver-ok (generic c pid fds base len ms) =
       checked-cases (Ok r _ (viewOf (on (generic c pid fds base len ms)))) (refuse w) (genericRows w fds) (begun w (waitingOf c (listOf [])) (holdsOf w) (genericEntry 28 pid fds base len ms)) (unsent _ _ _ _)
       (λ f. sent-ok (f .1 .0) _ c (listOf []) (holdsOf w) (genericEntry 28 pid fds base len ms) (f .1 .1 .0))

@@ -22,6 +22,7 @@ use Rattle.host_ended.specs.Ended.{markedBy, markedOf, endedTable}
 use Rattle.parse_cqe.specs.declared.ParsedCqe.{ParsedCqe}
 use Rattle.parse_cqe.specs.declared.ParsedCqe.the-variants as parsed
 use Rattle.parse_cqe.specs.Parsed.{parsedOf}
+use Rattle.schemev2.specs.declared.Args.{Args}
 use Rattle.schemev2.specs.declared.Cqe.{Cqe}
 use Rattle.schemev2.specs.declared.Sqe.{Sqe}
 use Rattle.schemev2.specs.Entry.{sqeWords}
@@ -40,14 +41,14 @@ use Rattle.wait_queue.specs.Queue.{sentIf, placeOf}
 use Rattle.wait_queue_receive.specs.Receive.{receivedIf}
 use Rattle.events.specs.World.{World, freshWorld, tableOf, queueOf, holdsOf, handlesOf, slotIn, phaseIn, withTable, tableWith, withHolds, withHandles, withQueue, queueFull, queued}
 use Rattle.events.specs.Outcome.{Outcome, outcome, Row, checked, refuse}
-use Rattle.events.specs.Submit.{reserveRows, submitRows, callRows, genericRows, stdfsRows, fmapRows, queueRows, tableFull, isPlaceholder, begun, submitEntry, callEntry, genericEntry, stdMeta, fmapEntry, closeEntry, detachEntry}
+use Rattle.events.specs.Submit.{reserveRows, submitRows, callRows, callOf, fdwriteArgs, fdreadArgs, lengthRows, genericRows, stdfsRows, fmapRows, queueRows, tableFull, isPlaceholder, begun, submitEntry, callEntry, genericEntry, stdMeta, fmapEntry, closeEntry, detachEntry}
 use Rattle.events.specs.Wake.{cancelEntry, wakeable, wakeRows, blockedBy, waitedBy, wokenBy}
 use Rattle.events.specs.Read.{readOf}
 use Rattle.events.specs.Entry.{Decision, Offer, result, one, listed, keptFds, servedBy, respondBy, inHandle, handleRows, isWaiting, obtainRows, decisionOf}
 use Rattle.events.specs.Complete.{worldOf, writeRows, Entered, accepted, rejected, after, entryOf, entriesOf, stopped, onEntered, writeOn}
 use Rattle.events.specs.Descriptors.{requestOf, requestRows, listRows}
 use Rattle.events.specs.Supply.{pageRows, suppliedBy}
-use Rattle.events.specs.Event.{DriverEvent, hostPut, reserve, submit, call, generic, stdfs, fmap, close, detach, wake, read, write, move, obtain, supply, Event, hostOpen, hostCopy, hostDrop, hostEnded, on, driverStep, step}
+use Rattle.events.specs.Event.{DriverEvent, hostPut, reserve, submit, call, fdwrite, fdread, generic, stdfs, fmap, close, detach, wake, read, write, move, obtain, supply, Event, hostOpen, hostCopy, hostDrop, hostEnded, on, driverStep, step}
 use Rattle.events.specs.Run.{Run, next, runFrom, run}
 use Rattle.events.specs.WellFormed.{WellFormed}
 use Rattle.events.proofs.Checked.{Passed, checked-cases}
@@ -303,6 +304,10 @@ formed-write (e ∷ es) w i n fx = go (entryOf w e) (formed-entry w e i) (formed
     go (accepted gx u) j more = more u j (suc n) (fx ++ gx)
     go (rejected k gx u) j more = j
 
+formed-call : (w : World) → WellFormed w → (c op : ℕ) (args : Args) (uid gid pid : ℕ) (ds : List ℕ) → WellFormed (callOf w c op args uid gid pid ds .world)
+formed-call w i c op args uid gid pid ds =
+    kept w i (callRows w op ds) _ (λ p. formed-begun w i (waitingOf c (listOf ds)) _ (callEntry op args uid gid pid) refl (listOf-length ds) (p .1 .1 .0))
+
 formed-driver : (w : World) (e : DriverEvent) → WellFormed w → WellFormed (driverStep w e .world)
 formed-driver w (hostPut d k) i = formed-handles _ (formed-holds w i _) _ (put-handles (holdsOf w) (handlesOf w) d k ∙ i .handles)
 formed-driver w (reserve c) i = kept w i (reserveRows w) _ (λ p. formed-give w i (placeholderOf c) (holdsOf w) (p .0) refl refl)
@@ -312,8 +317,10 @@ formed-driver w (submit n c op fl args pid ds) i =
     formed-queued _
     (formed-put w i n (waitingOf c (listOf ds)) _ (placeholder-occupied (phaseIn w n) _ (not-false _ (p .1 .1 .0))) refl (listOf-length ds))
     (submitEntry n op fl args pid))
-formed-driver w (call c op args uid gid pid ds) i =
-    kept w i (callRows w op ds) _ (λ p. formed-begun w i (waitingOf c (listOf ds)) _ (callEntry op args uid gid pid) refl (listOf-length ds) (p .1 .1 .0))
+formed-driver w (call c op args uid gid pid ds) i = formed-call w i c op args uid gid pid ds
+formed-driver w (fdwrite c number flags ms uid gid pid ds) i = formed-call w i c 12 (fdwriteArgs number flags ms ds) uid gid pid ds
+formed-driver w (fdread c number len flags ms uid gid pid) i =
+    kept w i (lengthRows len) _ (λ p. formed-call w i c 31 (fdreadArgs number len flags ms) uid gid pid [])
 formed-driver w (generic c pid fds base len ms) i =
     kept w i (genericRows w fds) _ (λ p. formed-begun w i (waitingOf c (listOf [])) _ (genericEntry 28 pid fds base len ms) refl refl (p .1 .0))
 formed-driver w (stdfs c pid fds base len ms) i =

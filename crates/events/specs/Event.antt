@@ -1,11 +1,11 @@
--- The nineteen events of 01's runs, with any numbers, lists and bytes, and the step that each makes.
+-- The nineteen events of 01's runs and the two of 02's T-01, with any numbers, lists and bytes, and the step that each makes.
 use Prim.Native.Nat.{ℕ}
 use mathlib.Core.List.{List}
 use Rattle.schemev2.specs.declared.Args.{Args}
 use Rattle.events.specs.World.{World}
 use Rattle.events.specs.Outcome.{Outcome}
 use Rattle.events.specs.Host.{hostOpenOf, hostCopyOf, hostDropOf, hostPutOf, hostEndedOf}
-use Rattle.events.specs.Submit.{reserveOf, submitOf, callOf, genericOf, stdfsOf, fmapOf, closeOf, detachOf}
+use Rattle.events.specs.Submit.{reserveOf, submitOf, callOf, fdwriteOf, fdreadOf, genericOf, stdfsOf, fmapOf, closeOf, detachOf}
 use Rattle.events.specs.Wake.{wakeOf}
 use Rattle.events.specs.Read.{readOf}
 use Rattle.events.specs.Complete.{writeOf}
@@ -15,10 +15,12 @@ use Rattle.events.specs.Supply.{supplyOf}
 -- what concerns a driver: its handles, its callers, its own reads and writes
 pub data DriverEvent : Type 0 where
   hostPut : (d k : ℕ) → DriverEvent  -- an outside hold of description d into its handle k
-  -- callers: fds and ms are lists of words, ds a list of descriptions
+  -- callers: fds and ms (metadata) are lists of words, ds a list of descriptions
   reserve : (c : ℕ) → DriverEvent
   submit : (n c op fl : ℕ) (args : Args) (pid : ℕ) (ds : List ℕ) → DriverEvent
   call : (c op : ℕ) (args : Args) (uid gid pid : ℕ) (ds : List ℕ) → DriverEvent
+  fdwrite : (c number flags : ℕ) (ms : List ℕ) (uid gid pid : ℕ) (ds : List ℕ) → DriverEvent
+  fdread : (c number len flags : ℕ) (ms : List ℕ) (uid gid pid : ℕ) → DriverEvent
   generic : (c pid : ℕ) (fds : List ℕ) (base len : ℕ) (ms : List ℕ) → DriverEvent
   stdfs : (c pid : ℕ) (fds : List ℕ) (base len : ℕ) (ms : List ℕ) → DriverEvent
   fmap : (c id pages flags uid gid pid : ℕ) → DriverEvent
@@ -45,6 +47,8 @@ driverStep w (hostPut d k) = hostPutOf w d k
 driverStep w (reserve c) = reserveOf w c
 driverStep w (submit n c op fl args pid ds) = submitOf w n c op fl args pid ds
 driverStep w (call c op args uid gid pid ds) = callOf w c op args uid gid pid ds
+driverStep w (fdwrite c number flags ms uid gid pid ds) = fdwriteOf w c number flags ms uid gid pid ds
+driverStep w (fdread c number len flags ms uid gid pid) = fdreadOf w c number len flags ms uid gid pid
 driverStep w (generic c pid fds base len ms) = genericOf w c pid fds base len ms
 driverStep w (stdfs c pid fds base len ms) = stdfsOf w c pid fds base len ms
 driverStep w (fmap c id pages flags uid gid pid) = fmapOf w c id pages flags uid gid pid

@@ -17,7 +17,7 @@ use Rattle.schemev2.specs.Entry.{kindOf, extraOf, cqeOpcodeOf}
 use Rattle.table.specs.Table.{rising}
 use Rattle.events.specs.World.{World, holdsOf, handlesOf, slotIn, unreadIn}
 use Rattle.events.specs.Outcome.{Answer, ok, no, wait, blocked, reply, Row, row}
-use Rattle.events.specs.Event.{DriverEvent, hostPut, reserve, submit, call, generic, stdfs, fmap, close, detach, wake, read, write, move, obtain, supply, Event, hostOpen, hostCopy, hostDrop, hostEnded, on, step}
+use Rattle.events.specs.Event.{DriverEvent, hostPut, reserve, submit, call, fdwrite, fdread, generic, stdfs, fmap, close, detach, wake, read, write, move, obtain, supply, Event, hostOpen, hostCopy, hostDrop, hostEnded, on, step}
 use Rattle.events.specs.History.{What, Fact, to, end, gave, took, serve, block, interrupt, pass, filled, Stage, free, reserved, waits, replied, mapping, book, viewOf, entryAt, afterEntries, poured}
 use Rattle.events.specs.Run.{Run, turnOf, Steps}
 use Rattle.events.specs.Effects.{Rest}
@@ -97,6 +97,9 @@ wrongFdCount fds = not (eqb (length fds) 1 || eqb (length fds) 2)
 abbrev pub wrongFsKind : ℕ → Bool
 wrongFsKind k = eqb k 0 || (eqb k 9 || ltb 16 k)
 
+abbrev pub offWord : ℕ → Bool
+offWord len = not (eqb (len % 8) 0)
+
 abbrev pub offPage : ℕ → Bool
 offPage a = not (eqb (a % 4096) 0)
 
@@ -171,6 +174,16 @@ driverAnswer r (call c op args uid gid pid ds) =
     ∷ row 203 (all128Unread (r .world))
     ∷ [])
     (ok (nextTag (r .facts)))
+driverAnswer r (fdwrite c number flags ms uid gid pid ds) =
+    ruled
+    (row 205 (listLacks (r .world) ds)
+    ∷ row 206 (ltb 16 (length ds))
+    ∷ row 202 (noTagVacant (r .facts))
+    ∷ row 203 (all128Unread (r .world))
+    ∷ [])
+    (ok (nextTag (r .facts)))
+driverAnswer r (fdread c number len flags ms uid gid pid) =
+    ruled (row 22 (offWord len) ∷ row 202 (noTagVacant (r .facts)) ∷ row 203 (all128Unread (r .world)) ∷ []) (ok (nextTag (r .facts)))
 driverAnswer r (generic c pid fds base len ms) =
     ruled (row 22 (wrongFdCount fds) ∷ row 202 (noTagVacant (r .facts)) ∷ row 203 (all128Unread (r .world)) ∷ []) (ok (nextTag (r .facts)))
 driverAnswer r (stdfs c pid fds base len ms) =

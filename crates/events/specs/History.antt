@@ -16,10 +16,10 @@ use Rattle.schemev2.specs.Entry.{kindOf, cqeOpcodeOf}
 use Rattle.slot.specs.declared.PageSpan.{PageSpan}
 use Rattle.events.specs.World.{World, handlesOf, slotIn}
 use Rattle.events.specs.Outcome.{Response, Answer, ok, no, wait, blocked, reply, onOk}
-use Rattle.events.specs.Submit.{submitEntry, callEntry, genericEntry, stdMeta, fmapEntry, closeEntry, detachEntry}
+use Rattle.events.specs.Submit.{submitEntry, callEntry, fdwriteArgs, fdreadArgs, genericEntry, stdMeta, fmapEntry, closeEntry, detachEntry}
 use Rattle.events.specs.Entry.{Offer, result, one, listed, responseTo, inHandle}
 use Rattle.events.specs.Complete.{worldOf, entryOf}
-use Rattle.events.specs.Event.{DriverEvent, hostPut, reserve, submit, call, generic, stdfs, fmap, close, detach, wake, read, write, move, obtain, supply, Event, hostOpen, hostCopy, hostDrop, hostEnded, on}
+use Rattle.events.specs.Event.{DriverEvent, hostPut, reserve, submit, call, fdwrite, fdread, generic, stdfs, fmap, close, detach, wake, read, write, move, obtain, supply, Event, hostOpen, hostCopy, hostDrop, hostEnded, on}
 
 -- how far the call or map request is that a tag was last given out for; it is the tag's until given out again
 pub data Stage : Type 0 where
@@ -99,6 +99,8 @@ driverView (hostPut d k) = plain  -- the host's fifth event
 driverView (reserve c) = tells (λ n. to n (gave false c) ∷ [])  -- "a call from the start, submitted or not"
 driverView (submit n c op fl args pid ds) = sends (λ v. to n took ∷ []) (λ v. submitEntry n op fl args pid) eventRead
 driverView (call c op args uid gid pid ds) = begins c (callEntry op args uid gid pid)
+driverView (fdwrite c number flags ms uid gid pid ds) = begins c (callEntry opcode.sendfd (fdwriteArgs number flags ms ds) uid gid pid)
+driverView (fdread c number len flags ms uid gid pid) = begins c (callEntry opcode.recvfd (fdreadArgs number len flags ms) uid gid pid)
 driverView (generic c pid fds base len ms) = begins c (genericEntry opcode.call pid fds base len ms)
 driverView (stdfs c pid fds base len ms) = begins c (genericEntry opcode.stdFsCall pid fds base len (stdMeta ms))
 driverView (fmap c id pages flags uid gid pid) = sends (λ n. to n (gave true c) ∷ []) (fmapEntry id pages flags uid gid pid) eventRead

@@ -1,7 +1,8 @@
 -- How a reply is read by whoever made the call (01, "Reading replies"; src/scheme/user.rs: `into_regular` 71, `call_generic`
--- 1431 to 1445, `kopenat` 1472, `kdup` 1705; `from_extra0`, src/context/file.rs, line 92).
+-- 1431 to 1445, `kopenat` 1472, `kdup` 1705, `kfdwrite` 1990, `kfdread` 2027 to 2045; `from_extra0`, src/context/file.rs, line 92).
 use Prim.Native.Nat.{ℕ}
 use mathlib.Core.Bool.{Bool, true, false}
+use lib.ListN.{length}
 use Rattle.flag.specs.Flags.{within, newFdFlags}
 use Rattle.events.specs.Outcome.{Response, success, error, descriptor, many, Answer, ok, no}
 
@@ -21,6 +22,17 @@ noticeOf (success w x b) = b
 noticeOf (error e x b) = b
 noticeOf (descriptor d) = false
 noticeOf (many ds) = false
+
+-- `kfdwrite`: the same, with no notice
+abbrev pub kfdwriteOf : Response → Answer
+kfdwriteOf r = intoRegularOf r
+
+-- `kfdread`: many descriptors are their count, none or some; anything else but an error is EIO
+abbrev pub kfdreadOf : Response → Answer
+kfdreadOf (success w x b) = no 5
+kfdreadOf (error e x b) = no e
+kfdreadOf (descriptor d) = no 5
+kfdreadOf (many ds) = ok (length ds)
 
 -- `OpenResult`: a number of the scheme's own with its flags, or a description; or a refusal
 pub data Opened : Type 0 where

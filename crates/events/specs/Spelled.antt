@@ -1,6 +1,7 @@
 -- What the claims take over from the definitions, spelled out by itself: the state at the start, the entry that each event queues,
--- how a reply entry is read, and what EINTR leaves in a slot. A wrong one of these would be wrong on both sides of a claim.
-use Prim.Native.Nat.{ℕ, suc, _+_, _*_, _%_}
+-- which `call` two events are and how their reply is read, how a reply entry is read, and what EINTR leaves in a slot. A wrong one
+-- of these would be wrong on both sides of a claim.
+use Prim.Native.Nat.{ℕ, suc, _+_, _*_, _%_, _<_}
 use mathlib.Core.Path.{_≡_}
 use mathlib.Core.Bool.{Bool, true, cond}
 use mathlib.Core.List.{List, [], _∷_}
@@ -10,7 +11,7 @@ use Rattle.error.specs.declared.Error.{Error}
 use Rattle.error.specs.declared.Result.the-variants.{Ok, Err}
 use Rattle.error.specs.Reference.{asUsize}
 use Rattle.fd_list.specs.Lists.{numbers}
-use Rattle.flag.specs.Flags.{sqeMultipleIds}
+use Rattle.flag.specs.Flags.{within, fdExclusive, fdUpper, sendFdExclusive, recvFdUpperTbl, sqeMultipleIds}
 use Rattle.handles.specs.declared.Handles.{Handles}
 use Rattle.handles.specs.Handles.{heldAt}
 use Rattle.schemev2.specs.declared.Args.{Args}
@@ -19,10 +20,12 @@ use Rattle.slot.specs.declared.PageSpan.{PageSpan}
 use Rattle.slot.specs.declared.Phase.the-variants.{Vacant}
 use Rattle.slot.specs.declared.Slot.{Slot}
 use Rattle.slot.specs.Slots.{interruptedOf}
-use Rattle.events.specs.World.{freshWorld, schemeOf, holdsOf, handlesOf, phaseIn, unreadIn}
-use Rattle.events.specs.Outcome.{success, error, descriptor, many}
-use Rattle.events.specs.Submit.{submitEntry, callEntry, genericEntry, stdMeta, fmapEntry, closeEntry, detachEntry}
+use Rattle.events.specs.World.{World, freshWorld, schemeOf, holdsOf, handlesOf, phaseIn, unreadIn}
+use Rattle.events.specs.Outcome.{Response, success, error, descriptor, many, ok, no, refuse}
+use Rattle.events.specs.Submit.{args6, submitEntry, callEntry, genericEntry, stdMeta, fmapEntry, closeEntry, detachEntry}
 use Rattle.events.specs.Entry.{result, one, listed, responseTo, inHandle}
+use Rattle.events.specs.Replies.{intoRegularOf, kfdwriteOf, kfdreadOf}
+use Rattle.events.specs.Event.{call, fdwrite, fdread, on, step}
 
 -- "A fresh state has every slot vacant, the queue and handles empty, no description open, and is given the scheme number"
 pub record Started (scheme : ℕ) (words : List ℕ) : Type 0 where
@@ -67,6 +70,29 @@ pub record Queued : Type 0 where
   pub close : (id : ℕ) → sqeWords (closeEntry id) ≡ words8 27 0 0 id 0 0 0 0 0 0
   pub detach : (id pid : ℕ) → sqeWords (detachEntry id pid) ≡ words8 34 0 0 id 0 0 0 0 0 pid
 
+-- 02, T-01: "arguments number, send flags, first metadata word or 0, and list length"; "a payload length that isn't a multiple of 8
+-- with EINVAL before taking a slot. It then sends number, receive flags, length/8 and two metadata words, each 0 where absent"
+pub record AreCalls : Type 0 where
+  pub kfdwrite :
+      (w : World) (c number flags : ℕ) (ms : List ℕ) (uid gid pid : ℕ) (ds : List ℕ)
+      → step w (on (fdwrite c number flags ms uid gid pid ds))
+      ≡ step w (on (call c 12 (args6 number (cond (within flags fdExclusive) sendFdExclusive 0) (getD ms 0 0) (length ds) 0 0) uid gid pid ds))
+  pub kfdread :
+      (w : World) (c number words flags : ℕ) (ms : List ℕ) (uid gid pid : ℕ)
+      → step w (on (fdread c number (8 * words) flags ms uid gid pid))
+      ≡ step w (on (call c 31 (args6 number (cond (within flags fdUpper) recvFdUpperTbl 0) words (getD ms 0 0) (getD ms 1 0) 0) uid gid pid []))
+  pub refused :
+      (w : World) (c number words k flags : ℕ) (ms : List ℕ) (uid gid pid : ℕ)
+      → 0 < k → k < 8 → step w (on (fdread c number (8 * words + k) flags ms uid gid pid)) ≡ refuse w 22
+
+-- "A regular success or a single descriptor in reply to it is EIO; an error passes through; many descriptors [..] their count"
+pub record Fronts : Type 0 where
+  pub written : (r : Response) → kfdwriteOf r ≡ intoRegularOf r
+  pub success : (w x : ℕ) (b : Bool) → kfdreadOf (success w x b) ≡ no 5
+  pub error : (e x : ℕ) (b : Bool) → kfdreadOf (error e x b) ≡ no e
+  pub descriptor : (d : ℕ) → kfdreadOf (descriptor d) ≡ no 5
+  pub many : (ds : List ℕ) → kfdreadOf (many ds) ≡ ok (length ds)
+
 -- 01, "Completions": "cancelling and ECANCELED is stored as EINTR; not cancelling and EINTR as EIO"; kind 4 stores the slot's list
 pub record Readings : Type 0 where
   pub success : (v : Slot) (w x : ℕ) (b : Bool) → responseTo v (result (Ok w) x b) ≡ success w x b
@@ -80,6 +106,8 @@ pub record Readings : Type 0 where
 pub record Spelled : Type 0 where
   pub started : (scheme : ℕ) (words : List ℕ) → Started scheme words
   pub queued : Queued
+  pub calls : AreCalls
+  pub fronts : Fronts
   pub readings : Readings
   -- "mark cancelling and returned, put the span in the slot"
   pub interrupted :

@@ -1,13 +1,14 @@
 -- Giving slots out and queuing entries (01, "Submitting"; src/scheme/user.rs: `next_id` 185, `call` 195, `call_inner` 225 to
--- 254, `request_fmap` 756, `call_generic` 1384, `close` 1641, `detach` 1663, `translate_std_fs_call` 2048).
-use Prim.Native.Nat.{ℕ, _+_, _%_}
+-- 254, `request_fmap` 756, `call_generic` 1384, `close` 1641, `detach` 1663, `kfdwrite` 1958, `kfdread` 1992,
+-- `translate_std_fs_call` 2048).
+use Prim.Native.Nat.{ℕ, _+_, _/_, _%_}
 use mathlib.Core.Bool.{Bool, true, false, not, cond, _||_, _&&_}
 use mathlib.Core.List.{List, [], _∷_}
 use lib.Dec.{ltb, leb, eqb}
 use lib.ListN.{length, getD}
 use Rattle.counts.specs.Counts.{any}
 use Rattle.fd_list.specs.Lists.{listOf}
-use Rattle.flag.specs.Flags.{eventRead, eventHup, sqeMultipleIds}
+use Rattle.flag.specs.Flags.{eventRead, eventHup, sendFdFlags, recvFdFlags, sqeMultipleIds}
 use Rattle.holds.specs.declared.Holds.{Holds}
 use Rattle.opcode.specs.Opcodes as opcode
 use Rattle.schemev2.specs.declared.Args.{Args}
@@ -102,6 +103,25 @@ callRows w op ds = row 205 (badOpcode op || badList w ds) ∷ row 206 (longList 
 abbrev pub callOf : World → ℕ → ℕ → Args → ℕ → ℕ → ℕ → List ℕ → Outcome
 callOf w c op args uid gid pid ds =
     checked (refuse w) (callRows w op ds) (begun w (waitingOf c (listOf ds)) (takenHolds w ds) (callEntry op args uid gid pid))
+
+-- `kfdwrite`: a `call` that sends its list; what the flags say, and the list's length, are among its arguments
+abbrev pub fdwriteArgs : ℕ → ℕ → List ℕ → List ℕ → Args
+fdwriteArgs number flags ms ds = args6 number (sendFdFlags flags) (getD ms 0 0) (length ds) 0 0
+
+abbrev pub fdwriteOf : World → ℕ → ℕ → ℕ → List ℕ → ℕ → ℕ → ℕ → List ℕ → Outcome
+fdwriteOf w c number flags ms uid gid pid ds = callOf w c opcode.sendfd (fdwriteArgs number flags ms ds) uid gid pid ds
+
+-- `kfdread`: a `call` without a list, for a payload of so many words of eight bytes
+abbrev pub fdreadArgs : ℕ → ℕ → ℕ → List ℕ → Args
+fdreadArgs number len flags ms = args6 number (recvFdFlags flags) (len / 8) (getD ms 0 0) (getD ms 1 0) 0
+
+-- the length first, before a slot is looked for
+abbrev pub lengthRows : ℕ → List Row
+lengthRows len = row 22 (not (eqb (len % 8) 0)) ∷ []
+
+abbrev pub fdreadOf : World → ℕ → ℕ → ℕ → ℕ → List ℕ → ℕ → ℕ → ℕ → Outcome
+fdreadOf w c number len flags ms uid gid pid =
+    checked (refuse w) (lengthRows len) (callOf w c opcode.recvfd (fdreadArgs number len flags ms) uid gid pid [])
 
 -- `call_generic` and `translate_std_fs_call`: one or two fds, the payload's address and length, metadata words
 abbrev pub wrongFds : List ℕ → Bool

@@ -1,6 +1,6 @@
 // Flag bits and masks of the commit. A set of bits is known where no bit lies outside its mask, as `from_bits` has it.
 ghost use mathlib.Core.Path.{_≡_};
-ghost use Rattle.flag.specs.Flags.{within, eventRead, eventHup, eventFlags, fobtainFdFlags, newFdFlags, sqeOneway, sqeMultipleIds};
+ghost use Rattle.flag.specs.Flags.{within, eventRead, eventHup, eventFlags, fobtainFdFlags, newFdFlags, sendFdFlags, recvFdFlags, sqeOneway, sqeMultipleIds};
 
 // `EventFlags`: syscall/src/flag.rs, lines 46 to 53.
 const EVENT_READ: u64 = 1;
@@ -62,6 +62,36 @@ pub fn new_fd_flags_known(bits: u64) -> bool
     ensures { λ r. ⌜ r ≡ within newFdFlags bits ⌝ }
 {
     NEW_FD_FLAGS & bits == bits
+}
+
+// `CallFlags`: syscall/src/flag.rs, lines 493 and 495.
+const FD_EXCLUSIVE: u64 = 0x1000;
+
+const FD_UPPER: u64 = 0x4000;
+
+// `SendFdFlags`, line 74, and `RecvFdFlags`, line 112.
+const SEND_FD_EXCLUSIVE: u64 = 1;
+
+const RECV_FD_UPPER_TBL: u64 = 2;
+
+// What a driver is told of a call's flags: one bit of them, and none of the others (src/scheme/user.rs, lines 1968 to 1971 and
+// 2005 to 2008).
+pub fn send_fd_flags(bits: u64) -> u64
+    ensures { λ r. ⌜ r ≡ sendFdFlags bits ⌝ }
+{
+    if bits & FD_EXCLUSIVE == FD_EXCLUSIVE {
+        return SEND_FD_EXCLUSIVE;
+    }
+    0
+}
+
+pub fn recv_fd_flags(bits: u64) -> u64
+    ensures { λ r. ⌜ r ≡ recvFdFlags bits ⌝ }
+{
+    if bits & FD_UPPER == FD_UPPER {
+        return RECV_FD_UPPER_TBL;
+    }
+    0
 }
 
 // `SqeFlags`: syscall/src/schemev2.rs, lines 45 to 53.

@@ -7,7 +7,7 @@ ghost use lib.ListN.{getD};
 ghost use Rattle.events.specs.Submit.{genericEntry, wrongKind};
 
 // Word i, 0 where there is none.
-fn word_or_zero(words: &[u64], i: usize) -> u64
+pub fn word_or_zero(words: &[u64], i: usize) -> u64
     ensures { λ r. ⌜ r ≡ getD (now (words .entry)) i 0 ⌝ }
 {
     if words.len() <= i {

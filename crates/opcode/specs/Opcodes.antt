@@ -20,6 +20,9 @@ opcodes =
     3 ∷ 4 ∷ 5 ∷ 6 ∷ 7 ∷ 8 ∷ 9 ∷ 10 ∷ 11 ∷ 12 ∷ 13 ∷ 14 ∷ 15 ∷ 16 ∷ 17 ∷ 18 ∷ 19 ∷ 20 ∷ 21 ∷ 22 ∷ 23 ∷ 24 ∷ 25 ∷ 26 ∷ 27 ∷ 28 ∷ 29 ∷ 30 ∷ 31 ∷ 32 ∷ 33 ∷ 34 ∷ []
 
 -- those of the layer's own entries, by name
+abbrev pub sendfd : ℕ
+sendfd = getD opcodes 9 0
+
 abbrev pub requestMmap : ℕ
 requestMmap = getD opcodes 18 0
 
@@ -31,6 +34,9 @@ closeMsg = getD opcodes 24 0
 
 abbrev pub call : ℕ
 call = getD opcodes 25 0
+
+abbrev pub recvfd : ℕ
+recvfd = getD opcodes 28 0
 
 abbrev pub stdFsCall : ℕ
 stdFsCall = getD opcodes 30 0

@@ -1,6 +1,6 @@
 // The opcodes of submission entries: `Opcode::try_from_raw` (syscall/src/schemev2.rs, lines 168 to 212).
 ghost use mathlib.Core.Path.{_≡_};
-ghost use Rattle.opcode.specs.Opcodes.{opcodeOf, requestMmap, cancel, closeMsg, call, stdFsCall, detach};
+ghost use Rattle.opcode.specs.Opcodes.{opcodeOf, sendfd, requestMmap, cancel, closeMsg, call, recvfd, stdFsCall, detach};
 
 // The Rust's `enum Opcode`, in its order.
 const OPCODES: [u8; 32] = [
@@ -64,6 +64,12 @@ pub fn try_from_raw(raw: u64) -> RawOpcode
 }
 
 // The opcodes of the layer's own entries.
+pub fn sendfd() -> u8
+    ensures { λ r. ⌜ r ≡ sendfd ⌝ }
+{
+    OPCODES[9]
+}
+
 pub fn request_mmap() -> u8
     ensures { λ r. ⌜ r ≡ requestMmap ⌝ }
 {
@@ -86,6 +92,12 @@ pub fn call() -> u8
     ensures { λ r. ⌜ r ≡ call ⌝ }
 {
     OPCODES[25]
+}
+
+pub fn recvfd() -> u8
+    ensures { λ r. ⌜ r ≡ recvfd ⌝ }
+{
+    OPCODES[28]
 }
 
 pub fn std_fs_call() -> u8

@@ -9,16 +9,18 @@ use lib.ListN.{drop, length, replicate}
 use lib.Seq.{getD-drop}
 use Rattle.counts.proofs.Laws.{lessAll-length, moreAll-length}
 use Rattle.fd_list.specs.Lists.{numbers, listOf}
+use Rattle.opcode.specs.Opcodes as opcode
+use Rattle.schemev2.specs.declared.Args.{Args}
 use Rattle.schemev2.specs.declared.Cqe.{Cqe}
 use Rattle.slot.specs.Slots.{noFds, vacantSlot}
 use Rattle.events.specs.World.{World, freshWorld, holdsOf, slotIn, phaseIn}
-use Rattle.events.specs.Submit.{takenHolds, badOpcode, badList, reserveRows, submitRows, callRows, genericRows, stdfsRows, fmapRows, queueRows}
+use Rattle.events.specs.Submit.{takenHolds, badOpcode, badList, reserveRows, submitRows, callRows, fdwriteArgs, fdreadArgs, lengthRows, genericRows, stdfsRows, fmapRows, queueRows}
 use Rattle.events.specs.Wake.{wakeable, wakeRows}
 use Rattle.events.specs.Entry.{dropped}
 use Rattle.events.specs.Complete.{cut, entriesOf, writeRows}
 use Rattle.events.specs.Descriptors.{requestOf, requestRows, listRows}
 use Rattle.events.specs.Supply.{pageRows}
-use Rattle.events.specs.Event.{DriverEvent, hostPut, reserve, submit, call, generic, stdfs, fmap, close, detach, wake, read, write, move, obtain, supply, Event, hostOpen, hostCopy, hostDrop, hostEnded, on, step}
+use Rattle.events.specs.Event.{DriverEvent, hostPut, reserve, submit, call, fdwrite, fdread, generic, stdfs, fmap, close, detach, wake, read, write, move, obtain, supply, Event, hostOpen, hostCopy, hostDrop, hostEnded, on, step}
 use Rattle.events.proofs.Checked.{checked-cases}
 use Rattle.layout.specs.Layout.{plainOf, packedOf}
 use Rattle.layout.specs.Fits.{SlotsFit, Fits}
@@ -26,9 +28,9 @@ use Rattle.layout.specs.Store.{Store, stored, storedAll, StoresFit}
 use Rattle.layout.proofs.Back.{none-fits, vacant-fits}
 use Rattle.layout.proofs.Worlds.{plain-fits, stored-plain, stored-length, stored-all-length, stored-all-plain}
 use Rattle.layout.proofs.Packs.{fits-long, packed-long, plain-packed, stored-packed}
-use Rattle.packed.specs.Stores.{counts, entryStores, goneOn, writeStores, driverStores, storesOf}
+use Rattle.packed.specs.Stores.{callStores, counts, entryStores, goneOn, writeStores, driverStores, storesOf}
 use Rattle.packed.specs.Step.{wordsAfter, Seen, seen, packedRun, plainRun, wordsRun, freshWords}
-use Rattle.packed.specs.Agree.{DriverEventFits, EventFits, EventsFit, StepsAgree, LayoutsAgree, WordsReturn}
+use Rattle.packed.specs.Agree.{CallerFits, DriverEventFits, EventFits, EventsFit, StepsAgree, LayoutsAgree, WordsReturn}
 use Rattle.packed.proofs.Changes.{event-leaves, decided, left, entered, after-is}
 use Rattle.packed.proofs.Fit.{Small, append-fits, made-fits, fds-changed, slot-in-fits, entry-fits, unless-fits, taken-long, all-long, listed-fits, woken-fits, supplied-fits, marks-fit, open-fits, copy-fits, drop-fits, put-fits}
 
@@ -72,15 +74,21 @@ module _ (ws : List ℕ) (size : length ws ≡ 2060) where
   abbrev f : Fits w
   f = plain-fits ws size
 
+  call-fits : (c op : ℕ) (args : Args) (uid gid pid : ℕ) (ds : List ℕ) → CallerFits c → StoresFit (callStores w c op args uid gid pid ds)
+  call-fits c op args uid gid pid ds g =
+      unless-fits w f (callRows w op ds) _
+      (λ p. (taken-long w f ds, (made-fits 2 c (listOf ds) (omega arith) g (listed-fits w f ds (or-false (badOpcode op) (badList w ds) (p .0)) (p .1 .0)), (tt, tt))))
+
   driver-fits : (e : DriverEvent) → DriverEventFits e → StoresFit (driverStores w e)
   driver-fits (hostPut d k) g = put-fits w f d k
   driver-fits (reserve c) g = unless-fits w f (reserveRows w) _ (λ p. (made-fits 1 c noFds (omega arith) g none-fits, tt))
   driver-fits (submit n c op fl args pid ds) g =
       unless-fits w f (submitRows w n c op ds) _
       (λ p. (taken-long w f ds, (made-fits 2 c (listOf ds) (omega arith) g (listed-fits w f ds (or-false (badOpcode op) (badList w ds) (p .0)) (p .1 .0)), (tt, tt))))
-  driver-fits (call c op args uid gid pid ds) g =
-      unless-fits w f (callRows w op ds) _
-      (λ p. (taken-long w f ds, (made-fits 2 c (listOf ds) (omega arith) g (listed-fits w f ds (or-false (badOpcode op) (badList w ds) (p .0)) (p .1 .0)), (tt, tt))))
+  driver-fits (call c op args uid gid pid ds) g = call-fits c op args uid gid pid ds g
+  driver-fits (fdwrite c number flags ms uid gid pid ds) g = call-fits c opcode.sendfd (fdwriteArgs number flags ms ds) uid gid pid ds g
+  driver-fits (fdread c number len flags ms uid gid pid) g =
+      unless-fits w f (lengthRows len) _ (λ p. call-fits c opcode.recvfd (fdreadArgs number len flags ms) uid gid pid [] g)
   driver-fits (generic c pid fds base len ms) g = unless-fits w f (genericRows w fds) _ (λ p. (made-fits 2 c noFds (omega arith) g none-fits, (tt, tt)))
   driver-fits (stdfs c pid fds base len ms) g = unless-fits w f (stdfsRows w fds ms) _ (λ p. (made-fits 2 c noFds (omega arith) g none-fits, (tt, tt)))
   driver-fits (fmap c id pages flags uid gid pid) g = unless-fits w f (fmapRows w) _ (λ p. (made-fits 4 c noFds (omega arith) g none-fits, (tt, tt)))

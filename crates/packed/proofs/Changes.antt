@@ -18,6 +18,7 @@ use Rattle.host_ended.specs.Ended.{markedBy, markedOf}
 use Rattle.host_ended.proofs.Marks.{mapTo, more, all as all-mapped}
 use Rattle.opcode.specs.Opcodes as opcode
 use Rattle.parse_cqe.specs.Parsed.{parsedOf}
+use Rattle.schemev2.specs.declared.Args.{Args}
 use Rattle.schemev2.specs.declared.Cqe.{Cqe}
 use Rattle.schemev2.specs.declared.Sqe.{Sqe}
 use Rattle.slot.specs.declared.Act.{Act}
@@ -33,16 +34,16 @@ use Rattle.take_holds.specs.declared.TakeAnswer.the-variants as take
 use Rattle.take_holds.specs.Take.{takenAs, bad}
 use Rattle.events.specs.World.{World, tableOf, holdsOf, handlesOf, slotIn, phaseIn, withTable, withHandles, tableWith, queueFull, queued}
 use Rattle.events.specs.Outcome.{Outcome, outcome, Row, checked, refuse}
-use Rattle.events.specs.Submit.{takenHolds, tableFull, reserveRows, submitRows, callRows, genericRows, stdfsRows, fmapRows, queueRows, reserved, submitEntry, submitted, callEntry, genericEntry, stdMeta, fmapEntry, closeEntry, detachEntry, notified, begun}
+use Rattle.events.specs.Submit.{takenHolds, tableFull, reserveRows, submitRows, callRows, callOf, fdwriteArgs, fdreadArgs, lengthRows, genericRows, stdfsRows, fmapRows, queueRows, reserved, submitEntry, submitted, callEntry, genericEntry, stdMeta, fmapEntry, closeEntry, detachEntry, notified, begun}
 use Rattle.events.specs.Wake.{responseOf, heldIn, wakeable, wakeRows, blockedBy, waitedBy, wokenBy}
 use Rattle.events.specs.Entry.{Decision, decisionOf, dropped, isVacant}
 use Rattle.events.specs.Complete.{Entered, accepted, rejected, after, entriesOf, stopped, onEntered, writeOn, writeRows}
 use Rattle.events.specs.Descriptors.{requestOf, requestRows, listRows, broughtBack, moved, givenUp}
 use Rattle.events.specs.Supply.{pageRows, suppliedBy}
-use Rattle.events.specs.Event.{DriverEvent, hostPut, reserve, submit, call, generic, stdfs, fmap, close, detach, wake, read, write, move, obtain, supply, Event, hostOpen, hostCopy, hostDrop, hostEnded, on, driverStep, step}
+use Rattle.events.specs.Event.{DriverEvent, hostPut, reserve, submit, call, fdwrite, fdread, generic, stdfs, fmap, close, detach, wake, read, write, move, obtain, supply, Event, hostOpen, hostCopy, hostDrop, hostEnded, on, driverStep, step}
 use Rattle.events.proofs.Checked.{Passed}
 use Rattle.layout.specs.Store.{Store, put, give, send, outside, handles, changed, changedAll}
-use Rattle.packed.specs.Stores.{unless, counts, taken, has, marks, blockedStores, waitedStores, wokenStores, decidedStores, entryStores, goneOn, writeStores, suppliedStores, driverStores, storesOf}
+use Rattle.packed.specs.Stores.{callStores, unless, counts, taken, has, marks, blockedStores, waitedStores, wokenStores, decidedStores, entryStores, goneOn, writeStores, suppliedStores, driverStores, storesOf}
 
 -- two refusal tables with the same rows
 pub both-checked :
@@ -236,16 +237,23 @@ module _ (w : World) where
       (counts (dropped (takenHolds w ds) (numbers (slotIn w (requestOf ms) .fds))) ++ put (requestOf ms) (withFdsOf (slotIn w (requestOf ms)) (listOf ds)) ∷ [])
       (λ k. refl) (λ p. ap (withTable w) (put-with (tableOf w) (dropped (takenHolds w ds) (numbers (slotIn w (requestOf ms) .fds))) (requestOf ms) (withFdsOf (slotIn w (requestOf ms)) (listOf ds))))
 
+  one-call : (c op : ℕ) (args : Args) (uid gid pid : ℕ) (ds : List ℕ) → Leaves w (callOf w c op args uid gid pid ds) (callStores w c op args uid gid pid ds)
+  one-call c op args uid gid pid ds =
+      let v : Slot = waitingOf c (listOf ds) in
+      let e : (ℕ → Sqe) = callEntry op args uid gid pid in
+      turned w (callRows w op ds) (begun w v (takenHolds w ds) e) (taken w ds ∷ give v ∷ send (e (tableOf w .head)) ∷ []) (λ p. call-leaves v ds e (p .1 .1 .0))
+
   driver-leaves : (e : DriverEvent) → Leaves w (driverStep w e) (driverStores w e)
   driver-leaves (hostPut d k) = refl
   driver-leaves (reserve c) = turned w (reserveRows w) (reserved w c) (give (placeholderOf c) ∷ []) (λ p. rw (p .0) refl)
   driver-leaves (submit n c op fl args pid ds) =
       let e : Sqe = submitEntry n op fl args pid in
       turned w (submitRows w n c op ds) (submitted w n c ds e) (taken w ds ∷ put n (waitingOf c (listOf ds)) ∷ send e ∷ []) (λ p. submit-leaves n c ds e)
-  driver-leaves (call c op args uid gid pid ds) =
-      let v : Slot = waitingOf c (listOf ds) in
-      let e : (ℕ → Sqe) = callEntry op args uid gid pid in
-      turned w (callRows w op ds) (begun w v (takenHolds w ds) e) (taken w ds ∷ give v ∷ send (e (tableOf w .head)) ∷ []) (λ p. call-leaves v ds e (p .1 .1 .0))
+  driver-leaves (call c op args uid gid pid ds) = one-call c op args uid gid pid ds
+  driver-leaves (fdwrite c number flags ms uid gid pid ds) = one-call c opcode.sendfd (fdwriteArgs number flags ms ds) uid gid pid ds
+  driver-leaves (fdread c number len flags ms uid gid pid) =
+      let args : Args = fdreadArgs number len flags ms in
+      turned w (lengthRows len) (callOf w c opcode.recvfd args uid gid pid []) (callStores w c opcode.recvfd args uid gid pid []) (λ p. one-call c opcode.recvfd args uid gid pid [])
   driver-leaves (generic c pid fds base len ms) =
       let v : Slot = waitingOf c noFds in
       let e : (ℕ → Sqe) = genericEntry opcode.call pid fds base len ms in

@@ -21,6 +21,7 @@ use Rattle.host_put.specs.declared.HoldPut.{HoldPut}
 use Rattle.host_put.specs.Put.{inside, put as put-hold}
 use Rattle.opcode.specs.Opcodes as opcode
 use Rattle.parse_cqe.specs.Parsed.{eventIf, obtainIf, parsedBy, parsedOf}
+use Rattle.schemev2.specs.declared.Args.{Args}
 use Rattle.schemev2.specs.declared.Cqe.{Cqe}
 use Rattle.schemev2.specs.declared.CqeOpcode.{CqeOpcode}
 use Rattle.schemev2.specs.declared.CqeOpcode.the-variants.{RespondRegular, RespondWithFd, SendFevent, ObtainFd, RespondWithMultipleFds, RespondAndNotifyOnDetach, Unknown}
@@ -34,20 +35,20 @@ use Rattle.slot.specs.Slots.{phaseOf, noFds, placeholderOf, waitingOf, mapReque
 use Rattle.wait_queue_receive.specs.Receive.{receivedIf}
 use Rattle.events.specs.World.{World, tableOf, holdsOf, handlesOf, queueOf, slotIn, phaseIn, queueFull}
 use Rattle.events.specs.Outcome.{Answer, ok, no, wait, onAnswer, said, Outcome, outcome, Row, checked, refuse}
-use Rattle.events.specs.Submit.{takenHolds, reserveRows, reserved, submitRows, submitEntry, submitted, callRows, callEntry, genericRows, genericEntry, stdfsRows, stdMeta, fmapRows, fmapEntry, queueRows, closeEntry, detachEntry, notified, begun}
+use Rattle.events.specs.Submit.{takenHolds, reserveRows, reserved, submitRows, submitEntry, submitted, callRows, callOf, fdwriteArgs, fdreadArgs, lengthRows, callEntry, genericRows, genericEntry, stdfsRows, stdMeta, fmapRows, fmapEntry, queueRows, closeEntry, detachEntry, notified, begun}
 use Rattle.events.specs.Wake.{wakeable, wakeRows, blockedBy, waitedBy, wokenBy}
 use Rattle.events.specs.Entry.{Decision, dropped, Offer, result, one, listed, namedOf, refusedOf, servedBy, respondBy, inHandle, takenOut, byDescriptor, obtainRows, obtained, decisionOf}
 use Rattle.events.specs.Complete.{Entered, accepted, rejected, after, entryOf, cut, entriesOf, stopped, onEntered, writeOn}
 use Rattle.events.specs.Descriptors.{requestOf, requestRows, listRows, broughtBack, moved, givenUp}
 use Rattle.events.specs.Supply.{pageRows, suppliedAs, suppliedBy}
-use Rattle.events.specs.Event.{DriverEvent, hostPut, reserve, submit, call, generic, stdfs, fmap, close, detach, wake, read, write, move, obtain, supply, Event, hostOpen, hostCopy, hostDrop, hostEnded, on, driverStep, step}
+use Rattle.events.specs.Event.{DriverEvent, hostPut, reserve, submit, call, fdwrite, fdread, generic, stdfs, fmap, close, detach, wake, read, write, move, obtain, supply, Event, hostOpen, hostCopy, hostDrop, hostEnded, on, driverStep, step}
 use Rattle.events.specs.History.{viewOf}
 use Rattle.events.proofs.Checked.{Passed, checked-cases}
 use Rattle.layout.specs.Layout.{plainOf}
 use Rattle.layout.specs.Store.{Store, put, give, vacate, send, queue, outside, all, handles, stored, storedAll}
 use Rattle.layout.proofs.Regions.{same-part}
 use Rattle.layout.proofs.Worlds.{all-is, outside-is, handles-is, first-is, unread-is}
-use Rattle.packed.specs.Stores.{counts, taken, blockedStores, waitedStores, wokenStores, decidedStores, entryStores, goneOn, writeStores, suppliedStores, driverStores, storesOf}
+use Rattle.packed.specs.Stores.{callStores, counts, taken, blockedStores, waitedStores, wokenStores, decidedStores, entryStores, goneOn, writeStores, suppliedStores, driverStores, storesOf}
 use Rattle.packed.specs.Refusals.{leftBy, leftStores, WordsStay}
 
 -- 1 for a refusal, 2 for a wait, else 0; the number of a refusal
@@ -289,16 +290,23 @@ module _ (ws : List ℕ) (size : length ws ≡ 2060) where
     write-left true = turned-at (λ k. []) 204 [] refl
     write-left false = entries-left (length bs / 16)
 
+  call-left : (c op : ℕ) (args : Args) (uid gid pid : ℕ) (ds : List ℕ) → Leaves none (callOf w c op args uid gid pid ds .answer) (callStores w c op args uid gid pid ds)
+  call-left c op args uid gid pid ds =
+      let v : Slot = waitingOf c (listOf ds) in
+      let e : (ℕ → Sqe) = callEntry op args uid gid pid in
+      rowed none w none (callRows w op ds) (begun w v (takenHolds w ds) e) (taken w ds ∷ give v ∷ send (e (tableOf w .head)) ∷ []) (refl, (refl, (refl, (refl, tt)))) (λ p. went none _ _ refl)
+
   driver-left : (e : DriverEvent) → Leaves (leftStores w (viewOf (on e))) (driverStep w e .answer) (driverStores w e)
   driver-left (hostPut d k) = put-left d k
   driver-left (reserve c) = rowed none w none (reserveRows w) (reserved w c) (give (placeholderOf c) ∷ []) (refl, tt) (λ p. went none _ _ refl)
   driver-left (submit n c op fl args pid ds) =
       let e : Sqe = submitEntry n op fl args pid in
       rowed none w none (submitRows w n c op ds) (submitted w n c ds e) (taken w ds ∷ put n (waitingOf c (listOf ds)) ∷ send e ∷ []) (refl, (refl, (refl, (refl, tt)))) (λ p. went none _ _ refl)
-  driver-left (call c op args uid gid pid ds) =
-      let v : Slot = waitingOf c (listOf ds) in
-      let e : (ℕ → Sqe) = callEntry op args uid gid pid in
-      rowed none w none (callRows w op ds) (begun w v (takenHolds w ds) e) (taken w ds ∷ give v ∷ send (e (tableOf w .head)) ∷ []) (refl, (refl, (refl, (refl, tt)))) (λ p. went none _ _ refl)
+  driver-left (call c op args uid gid pid ds) = call-left c op args uid gid pid ds
+  driver-left (fdwrite c number flags ms uid gid pid ds) = call-left c opcode.sendfd (fdwriteArgs number flags ms ds) uid gid pid ds
+  driver-left (fdread c number len flags ms uid gid pid) =
+      let args : Args = fdreadArgs number len flags ms in
+      rowed none w none (lengthRows len) (callOf w c opcode.recvfd args uid gid pid []) (callStores w c opcode.recvfd args uid gid pid []) (refl, tt) (λ p. call-left c opcode.recvfd args uid gid pid [])
   driver-left (generic c pid fds base len ms) =
       let v : Slot = waitingOf c noFds in
       let e : (ℕ → Sqe) = genericEntry opcode.call pid fds base len ms in

@@ -4,7 +4,7 @@ use mathlib.Core.Path.{_≡_}
 use mathlib.Core.List.{List, [], _∷_}
 use lib.ListN.{getD, length}
 use Rattle.events.specs.World.{freshWorld}
-use Rattle.events.specs.Event.{DriverEvent, hostPut, reserve, submit, call, generic, stdfs, fmap, close, detach, wake, read, write, move, obtain, supply, Event, hostOpen, hostCopy, hostDrop, hostEnded, on, step}
+use Rattle.events.specs.Event.{DriverEvent, hostPut, reserve, submit, call, fdwrite, fdread, generic, stdfs, fmap, close, detach, wake, read, write, move, obtain, supply, Event, hostOpen, hostCopy, hostDrop, hostEnded, on, step}
 use Rattle.layout.specs.Layout.{size, plainOf, packedOf}
 use Rattle.packed.specs.Step.{wordsAfter, packedRun, plainRun, freshWords, wordsRun}
 
@@ -17,6 +17,8 @@ DriverEventFits (hostPut d k) = Unit {0}
 DriverEventFits (reserve c) = CallerFits c
 DriverEventFits (submit n c op fl args pid ds) = CallerFits c
 DriverEventFits (call c op args uid gid pid ds) = CallerFits c
+DriverEventFits (fdwrite c number flags ms uid gid pid ds) = CallerFits c
+DriverEventFits (fdread c number len flags ms uid gid pid) = CallerFits c
 DriverEventFits (generic c pid fds base len ms) = CallerFits c
 DriverEventFits (stdfs c pid fds base len ms) = CallerFits c
 DriverEventFits (fmap c id pages flags uid gid pid) = CallerFits c

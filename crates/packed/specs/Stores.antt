@@ -11,6 +11,7 @@ use Rattle.host_holds.specs.Host.{openOf, copyOf, dropOf}
 use Rattle.host_put.specs.Put.{putOf}
 use Rattle.opcode.specs.Opcodes as opcode
 use Rattle.parse_cqe.specs.Parsed.{parsedOf}
+use Rattle.schemev2.specs.declared.Args.{Args}
 use Rattle.schemev2.specs.declared.Cqe.{Cqe}
 use Rattle.slot.specs.declared.Act.{Act}
 use Rattle.slot.specs.declared.Act.the-variants as act
@@ -22,13 +23,13 @@ use Rattle.slot.specs.Slots.{phaseOf, noFds, placeholderOf, waitingOf, mapReque
 use Rattle.wait_queue_receive.specs.Receive.{receivedOf}
 use Rattle.events.specs.World.{World, tableOf, holdsOf, handlesOf, queueOf, slotIn, phaseIn, queueFull}
 use Rattle.events.specs.Outcome.{Row, checked}
-use Rattle.events.specs.Submit.{takenHolds, reserveRows, submitRows, submitEntry, callRows, callEntry, genericRows, genericEntry, stdfsRows, stdMeta, fmapRows, fmapEntry, queueRows, closeEntry, detachEntry}
+use Rattle.events.specs.Submit.{takenHolds, reserveRows, submitRows, submitEntry, callRows, callEntry, fdwriteArgs, fdreadArgs, lengthRows, genericRows, genericEntry, stdfsRows, stdMeta, fmapRows, fmapEntry, queueRows, closeEntry, detachEntry}
 use Rattle.events.specs.Wake.{responseOf, heldIn, cancelEntry, wakeable, wakeRows}
 use Rattle.events.specs.Entry.{Decision, decisionOf, dropped, isVacant}
 use Rattle.events.specs.Complete.{Entered, accepted, rejected, entryOf, entriesOf, writeRows}
 use Rattle.events.specs.Descriptors.{requestOf, requestRows, listRows}
 use Rattle.events.specs.Supply.{pageRows}
-use Rattle.events.specs.Event.{DriverEvent, hostPut, reserve, submit, call, generic, stdfs, fmap, close, detach, wake, read, write, move, obtain, supply, Event, hostOpen, hostCopy, hostDrop, hostEnded, on}
+use Rattle.events.specs.Event.{DriverEvent, hostPut, reserve, submit, call, fdwrite, fdread, generic, stdfs, fmap, close, detach, wake, read, write, move, obtain, supply, Event, hostOpen, hostCopy, hostDrop, hostEnded, on}
 use Rattle.layout.specs.Store.{Store, put, give, vacate, send, queue, outside, all, handles}
 
 -- nothing where a row is due
@@ -98,14 +99,21 @@ suppliedStores Waiting n = []
 suppliedStores Responded n = []
 suppliedStores Fmap n = vacate n ∷ []
 
+-- a `call`
+abbrev pub callStores : World → ℕ → ℕ → Args → ℕ → ℕ → ℕ → List ℕ → List Store
+callStores w c op args uid gid pid ds =
+    unless (callRows w op ds) (taken w ds ∷ give (waitingOf c (listOf ds)) ∷ send (callEntry op args uid gid pid (tableOf w .head)) ∷ [])
+
 abbrev pub driverStores : World → DriverEvent → List Store
 driverStores w (hostPut d k) =
     counts (putOf (holdsOf w) (handlesOf w) d k .holds) ++ handles (putOf (holdsOf w) (handlesOf w) d k .handles .at) ∷ []
 driverStores w (reserve c) = unless (reserveRows w) (give (placeholderOf c) ∷ [])
 driverStores w (submit n c op fl args pid ds) =
     unless (submitRows w n c op ds) (taken w ds ∷ put n (waitingOf c (listOf ds)) ∷ send (submitEntry n op fl args pid) ∷ [])
-driverStores w (call c op args uid gid pid ds) =
-    unless (callRows w op ds) (taken w ds ∷ give (waitingOf c (listOf ds)) ∷ send (callEntry op args uid gid pid (tableOf w .head)) ∷ [])
+driverStores w (call c op args uid gid pid ds) = callStores w c op args uid gid pid ds
+driverStores w (fdwrite c number flags ms uid gid pid ds) = callStores w c opcode.sendfd (fdwriteArgs number flags ms ds) uid gid pid ds
+driverStores w (fdread c number len flags ms uid gid pid) =
+    unless (lengthRows len) (callStores w c opcode.recvfd (fdreadArgs number len flags ms) uid gid pid [])
 driverStores w (generic c pid fds base len ms) =
     unless (genericRows w fds) (give (waitingOf c noFds) ∷ send (genericEntry opcode.call pid fds base len ms (tableOf w .head)) ∷ [])
 driverStores w (stdfs c pid fds base len ms) =

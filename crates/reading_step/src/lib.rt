@@ -4,14 +4,15 @@ use error::Error;
 use error::Result;
 use fd_list::List;
 use response::OpenResult;
+use response::Received;
 use response::RegularAnswer;
 use slot::Reply;
 ghost use mathlib.Core.Path.{_≡_};
 ghost use Rattle.answer_words.specs.Words.{wordsOf};
 ghost use Rattle.error.specs.Errors.{demuxOf, resultAnswer};
-ghost use Rattle.events.specs.Replies.{intoRegularOf, callGenericOf, noticeOf, kopenatOf, kdupOf};
+ghost use Rattle.events.specs.Replies.{intoRegularOf, callGenericOf, noticeOf, kfdwriteOf, kfdreadOf, kopenatOf, kdupOf};
 ghost use Rattle.events.specs.Wake.{responseFrom};
-ghost use Rattle.response.specs.Response.{regularAnswer, openedAs};
+ghost use Rattle.response.specs.Response.{regularAnswer, receivedAnswer, openedAs};
 ghost use Rattle.reading_step.specs.Opened.{openedWords, readAs};
 
 // With the notice of a completion's kind 5.
@@ -36,6 +37,16 @@ fn regular_words(a: RegularAnswer) -> AnswerWords
         RegularAnswer::Value(w) => answer_words::done(w),
         RegularAnswer::Failed(e) => answer_words::refused(e),
         RegularAnswer::NotRegular => answer_words::refused(5),
+    }
+}
+
+fn received_words(a: Received) -> AnswerWords
+    ensures { λ r. ⌜ r ≡ wordsOf (receivedAnswer a) ⌝ }
+{
+    match a {
+        Received::Count(n) => answer_words::done(n),
+        Received::Failed(e) => answer_words::refused(e),
+        Received::NotMany => answer_words::refused(5),
     }
 }
 
@@ -86,6 +97,20 @@ pub fn call_generic(reply: Reply, fds: List) -> Regular
         answer: words,
         notice: got.notice,
     }
+}
+
+pub fn kfdwrite(reply: Reply, fds: List) -> AnswerWords
+    ensures { λ r. ⌜ r ≡ wordsOf (kfdwriteOf (responseFrom reply fds)) ⌝ }
+{
+    let a = response::kfdwrite(reply, fds);
+    regular_words(a)
+}
+
+pub fn kfdread(reply: Reply, fds: List) -> AnswerWords
+    ensures { λ r. ⌜ r ≡ wordsOf (kfdreadOf (responseFrom reply fds)) ⌝ }
+{
+    let a = response::kfdread(reply, fds);
+    received_words(a)
 }
 
 pub fn kopenat(reply: Reply, fds: List) -> OpenedWords

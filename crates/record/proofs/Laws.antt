@@ -64,7 +64,7 @@ pub all-there : (bs : List ℕ) → 0 < nextOf bs → sizeOf (recordOf bs) ≤ l
 all-there bs h =
     let r = recordOf bs in
     leb-true (sizeOf r) (length bs)
-    (ninth (leb 1 (r .kind)) (leb (r .kind) 19) (leb (r .first) (getD firstTable (r .kind) 0)) (leb (r .second) (getD secondTable (r .kind) 0)) (leb (r .flags) (getD flagTable (r .kind) 0))
+    (ninth (leb 1 (r .kind)) (leb (r .kind) 21) (leb (r .first) (getD firstTable (r .kind) 0)) (leb (r .second) (getD secondTable (r .kind) 0)) (leb (r .flags) (getD flagTable (r .kind) 0))
     (leb (r .number) (getD numberTable (r .kind) 0)) (leb (r .uid) (getD userTable (r .kind) 0)) (leb (r .gid) (getD userTable (r .kind) 0)) (leb (sizeOf r) (length bs))
     (positive (isEvent r (length bs)) (sizeOf r) h))
 

@@ -1,5 +1,5 @@
 -- The format of a run's events. A record is 16 bytes, then words, a first and a second list of words, and bytes:
---   byte 0 the kind, 1 to 19 in the order of `eventNamed`; byte 1 how many words the first list has, byte 2 the second; byte 3 a submit's
+--   byte 0 the kind, 1 to 21 in the order of `eventNamed`; byte 1 how many words the first list has, byte 2 the second; byte 3 a submit's
 --   flags; bytes 4 to 7 the caller, a read's flags or how many bytes a write has; bytes 8 to 11 uid, 12 to 15 gid.
 -- Numbers are little-endian, words have eight bytes. What an event lacks must be 0.
 use Prim.Native.Nat.{ℕ, zero, suc, _+_, _*_, min}
@@ -8,7 +8,7 @@ use mathlib.Core.List.{List, [], _∷_, _++_}
 use lib.Dec.{eqb, leb}
 use lib.ListN.{length, getD, take, drop}
 use Rattle.le.specs.Le.{byte, half, word}
-use Rattle.events.specs.Event.{hostPut, reserve, submit, call, generic, stdfs, fmap, close, detach, wake, read, write, move, obtain, supply, Event, hostOpen, hostCopy, hostDrop, hostEnded, on}
+use Rattle.events.specs.Event.{hostPut, reserve, submit, call, fdwrite, fdread, generic, stdfs, fmap, close, detach, wake, read, write, move, obtain, supply, Event, hostOpen, hostCopy, hostDrop, hostEnded, on}
 use Rattle.record.specs.declared.Nine.{Nine}
 use Rattle.record.specs.declared.Record.{Record}
 
@@ -42,25 +42,25 @@ recordOf bs =
 
 -- by kind: how many words, and the most that each field may hold
 abbrev pub wordTable : List ℕ
-wordTable = 0 ∷ 1 ∷ 1 ∷ 1 ∷ 2 ∷ 0 ∷ 0 ∷ 9 ∷ 8 ∷ 3 ∷ 3 ∷ 4 ∷ 1 ∷ 2 ∷ 4 ∷ 1 ∷ 1 ∷ 0 ∷ 0 ∷ 4 ∷ []
+wordTable = 0 ∷ 1 ∷ 1 ∷ 1 ∷ 2 ∷ 0 ∷ 0 ∷ 9 ∷ 8 ∷ 3 ∷ 3 ∷ 4 ∷ 1 ∷ 2 ∷ 4 ∷ 1 ∷ 1 ∷ 0 ∷ 0 ∷ 4 ∷ 3 ∷ 4 ∷ []
 
 abbrev pub firstTable : List ℕ
-firstTable = 0 ∷ 0 ∷ 0 ∷ 0 ∷ 0 ∷ 0 ∷ 0 ∷ 255 ∷ 255 ∷ 255 ∷ 255 ∷ 0 ∷ 0 ∷ 0 ∷ 0 ∷ 0 ∷ 0 ∷ 255 ∷ 255 ∷ 0 ∷ []
+firstTable = 0 ∷ 0 ∷ 0 ∷ 0 ∷ 0 ∷ 0 ∷ 0 ∷ 255 ∷ 255 ∷ 255 ∷ 255 ∷ 0 ∷ 0 ∷ 0 ∷ 0 ∷ 0 ∷ 0 ∷ 255 ∷ 255 ∷ 0 ∷ 255 ∷ 255 ∷ []
 
 abbrev pub secondTable : List ℕ
-secondTable = 0 ∷ 0 ∷ 0 ∷ 0 ∷ 0 ∷ 0 ∷ 0 ∷ 0 ∷ 0 ∷ 255 ∷ 255 ∷ 0 ∷ 0 ∷ 0 ∷ 0 ∷ 0 ∷ 0 ∷ 255 ∷ 0 ∷ 0 ∷ []
+secondTable = 0 ∷ 0 ∷ 0 ∷ 0 ∷ 0 ∷ 0 ∷ 0 ∷ 0 ∷ 0 ∷ 255 ∷ 255 ∷ 0 ∷ 0 ∷ 0 ∷ 0 ∷ 0 ∷ 0 ∷ 255 ∷ 0 ∷ 0 ∷ 255 ∷ 0 ∷ []
 
 abbrev pub flagTable : List ℕ
-flagTable = 0 ∷ 0 ∷ 0 ∷ 0 ∷ 0 ∷ 0 ∷ 0 ∷ 255 ∷ 0 ∷ 0 ∷ 0 ∷ 0 ∷ 0 ∷ 0 ∷ 0 ∷ 0 ∷ 0 ∷ 0 ∷ 0 ∷ 0 ∷ []
+flagTable = 0 ∷ 0 ∷ 0 ∷ 0 ∷ 0 ∷ 0 ∷ 0 ∷ 255 ∷ 0 ∷ 0 ∷ 0 ∷ 0 ∷ 0 ∷ 0 ∷ 0 ∷ 0 ∷ 0 ∷ 0 ∷ 0 ∷ 0 ∷ 0 ∷ 0 ∷ []
 
 abbrev most : ℕ
 most = 0xffff_ffff
 
 abbrev pub numberTable : List ℕ
-numberTable = 0 ∷ 0 ∷ 0 ∷ 0 ∷ 0 ∷ most ∷ most ∷ most ∷ most ∷ most ∷ most ∷ most ∷ 0 ∷ 0 ∷ most ∷ most ∷ most ∷ 0 ∷ 0 ∷ 0 ∷ []
+numberTable = 0 ∷ 0 ∷ 0 ∷ 0 ∷ 0 ∷ most ∷ most ∷ most ∷ most ∷ most ∷ most ∷ most ∷ 0 ∷ 0 ∷ most ∷ most ∷ most ∷ 0 ∷ 0 ∷ 0 ∷ most ∷ most ∷ []
 
 abbrev pub userTable : List ℕ
-userTable = 0 ∷ 0 ∷ 0 ∷ 0 ∷ 0 ∷ 0 ∷ 0 ∷ 0 ∷ most ∷ 0 ∷ 0 ∷ most ∷ 0 ∷ 0 ∷ 0 ∷ 0 ∷ 0 ∷ 0 ∷ 0 ∷ 0 ∷ []
+userTable = 0 ∷ 0 ∷ 0 ∷ 0 ∷ 0 ∷ 0 ∷ 0 ∷ 0 ∷ most ∷ 0 ∷ 0 ∷ most ∷ 0 ∷ 0 ∷ 0 ∷ 0 ∷ 0 ∷ 0 ∷ 0 ∷ 0 ∷ most ∷ most ∷ []
 
 -- how many bytes a write has
 abbrev pub tailBy : ℕ → ℕ → ℕ
@@ -92,7 +92,7 @@ sizeOf r = tailAt r + tailOf r
 abbrev pub isEvent : Record → ℕ → Bool
 isEvent r n =
     leb 1 (r .kind)
-    && (leb (r .kind) 19
+    && (leb (r .kind) 21
     && (leb (r .first) (getD firstTable (r .kind) 0)
     && (leb (r .second) (getD secondTable (r .kind) 0)
     && (leb (r .flags) (getD flagTable (r .kind) 0)
@@ -141,6 +141,9 @@ eventTable r xs ys bs lent =
     ∷ on (write (min (a .0) lent) bs)
     ∷ on (move xs ys)
     ∷ on (obtain xs)
+    ∷ supplyOf a
+    ∷ on (fdwrite c (a .0) (a .1) xs (r .uid) (r .gid) (a .2) ys)
+    ∷ on (fdread c (a .0) (a .1) (a .2) xs (r .uid) (r .gid) (a .3))
     ∷ [])
 
 abbrev pub eventNamed : ℕ → Record → List ℕ → List ℕ → List ℕ → ℕ → Event

@@ -15,6 +15,8 @@ fn first_most(kind: u8) -> u8
         10 => 255,
         17 => 255,
         18 => 255,
+        20 => 255,
+        21 => 255,
         _ => 0,
     }
 }
@@ -26,6 +28,7 @@ fn second_most(kind: u8) -> u8
         9 => 255,
         10 => 255,
         17 => 255,
+        20 => 255,
         _ => 0,
     }
 }
@@ -53,6 +56,8 @@ fn number_most(kind: u8) -> u32
         14 => 0xffff_ffff,
         15 => 0xffff_ffff,
         16 => 0xffff_ffff,
+        20 => 0xffff_ffff,
+        21 => 0xffff_ffff,
         _ => 0,
     }
 }
@@ -63,6 +68,8 @@ fn users_most(kind: u8) -> u32
     match kind {
         8 => 0xffff_ffff,
         11 => 0xffff_ffff,
+        20 => 0xffff_ffff,
+        21 => 0xffff_ffff,
         _ => 0,
     }
 }
@@ -83,7 +90,7 @@ fn is_event(
     if kind < 1 {
         return false;
     }
-    if 19 < kind {
+    if 21 < kind {
         return false;
     }
     if first_most(kind) < first {

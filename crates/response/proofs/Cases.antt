@@ -1,12 +1,15 @@
 -- The readings by the reply's kind. Assumes nothing.
 use Prim.Native.Nat.{ℕ, zero, suc}
-use mathlib.Core.Path.{_≡_, refl, ap}
+use mathlib.Core.Path.{_≡_, refl, ap, _∙_}
 use mathlib.Core.Logic.{_≢_}
 use mathlib.Core.Bool.{Bool}
+use lib.ListN.{length}
 use Rattle.fd_list.specs.declared.List.{List as Fds}
+use Rattle.fd_list.specs.Lists.{numbers}
 use Rattle.flag.specs.Flags.{within, newFdFlags}
 use Rattle.slot.specs.declared.Reply.{Reply}
-use Rattle.events.specs.Replies.{intoRegularOf, noticeOf, localIf, kopenatOf}
+use Rattle.events.specs.Outcome.{ok}
+use Rattle.events.specs.Replies.{intoRegularOf, noticeOf, kfdreadOf, localIf, kopenatOf}
 use Rattle.events.specs.Wake.{responseBy, responseFrom}
 use Rattle.response.specs.declared.Kind.{Kind}
 use Rattle.response.specs.declared.Kind.the-variants.{Success, Error, Fd, MultipleFds}
@@ -40,6 +43,13 @@ module _ (r : Reply) (l : Fds) where
 
     pub notice-in : (x : Kind) → k ≡ x → noticeOf (responseBy (numberOf x) r l) ≡ noticeOf (responseFrom r l)
     notice-in x q = ap noticeOf (reply-in x q)
+
+    pub received-in : (x : Kind) → k ≡ x → kfdreadOf (responseBy (numberOf x) r l) ≡ kfdreadOf (responseFrom r l)
+    received-in x q = ap kfdreadOf (reply-in x q)
+
+    -- so many descriptors
+    pub received-many : k ≡ MultipleFds → (n : ℕ) → n ≡ length (numbers l) → ok n ≡ kfdreadOf (responseFrom r l)
+    received-many q n s = ap ok s ∙ received-in MultipleFds q
 
     pub opened-in : (x : Kind) → k ≡ x → kopenatOf (responseBy (numberOf x) r l) ≡ kopenatOf (responseFrom r l)
     opened-in x q = ap kopenatOf (reply-in x q)

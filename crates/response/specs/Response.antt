@@ -6,6 +6,8 @@ use Rattle.response.specs.declared.Kind.{Kind}
 use Rattle.response.specs.declared.Kind.the-variants.{Success, Error, Fd, MultipleFds}
 use Rattle.response.specs.declared.RegularAnswer.{RegularAnswer}
 use Rattle.response.specs.declared.RegularAnswer.the-variants as regular
+use Rattle.response.specs.declared.Received.{Received}
+use Rattle.response.specs.declared.Received.the-variants as received
 use Rattle.response.specs.declared.OpenResult.{OpenResult}
 use Rattle.response.specs.declared.OpenResult.the-variants as result
 
@@ -19,6 +21,11 @@ abbrev pub regularAnswer : RegularAnswer → Answer
 regularAnswer (regular.Value w) = ok w
 regularAnswer (regular.Failed e) = no e
 regularAnswer regular.NotRegular = no 5
+
+abbrev pub receivedAnswer : Received → Answer
+receivedAnswer (received.Count n) = ok n
+receivedAnswer (received.Failed e) = no e
+receivedAnswer received.NotMany = no 5
 
 abbrev pub openedAs : OpenResult → Opened
 openedAs (result.SchemeLocal w x) = schemeLocal w x

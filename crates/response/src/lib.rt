@@ -1,11 +1,12 @@
 // How a reply that was handed over is read by whoever made the call (01, "Reading replies"; src/scheme/user.rs:
-// `into_regular` 71, `call_generic` 1431 to 1445, `kopenat` 1472, `kdup` 1705). A reply is the slot's, and its list beside it.
+// `into_regular` 71, `call_generic` 1431 to 1445, `kopenat` 1472, `kdup` 1705, `kfdwrite` 1990, `kfdread` 2027 to 2045). A reply is
+// the slot's, and its list beside it.
 use fd_list::List;
 use slot::Reply;
 ghost use mathlib.Core.Path.{_≡_};
-ghost use Rattle.events.specs.Replies.{intoRegularOf, callGenericOf, noticeOf, kopenatOf, kdupOf};
+ghost use Rattle.events.specs.Replies.{intoRegularOf, callGenericOf, noticeOf, kfdwriteOf, kfdreadOf, kopenatOf, kdupOf};
 ghost use Rattle.events.specs.Wake.{responseFrom};
-ghost use Rattle.response.specs.Response.{kindNamed, regularAnswer, openedAs};
+ghost use Rattle.response.specs.Response.{kindNamed, regularAnswer, receivedAnswer, openedAs};
 
 // The Rust's `Response` by its stored number.
 enum Kind {
@@ -26,6 +27,13 @@ pub enum RegularAnswer {
 pub struct CallGeneric {
     pub answer: RegularAnswer,
     pub notice: bool,
+}
+
+// How many descriptors `kfdread` received; or the reply's errno; or a reply that does not bring many: EIO.
+pub enum Received {
+    Count(u64),
+    Failed(u64),
+    NotMany,
 }
 
 // `OpenResult`: a number of the scheme's own with its flags, or a description; or the reply's errno, EINVAL for flags that
@@ -81,6 +89,26 @@ pub fn call_generic(reply: Reply, fds: List) -> CallGeneric
     CallGeneric {
         answer: into_regular(reply, fds),
         notice: notice_of(reply, fds),
+    }
+}
+
+pub fn kfdwrite(reply: Reply, fds: List) -> RegularAnswer
+    ensures { λ r. ⌜ regularAnswer r ≡ kfdwriteOf (responseFrom reply fds) ⌝ }
+{
+    into_regular(reply, fds)
+}
+
+// A success is none here: `kfdread` waits for descriptors.
+pub fn kfdread(reply: Reply, fds: List) -> Received
+    ensures { λ r. ⌜ receivedAnswer r ≡ kfdreadOf (responseFrom reply fds) ⌝ }
+{
+    let kind = kind_of(reply);
+    let count = fd_list::size(fds) as u64;
+    match kind {
+        Kind::Success => Received::NotMany,
+        Kind::Error => Received::Failed(reply.word),
+        Kind::Fd => Received::NotMany,
+        Kind::MultipleFds => Received::Count(count),
     }
 }
 

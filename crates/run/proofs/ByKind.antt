@@ -8,7 +8,7 @@ use lib.ListN.{length, take, drop}
 use lib.Seq.{sets}
 use Rattle.events.specs.World.{World}
 use Rattle.events.specs.Outcome.{Answer}
-use Rattle.events.specs.Event.{reserve, submit, call, generic, stdfs, fmap, close, detach, wake, move, obtain, supply, Event, step}
+use Rattle.events.specs.Event.{reserve, submit, call, fdwrite, fdread, generic, stdfs, fmap, close, detach, wake, move, obtain, supply, Event, step}
 use Rattle.events.specs.Effects.{isWrite}
 use Rattle.events.specs.History.{viewOf}
 use Rattle.layout.specs.Layout.{plainOf}
@@ -58,6 +58,9 @@ module _ (r : Record) (xs ys bs : List ℕ) (lent : ℕ) where
       & (λ o. absurd (true≢false o))
       & (λ o. (λ h. tt, refl, silent w (move xs ys) refl))
       & (λ o. (λ h. tt, refl, silent w (obtain xs) refl))
+      & (λ o. (λ h. tt, refl, silent w (supply (a .0) (a .1) (a .2) (a .3)) refl))
+      & (λ o. (λ h. h, refl, silent w (fdwrite c (a .0) (a .1) xs (r .uid) (r .gid) (a .2) ys) refl))
+      & (λ o. (λ h. h, refl, silent w (fdread c (a .0) (a .1) (a .2) xs (r .uid) (r .gid) (a .3)) refl))
       & tt
       )
       (λ k o. (λ h. tt, refl, silent w (supply (a .0) (a .1) (a .2) (a .3)) refl)) k

@@ -7,6 +7,7 @@ use lib.Dec.{eqb, ltb}
 use Rattle.fd_list.specs.Lists.{listOf}
 use Rattle.flag.specs.Flags.{eventRead, eventHup}
 use Rattle.opcode.specs.Opcodes as opcode
+use Rattle.schemev2.specs.declared.Args.{Args}
 use Rattle.schemev2.specs.declared.Cqe.{Cqe}
 use Rattle.slot.specs.declared.PageSpan.{PageSpan}
 use Rattle.slot.specs.declared.Phase.{Phase}
@@ -14,12 +15,12 @@ use Rattle.slot.specs.declared.Phase.the-variants.{Vacant, Placeholder, Waiting
 use Rattle.slot.specs.Slots.{waitingOf, mapRequestOf}
 use Rattle.events.specs.World.{World, holdsOf, slotIn, phaseIn, queueFull}
 use Rattle.events.specs.Outcome.{Row, Outcome, outcome, refuse, checked}
-use Rattle.events.specs.Submit.{takenHolds, reserveRows, reserved, submitRows, submitEntry, submitted, begun, callRows, callEntry, genericRows, genericEntry, stdfsRows, stdMeta, fmapRows, fmapEntry, queueRows, notified, closeEntry, detachEntry}
+use Rattle.events.specs.Submit.{takenHolds, reserveRows, reserved, submitRows, submitEntry, submitted, begun, callRows, callEntry, callOf, fdwriteArgs, fdreadArgs, lengthRows, genericRows, genericEntry, stdfsRows, stdMeta, fmapRows, fmapEntry, queueRows, notified, closeEntry, detachEntry}
 use Rattle.events.specs.Wake.{blockedBy, waitedBy, wokenBy, wakeable, wakeRows}
 use Rattle.events.specs.Complete.{Entered, accepted, rejected, entryOf, entriesOf, stopped, onEntered, writeRows, writeOn}
 use Rattle.events.specs.Descriptors.{requestOf, requestRows, listRows, broughtBack, moved, givenUp}
 use Rattle.events.specs.Supply.{suppliedBy, pageRows}
-use Rattle.events.specs.Event.{DriverEvent, hostPut, reserve, submit, call, generic, stdfs, fmap, close, detach, wake, read, write, move, obtain, supply, driverStep}
+use Rattle.events.specs.Event.{DriverEvent, hostPut, reserve, submit, call, fdwrite, fdread, generic, stdfs, fmap, close, detach, wake, read, write, move, obtain, supply, driverStep}
 
 -- a refusal stores none
 unless : (f : ℕ → Outcome) (rows : List Row) (o : Outcome) → ((k : ℕ) → [] ≡ f k .bytes) → [] ≡ o .bytes → [] ≡ checked f rows o .bytes
@@ -67,6 +68,8 @@ isRead (hostPut d k) = false
 isRead (reserve c) = false
 isRead (submit n c op fl args pid ds) = false
 isRead (call c op args uid gid pid ds) = false
+isRead (fdwrite c number flags ms uid gid pid ds) = false
+isRead (fdread c number len flags ms uid gid pid) = false
 isRead (generic c pid fds base len ms) = false
 isRead (stdfs c pid fds base len ms) = false
 isRead (fmap c id pages flags uid gid pid) = false
@@ -83,11 +86,17 @@ module _ (w : World) where
   behind : (rows : List Row) (o : Outcome) → [] ≡ o .bytes → [] ≡ checked (refuse w) rows o .bytes
   behind rows o b = unless (refuse w) rows o (λ k. refl) b
 
+  call-silent : (c op : ℕ) (args : Args) (uid gid pid : ℕ) (ds : List ℕ) → [] ≡ callOf w c op args uid gid pid ds .bytes
+  call-silent c op args uid gid pid ds = behind (callRows w op ds) (begun w (waitingOf c (listOf ds)) (takenHolds w ds) (callEntry op args uid gid pid)) refl
+
   pub silent : (e : DriverEvent) → isRead e ≡ false → [] ≡ driverStep w e .bytes
   silent (hostPut d k) z = refl
   silent (reserve c) z = behind (reserveRows w) (reserved w c) refl
   silent (submit n c op fl args pid ds) z = behind (submitRows w n c op ds) (submitted w n c ds (submitEntry n op fl args pid)) refl
-  silent (call c op args uid gid pid ds) z = behind (callRows w op ds) (begun w (waitingOf c (listOf ds)) (takenHolds w ds) (callEntry op args uid gid pid)) refl
+  silent (call c op args uid gid pid ds) z = call-silent c op args uid gid pid ds
+  silent (fdwrite c number flags ms uid gid pid ds) z = call-silent c opcode.sendfd (fdwriteArgs number flags ms ds) uid gid pid ds
+  silent (fdread c number len flags ms uid gid pid) z =
+      behind (lengthRows len) (callOf w c opcode.recvfd (fdreadArgs number len flags ms) uid gid pid []) (call-silent c opcode.recvfd (fdreadArgs number len flags ms) uid gid pid [])
   silent (generic c pid fds base len ms) z = behind (genericRows w fds) (begun w (waitingOf c (listOf [])) (holdsOf w) (genericEntry opcode.call pid fds base len ms)) refl
   silent (stdfs c pid fds base len ms) z =
       behind (stdfsRows w fds ms) (begun w (waitingOf c (listOf [])) (holdsOf w) (genericEntry opcode.stdFsCall pid fds base len (stdMeta ms))) refl

@@ -26,9 +26,9 @@ ghost use Rattle.answer_words.specs.Words.{wordsOf, Settled, SettledWake};
 ghost use Rattle.error.specs.declared.Result.the-variants.{Err};
 ghost use Rattle.error.specs.Errors.{demuxOf, muxOf, resultAnswer};
 ghost use Rattle.events.specs.World.{world, tableOf};
-ghost use Rattle.events.specs.Event.{hostPut, reserve, submit, call, generic, stdfs, fmap, close, detach, wake, read, write, move, obtain, supply, hostOpen, hostCopy, hostDrop, hostEnded, on, step};
+ghost use Rattle.events.specs.Event.{hostPut, reserve, submit, call, fdwrite, fdread, generic, stdfs, fmap, close, detach, wake, read, write, move, obtain, supply, hostOpen, hostCopy, hostDrop, hostEnded, on, step};
 ghost use Rattle.events.specs.Wake.{responseFrom};
-ghost use Rattle.events.specs.Replies.{intoRegularOf, callGenericOf, noticeOf, kopenatOf, kdupOf};
+ghost use Rattle.events.specs.Replies.{intoRegularOf, callGenericOf, noticeOf, kfdwriteOf, kfdreadOf, kopenatOf, kdupOf};
 ghost use Rattle.layout.specs.Layout.{plainOf, packedOf};
 ghost use Rattle.packed.specs.Step.{wordsAfter};
 ghost use Rattle.state_bytes.specs.StateBytes.{statusWords};
@@ -42,9 +42,9 @@ ghost use Rattle.state.specs.State.{freshState};
 // host can tell whether a library is the one that it was written for.
 #[no_mangle]
 pub extern "C" fn tilgurap_abi() -> u64
-    ensures { λ r. ⌜ r ≡ 1 ⌝ }
+    ensures { λ r. ⌜ r ≡ 2 ⌝ }
 {
-    1
+    2
 }
 
 #[no_mangle]
@@ -126,6 +126,42 @@ pub extern "C" fn tilgurap_call(
     ensures { λ r. ⌜ Settled r (now (words .entry)) (now (words .exit)) (on (call caller opcode args uid gid pid (now (fds .entry)))) ⌝ }
 {
     let done = call::call(words, fds, caller, opcode, args, uid, gid, pid);
+    answer_words::step_words(done)
+}
+
+#[no_mangle]
+pub extern "C" fn tilgurap_kfdwrite(
+    words: &mut [u64; 2060],
+    fds: &[u64],
+    metadata: &[u64],
+    caller: u32,
+    number: u64,
+    flags: u64,
+    uid: u32,
+    gid: u32,
+    pid: u64,
+) -> StepWords
+    ensures { λ r. ⌜ Settled r (now (words .entry)) (now (words .exit)) (on (fdwrite caller number flags (now (metadata .entry)) uid gid pid (now (fds .entry)))) ⌝ }
+{
+    let done = kfd::kfdwrite(words, fds, metadata, caller, number, flags, uid, gid, pid);
+    answer_words::step_words(done)
+}
+
+#[no_mangle]
+pub extern "C" fn tilgurap_kfdread(
+    words: &mut [u64; 2060],
+    metadata: &[u64],
+    caller: u32,
+    number: u64,
+    len: u64,
+    flags: u64,
+    uid: u32,
+    gid: u32,
+    pid: u64,
+) -> StepWords
+    ensures { λ r. ⌜ Settled r (now (words .entry)) (now (words .exit)) (on (fdread caller number len flags (now (metadata .entry)) uid gid pid)) ⌝ }
+{
+    let done = kfd::kfdread(words, metadata, caller, number, len, flags, uid, gid, pid);
     answer_words::step_words(done)
 }
 
@@ -289,6 +325,20 @@ pub extern "C" fn tilgurap_read_call_generic(reply: Reply, fds: List) -> Regular
     ensures { λ r. ⌜ (r .answer ≡ wordsOf (callGenericOf (responseFrom reply fds))) × (r .notice ≡ noticeOf (responseFrom reply fds)) ⌝ }
 {
     reading_step::call_generic(reply, fds)
+}
+
+#[no_mangle]
+pub extern "C" fn tilgurap_read_kfdwrite(reply: Reply, fds: List) -> AnswerWords
+    ensures { λ r. ⌜ r ≡ wordsOf (kfdwriteOf (responseFrom reply fds)) ⌝ }
+{
+    reading_step::kfdwrite(reply, fds)
+}
+
+#[no_mangle]
+pub extern "C" fn tilgurap_read_kfdread(reply: Reply, fds: List) -> AnswerWords
+    ensures { λ r. ⌜ r ≡ wordsOf (kfdreadOf (responseFrom reply fds)) ⌝ }
+{
+    reading_step::kfdread(reply, fds)
 }
 
 #[no_mangle]

@@ -17,6 +17,8 @@ use Rattle.host.proofs.drop.Reads as drop-reads
 use Rattle.host.proofs.ended.Reads as ended-reads
 use Rattle.host.proofs.open.Reads as open-reads
 use Rattle.host.proofs.put.Reads as put-reads
+use Rattle.kfd.proofs.kfdread.Reads as kfdread-reads
+use Rattle.kfd.proofs.kfdwrite.Reads as kfdwrite-reads
 use Rattle.next_id.proofs.next_id.Reads as next-id-reads
 use Rattle.provide_mmap.proofs.provide_mmap.Reads as provide-mmap-reads
 use Rattle.request_fmap.proofs.request_fmap.Reads as request-fmap-reads
@@ -77,6 +79,12 @@ call-fdwrite-requires c κs = search needs
 call-fdread-requires : tie.Need-call-fdread-requires
 call-fdread-requires c κs = search needs
 
+kfdwrite-requires : tie.Need-kfdwrite-requires
+kfdwrite-requires c κs = search needs
+
+kfdread-requires : tie.Need-kfdread-requires
+kfdread-requires c κs = search needs
+
 provide-mmap-requires : tie.Need-provide-mmap-requires
 provide-mmap-requires c κs = search needs
 
@@ -135,7 +143,13 @@ returns-18 : tie.Need-returns-18
 returns-18 c = λ bs lent. as-kind (c .before .before .before .before .before .before .args .r) (c .before .before .before .before .before .before .args .first .now) (c .before .before .before .before .before .before .args .second .now) bs lent _ _ _ _ _ 18 (c .before .before .match .keys18) (c .call-fdread .ensures)
 
 returns-19 : tie.Need-returns-19
-returns-19 c = λ bs lent. as-supply (c .before .before .before .before .before .before .args .r) (c .before .before .before .before .before .before .args .first .now) (c .before .before .before .before .before .before .args .second .now) bs lent _ _ _ _ _ (over _ (c .before .before .match .rest .0 .0 .0 .0 .0 .0 .0 .0 .0 .0 .0 .0 .0 .0 .0 .0 .0 .1) (c .before .before .match .rest .0 .0 .0 .0 .0 .0 .0 .0 .0 .0 .0 .0 .0 .0 .0 .0 .1) (c .before .before .match .rest .0 .0 .0 .0 .0 .0 .0 .0 .0 .0 .0 .0 .0 .0 .0 .1) (c .before .before .match .rest .0 .0 .0 .0 .0 .0 .0 .0 .0 .0 .0 .0 .0 .0 .1) (c .before .before .match .rest .0 .0 .0 .0 .0 .0 .0 .0 .0 .0 .0 .0 .0 .1) (c .before .before .match .rest .0 .0 .0 .0 .0 .0 .0 .0 .0 .0 .0 .0 .1) (c .before .before .match .rest .0 .0 .0 .0 .0 .0 .0 .0 .0 .0 .0 .1) (c .before .before .match .rest .0 .0 .0 .0 .0 .0 .0 .0 .0 .0 .1) (c .before .before .match .rest .0 .0 .0 .0 .0 .0 .0 .0 .0 .1) (c .before .before .match .rest .0 .0 .0 .0 .0 .0 .0 .0 .1) (c .before .before .match .rest .0 .0 .0 .0 .0 .0 .0 .1) (c .before .before .match .rest .0 .0 .0 .0 .0 .0 .1) (c .before .before .match .rest .0 .0 .0 .0 .0 .1) (c .before .before .match .rest .0 .0 .0 .0 .1) (c .before .before .match .rest .0 .0 .0 .1) (c .before .before .match .rest .0 .0 .1) (c .before .before .match .rest .0 .1) (c .before .before .match .rest .1)) (c .provide-mmap .ensures)
+returns-19 c = λ bs lent. as-kind (c .before .before .before .before .before .before .args .r) (c .before .before .before .before .before .before .args .first .now) (c .before .before .before .before .before .before .args .second .now) bs lent _ _ _ _ _ 20 (c .before .before .match .keys19) (c .kfdwrite .ensures)
+
+returns-20 : tie.Need-returns-20
+returns-20 c = λ bs lent. as-kind (c .before .before .before .before .before .before .args .r) (c .before .before .before .before .before .before .args .first .now) (c .before .before .before .before .before .before .args .second .now) bs lent _ _ _ _ _ 21 (c .before .before .match .keys20) (c .kfdread .ensures)
+
+returns-21 : tie.Need-returns-21
+returns-21 c = λ bs lent. as-supply (c .before .before .before .before .before .before .args .r) (c .before .before .before .before .before .before .args .first .now) (c .before .before .before .before .before .before .args .second .now) bs lent _ _ _ _ (c .before .before .before .before .before .before .args .r .kind) (over (c .before .before .before .before .before .before .args .r .kind) (c .before .before .match .rest .0 .0 .0 .0 .0 .0 .0 .0 .0 .0 .0 .0 .0 .0 .0 .0 .0 .0 .0 .1) (c .before .before .match .rest .0 .0 .0 .0 .0 .0 .0 .0 .0 .0 .0 .0 .0 .0 .0 .0 .0 .0 .1) (c .before .before .match .rest .0 .0 .0 .0 .0 .0 .0 .0 .0 .0 .0 .0 .0 .0 .0 .0 .0 .1) (c .before .before .match .rest .0 .0 .0 .0 .0 .0 .0 .0 .0 .0 .0 .0 .0 .0 .0 .0 .1) (c .before .before .match .rest .0 .0 .0 .0 .0 .0 .0 .0 .0 .0 .0 .0 .0 .0 .0 .1) (c .before .before .match .rest .0 .0 .0 .0 .0 .0 .0 .0 .0 .0 .0 .0 .0 .0 .1) (c .before .before .match .rest .0 .0 .0 .0 .0 .0 .0 .0 .0 .0 .0 .0 .0 .1) (c .before .before .match .rest .0 .0 .0 .0 .0 .0 .0 .0 .0 .0 .0 .0 .1) (c .before .before .match .rest .0 .0 .0 .0 .0 .0 .0 .0 .0 .0 .0 .1) (c .before .before .match .rest .0 .0 .0 .0 .0 .0 .0 .0 .0 .0 .1) (c .before .before .match .rest .0 .0 .0 .0 .0 .0 .0 .0 .0 .1) (c .before .before .match .rest .0 .0 .0 .0 .0 .0 .0 .0 .1) (c .before .before .match .rest .0 .0 .0 .0 .0 .0 .0 .1) (c .before .before .match .rest .0 .0 .0 .0 .0 .0 .1) (c .before .before .match .rest .0 .0 .0 .0 .0 .1) (c .before .before .match .rest .0 .0 .0 .0 .1) (c .before .before .match .rest .0 .0 .0 .1) (c .before .before .match .rest .0 .0 .1) (c .before .before .match .rest .0 .1) (c .before .before .match .rest .1)) (c .provide-mmap .ensures)
 
 pub event-spec : {M : Type 1} → statement M
 event-spec =
@@ -159,6 +173,8 @@ event-spec =
     answered-requires-3
     call-fdwrite-requires
     call-fdread-requires
+    kfdwrite-requires
+    kfdread-requires
     provide-mmap-requires
     returns
     returns-2
@@ -178,4 +194,6 @@ event-spec =
     returns-16
     returns-17
     returns-18
-    returns-19)
+    returns-19
+    returns-20
+    returns-21)

@@ -25,8 +25,24 @@ returns-6 : tie.Need-returns-6
 returns-6 c = one-at firstTable (c .before .args .kind) 18 255 (c .match .keys6) refl
 
 returns-7 : tie.Need-returns-7
-returns-7 c = let r = c .match .rest in none-at (7 ∷ 8 ∷ 9 ∷ 10 ∷ 17 ∷ 18 ∷ []) firstTable (c .before .args .kind) refl (r .0 .0 .0 .0 .0 .1, (r .0 .0 .0 .0 .1, (r .0 .0 .0 .1, (r .0 .0 .1, (r .0 .1, (r .1, tt))))))
+returns-7 c = one-at firstTable (c .before .args .kind) 20 255 (c .match .keys7) refl
+
+returns-8 : tie.Need-returns-8
+returns-8 c = one-at firstTable (c .before .args .kind) 21 255 (c .match .keys8) refl
+
+returns-9 : tie.Need-returns-9
+returns-9 c = let r = c .match .rest in none-at (7 ∷ 8 ∷ 9 ∷ 10 ∷ 17 ∷ 18 ∷ 20 ∷ 21 ∷ []) firstTable (c .before .args .kind) refl (r .0 .0 .0 .0 .0 .0 .0 .1, (r .0 .0 .0 .0 .0 .0 .1, (r .0 .0 .0 .0 .0 .1, (r .0 .0 .0 .0 .1, (r .0 .0 .0 .1, (r .0 .0 .1, (r .0 .1, (r .1, tt))))))))
 
 pub first-most-spec : {M : Type 1} → statement M
 first-most-spec =
-    tie.close (tie.spec returns returns-2 returns-3 returns-4 returns-5 returns-6 returns-7)
+    tie.close
+    (tie.spec
+    returns
+    returns-2
+    returns-3
+    returns-4
+    returns-5
+    returns-6
+    returns-7
+    returns-8
+    returns-9)

@@ -37,7 +37,13 @@ returns-10 : tie.Need-returns-10
 returns-10 c = one-at numberTable (c .before .args .kind) 16 4294967295 (c .match .keys10) refl
 
 returns-11 : tie.Need-returns-11
-returns-11 c = let r = c .match .rest in none-at (5 ∷ 6 ∷ 7 ∷ 8 ∷ 9 ∷ 10 ∷ 11 ∷ 14 ∷ 15 ∷ 16 ∷ []) numberTable (c .before .args .kind) refl (r .0 .0 .0 .0 .0 .0 .0 .0 .0 .1, (r .0 .0 .0 .0 .0 .0 .0 .0 .1, (r .0 .0 .0 .0 .0 .0 .0 .1, (r .0 .0 .0 .0 .0 .0 .1, (r .0 .0 .0 .0 .0 .1, (r .0 .0 .0 .0 .1, (r .0 .0 .0 .1, (r .0 .0 .1, (r .0 .1, (r .1, tt))))))))))
+returns-11 c = one-at numberTable (c .before .args .kind) 20 4294967295 (c .match .keys11) refl
+
+returns-12 : tie.Need-returns-12
+returns-12 c = one-at numberTable (c .before .args .kind) 21 4294967295 (c .match .keys12) refl
+
+returns-13 : tie.Need-returns-13
+returns-13 c = let r = c .match .rest in none-at (5 ∷ 6 ∷ 7 ∷ 8 ∷ 9 ∷ 10 ∷ 11 ∷ 14 ∷ 15 ∷ 16 ∷ 20 ∷ 21 ∷ []) numberTable (c .before .args .kind) refl (r .0 .0 .0 .0 .0 .0 .0 .0 .0 .0 .0 .1, (r .0 .0 .0 .0 .0 .0 .0 .0 .0 .0 .1, (r .0 .0 .0 .0 .0 .0 .0 .0 .0 .1, (r .0 .0 .0 .0 .0 .0 .0 .0 .1, (r .0 .0 .0 .0 .0 .0 .0 .1, (r .0 .0 .0 .0 .0 .0 .1, (r .0 .0 .0 .0 .0 .1, (r .0 .0 .0 .0 .1, (r .0 .0 .0 .1, (r .0 .0 .1, (r .0 .1, (r .1, tt))))))))))))
 
 pub number-most-spec : {M : Type 1} → statement M
 number-most-spec =
@@ -53,4 +59,6 @@ number-most-spec =
     returns-8
     returns-9
     returns-10
-    returns-11)
+    returns-11
+    returns-12
+    returns-13)

@@ -16,7 +16,10 @@ returns-3 : tie.Need-returns-3
 returns-3 c = one-at secondTable (c .before .args .kind) 17 255 (c .match .keys3) refl
 
 returns-4 : tie.Need-returns-4
-returns-4 c = let r = c .match .rest in none-at (9 ∷ 10 ∷ 17 ∷ []) secondTable (c .before .args .kind) refl (r .0 .0 .1, (r .0 .1, (r .1, tt)))
+returns-4 c = one-at secondTable (c .before .args .kind) 20 255 (c .match .keys4) refl
+
+returns-5 : tie.Need-returns-5
+returns-5 c = let r = c .match .rest in none-at (9 ∷ 10 ∷ 17 ∷ 20 ∷ []) secondTable (c .before .args .kind) refl (r .0 .0 .0 .1, (r .0 .0 .1, (r .0 .1, (r .1, tt))))
 
 pub second-most-spec : {M : Type 1} → statement M
-second-most-spec = tie.close (tie.spec returns returns-2 returns-3 returns-4)
+second-most-spec = tie.close (tie.spec returns returns-2 returns-3 returns-4 returns-5)
