@@ -280,6 +280,91 @@ static void replies(void)
     CHECK(opened.kind == TILGURAP_OPENED_REFUSED && opened.value == TILGURAP_ERRNO_EINVAL);
 }
 
+static TilgurapStepWords send(const uint64_t *list, size_t count, size_t metadata_len, uint64_t flags)
+{
+    static const uint64_t metadata[2] = {WIDE(31), WIDE(32)};
+    return tilgurap_kfdwrite(words, list, count, metadata, metadata_len, CALLER, WIDE(20), flags, 11, 12, WIDE(13));
+}
+
+static TilgurapStepWords ask(uint64_t len, size_t metadata_len, uint64_t flags)
+{
+    static const uint64_t metadata[3] = {WIDE(31), WIDE(32), WIDE(33)};
+    return tilgurap_kfdread(words, metadata, metadata_len, CALLER, WIDE(20), len, flags, 11, 12, WIDE(13));
+}
+
+/* Descriptions sent with a call and asked for by one: what the driver is told, how a reply is read, whose its holds are. */
+static void descriptions(void)
+{
+    uint64_t who = 11 + (UINT64_C(12) << 32), list[TILGURAP_LIST + 1], give[2] = {1, 0};
+    start();
+    for (size_t at = 0; at <= TILGURAP_LIST; at++) {
+        list[at] = at;
+    }
+    for (size_t at = 0; at <= TILGURAP_LIST; at++) {
+        CHECK(refused(send(list, TILGURAP_LIST + 1, 0, 0).answer, TILGURAP_REFUSAL_OUT_OF_RULES));
+        CHECK(done(tilgurap_open(words, at).answer, 0));
+    }
+    CHECK(refused(send(list, TILGURAP_LIST + 1, 0, 0).answer, TILGURAP_REFUSAL_MANY_DESCRIPTIONS));
+
+    CHECK(queued(send(list, TILGURAP_LIST, 2, TILGURAP_CALL_FD_EXCLUSIVE), 0));
+    TilgurapSqe e = next_entry();
+    CHECK(e.opcode == TILGURAP_OP_SENDFD && e.sqe_flags == 0 && e.tag == 0 && e.caller == WIDE(13));
+    CHECK(has_args(e, WIDE(20), TILGURAP_SEND_FD_EXCLUSIVE, WIDE(31), TILGURAP_LIST, 0, who));
+    TilgurapSlot slot = plain().table.slots[0];
+    CHECK(slot.caller == CALLER && slot.fds.len == TILGURAP_LIST && slot.fds.at[TILGURAP_LIST - 1] == TILGURAP_LIST - 1);
+    CHECK(plain().table.holds.outside[0] == 0 && plain().table.holds.outside[TILGURAP_LIST] == 1);
+    CHECK(done(complete(TILGURAP_CQE_REGULAR, 0, WIDE(1)), TILGURAP_CQE_BYTES));
+    TilgurapWakeWords woken = wake(0, CALLER);
+    CHECK(replied(woken, TILGURAP_REPLY_WORD, WIDE(1)));
+    CHECK(done(tilgurap_read_kfdwrite(woken.reply, woken.fds), WIDE(1)));
+    CHECK(refused(tilgurap_read_kfdread(woken.reply, woken.fds), TILGURAP_ERRNO_EIO));
+
+    /* every other flag changes nothing */
+    start();
+    CHECK(queued(send(none, 0, 0, ~UINT64_C(0) ^ TILGURAP_CALL_FD_EXCLUSIVE), 0));
+    CHECK(has_args(next_entry(), WIDE(20), 0, 0, 0, 0, who));
+    CHECK(queued(ask(24, 0, ~UINT64_C(0) ^ TILGURAP_CALL_FD_UPPER), 1));
+    CHECK(has_args(next_entry(), WIDE(20), 0, 3, 0, 0, who));
+    CHECK(queued(ask(0, 1, ~UINT64_C(0)), 2));
+    CHECK(has_args(next_entry(), WIDE(20), TILGURAP_RECV_FD_UPPER_TBL, 0, WIDE(31), 0, who));
+    CHECK(refused(ask(23, 0, 0).answer, TILGURAP_REFUSAL_EINVAL));
+
+    /* one where many are asked for: handed over once, read as an error, dropped by the host */
+    start();
+    CHECK(done(tilgurap_open(words, 63).answer, 0) && done(tilgurap_put(words, 63, 62).answer, 0));
+    CHECK(queued(ask(8, 3, TILGURAP_CALL_FD_UPPER), 0));
+    e = next_entry();
+    CHECK(e.opcode == TILGURAP_OP_RECVFD && e.sqe_flags == 0 && e.tag == 0 && e.caller == WIDE(13));
+    CHECK(has_args(e, WIDE(20), TILGURAP_RECV_FD_UPPER_TBL, 1, WIDE(31), WIDE(32), who));
+    CHECK(done(complete(TILGURAP_CQE_DESCRIPTOR, 0, 62), TILGURAP_CQE_BYTES));
+    woken = wake(0, CALLER);
+    CHECK(replied(woken, TILGURAP_REPLY_DESCRIPTOR, 63) && plain().table.holds.outside[63] == 1);
+    CHECK(refused(wake(0, CALLER).answer, TILGURAP_REFUSAL_EBADFD));
+    CHECK(refused(tilgurap_read_kfdread(woken.reply, woken.fds), TILGURAP_ERRNO_EIO));
+    CHECK(refused(tilgurap_read_kfdwrite(woken.reply, woken.fds), TILGURAP_ERRNO_EIO));
+    CHECK(done(tilgurap_drop(words, 63).answer, 0) && plain().table.holds.holds[63] == 0);
+
+    /* many: their count */
+    CHECK(done(tilgurap_open(words, 9).answer, 0) && done(tilgurap_copy(words, 9).answer, 0));
+    list[0] = list[1] = 9;
+    CHECK(queued(ask(8, 0, 0), 0) && done(tilgurap_call_fdwrite(words, give, 2, list, 2).answer, 2));
+    CHECK(done(complete(TILGURAP_CQE_MANY, 0, 0), TILGURAP_CQE_BYTES));
+    woken = wake(0, CALLER);
+    CHECK(replied(woken, TILGURAP_REPLY_MANY, 0) && plain().table.holds.outside[9] == 2);
+    CHECK(done(tilgurap_read_kfdread(woken.reply, woken.fds), 2));
+    CHECK(refused(tilgurap_read_kfdwrite(woken.reply, woken.fds), TILGURAP_ERRNO_EIO));
+    CHECK(queued(ask(8, 0, 0), 0) && done(complete(TILGURAP_CQE_MANY, 0, 0), TILGURAP_CQE_BYTES));
+    woken = wake(0, CALLER);
+    CHECK(done(tilgurap_read_kfdread(woken.reply, woken.fds), 0));
+
+    /* an error passes */
+    CHECK(queued(ask(8, 0, 0), 0));
+    CHECK(done(complete(TILGURAP_CQE_REGULAR, 0, tilgurap_mux_error(TILGURAP_ERRNO_EINVAL)), TILGURAP_CQE_BYTES));
+    woken = wake(0, CALLER);
+    CHECK(refused(tilgurap_read_kfdread(woken.reply, woken.fds), TILGURAP_ERRNO_EINVAL));
+    CHECK(refused(tilgurap_read_kfdwrite(woken.reply, woken.fds), TILGURAP_ERRNO_EINVAL));
+}
+
 /* Each refusal, and the last number that each limit lets through. */
 static void refusals(void)
 {
@@ -302,10 +387,21 @@ static void refusals(void)
         CHECK(done(tilgurap_next_id(words, CALLER).answer, tag));
     }
     CHECK(refused(tilgurap_next_id(words, CALLER).answer, TILGURAP_REFUSAL_NO_VACANT_SLOT));
+    CHECK(refused(send(none, 0, 0, 0).answer, TILGURAP_REFUSAL_NO_VACANT_SLOT));
+    CHECK(refused(ask(24, 0, 0).answer, TILGURAP_REFUSAL_NO_VACANT_SLOT));
+    CHECK(refused(ask(23, 0, 0).answer, TILGURAP_REFUSAL_EINVAL));
     for (int entry = 0; entry < TILGURAP_QUEUE_ENTRIES; entry++) {
         CHECK(done(tilgurap_close(words, 1).answer, 0));
     }
     CHECK(refused(tilgurap_close(words, 1).answer, TILGURAP_REFUSAL_QUEUE_FULL));
+
+    start();
+    for (int entry = 0; entry < TILGURAP_QUEUE_ENTRIES; entry++) {
+        CHECK(done(tilgurap_close(words, 1).answer, 0));
+    }
+    CHECK(refused(send(none, 0, 0, 0).answer, TILGURAP_REFUSAL_QUEUE_FULL));
+    CHECK(refused(ask(24, 0, 0).answer, TILGURAP_REFUSAL_QUEUE_FULL));
+    CHECK(refused(ask(23, 0, 0).answer, TILGURAP_REFUSAL_EINVAL));
 
     start();
     CHECK(done(tilgurap_open(words, TILGURAP_DESCRIPTIONS - 1).answer, 0));
@@ -380,6 +476,7 @@ int main(void)
     states();
     entries();
     replies();
+    descriptions();
     refusals();
     bytes();
     printf("%d checks from C, %d wrong\n", checked, wrong);

@@ -66,6 +66,15 @@ open 7
 call 8 6 1 2 3 4 5 0 0 0 8 1 7
 wake 4 8 1 8192 4
 call 8 6 1 2 3 4 5 0 0 0 8 1 1
+open 4
+fdwrite 9 20 18446744073709551615 2 3 4 5 6 9 1 4
+fdread 9 20 16 16384 0 5 6 9
+fdread 9 20 23 0 3 1 2 3 5 6 9
+front fdwrite regular ok 18446744073709551615 0 0
+front fdread regular err 28 255 1 # an error passes
+front fdread fd 18446744073709551615
+front fdread many 2 3 4
+front fdread many 0
 """
 
 
@@ -123,6 +132,8 @@ def line_of_event(event):
             words += [len(value), *value]
         elif name == "arguments":
             words += value
+        elif name == "reply":
+            words += reply_words(value)
         else:
             words.append(value if value != "" else "-")
     return " ".join(map(str, words))
@@ -249,7 +260,7 @@ class Json(unittest.TestCase):
                 self.replayed(path)
             # each kind of event, answer and effect was seen
             _, [*events, state] = self.objects("replay", "--json", str(every))
-            self.assertEqual(len({told["event"]["name"] for told in events}), 19)
+            self.assertEqual(len({told["event"]["name"] for told in events}), 22)
             self.assertEqual({told["answer"]["kind"] for told in events}, {"ok", "no", "wait", "blocked", "reply"})
             self.assertEqual({effect["kind"] for told in events for effect in told["effects"]}, set(EFFECTS))
             self.assertIn(4, [slot["span"]["count"] for slot in state["slots"]])

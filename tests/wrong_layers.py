@@ -70,6 +70,11 @@ WRONG = [
     ("call_with_tag_0", "Spelled", "[]", ".queued .call 0 (args6 0 0 0 0 0 0) 0 0 0 1", "queued", "(λ (l : List ℕ). getD l 0 0)", "0", "0x1_0000_0000"),
     ("one_reading_for_all", "Spelled", "[]", ".readings .success vacantSlot 9 0 false", "readings", "worth", "0", "9"),
     ("fresh_without_scheme", "Spelled", "[]", ".started 7 [] .number", "started", "(λ (n : ℕ). n)", "0", "7"),
+    ("odd_length_after_202", "Exactly", "replicate 64 (on (reserve 1))", "on (fdread 1 0 23 0 [] 0 0 0)", "answer", "code", "1202", "1022"),
+    # byte 16 of the entry is the first of its argument 1
+    ("all_flags_sent", "Spelled", "[]", ".calls .kfdwrite (freshWorld 7 (replicate 1024 0)) 1 0 4 [] 0 0 0 []", "calls",
+     "(λ (o : Outcome). getD (unreadIn (o .world)) 16 0)", "4", "0"),
+    ("many_counted_as_eio", "Spelled", "[]", ".fronts .many []", "fronts", "code", "1005", "0"),
     ("killed_wake_vacates", "Exactly", f"{CALL} ∷ on (wake 0 1 1 0 0) ∷ []", "on (reserve 2)", "answer", "code", "0", "1"),
 ]
 
@@ -82,9 +87,10 @@ use native.Mathlib.Omega.{{arith}}
 use lib.ListN.{{length, getD, replicate, length-replicate}}
 use Rattle.slot.specs.Slots.{{vacantSlot}}
 use Rattle.wait_queue.specs.Queue.{{wordsFrom}}
-use Rattle.events.specs.Outcome.{{Response, success, error, descriptor, many, Answer, onAnswer}}
+use Rattle.events.specs.World.{{freshWorld, unreadIn}}
+use Rattle.events.specs.Outcome.{{Response, success, error, descriptor, many, Answer, onAnswer, Outcome}}
 use Rattle.events.specs.Submit.{{args6}}
-use Rattle.events.specs.Event.{{reserve, submit, call, stdfs, fmap, wake, read, write, supply, Event, hostEnded, on, step}}
+use Rattle.events.specs.Event.{{reserve, submit, call, fdread, stdfs, fmap, wake, read, write, supply, Event, hostEnded, on, step}}
 use Rattle.events.specs.Run.{{Run, begin, next, runFrom, run, Steps, fresh, then}}
 use Rattle.events.specs.{claim}.{{{claim}}}
 

@@ -30,19 +30,19 @@ struct Records {
 /// The bytes of a record's head that its kind has no use for, as docs/FORMAT.md has them.
 fn unused(kind: u8) -> Vec<usize> {
     let mut unused = Vec::new();
-    if !matches!(kind, 7 | 8 | 9 | 10 | 17 | 18) {
+    if !matches!(kind, 7 | 8 | 9 | 10 | 17 | 18 | 20 | 21) {
         unused.push(1);
     }
-    if !matches!(kind, 9 | 10 | 17) {
+    if !matches!(kind, 9 | 10 | 17 | 20) {
         unused.push(2);
     }
     if kind != 7 {
         unused.push(3);
     }
-    if !matches!(kind, 5..=11 | 14..=16) {
+    if !matches!(kind, 5..=11 | 14..=16 | 20 | 21) {
         unused.extend(4..8);
     }
-    if !matches!(kind, 8 | 11) {
+    if !matches!(kind, 8 | 11 | 20 | 21) {
         unused.extend(8..16);
     }
     unused
@@ -109,7 +109,7 @@ impl Records {
         match draw.below(3) {
             // cut off, somewhere inside
             0 => events.truncate(start + 1 + draw.below((end - start - 1) as u64) as usize),
-            1 => events[start] = draw.one_of(&[0, 20, 21, 128, 255]),
+            1 => events[start] = draw.one_of(&[0, 22, 23, 128, 255]),
             _ => {
                 let field = draw.one_of(&unused(events[start]));
                 events[start + field] = draw.one_of(&[1, 2, 128, 255]);
@@ -152,6 +152,9 @@ pub struct Told {
 
 impl Told {
     pub fn add(&mut self, event: &Event, taken: &Taken) {
+        if !event.is_of_a_run() {
+            return;
+        }
         match taken {
             Taken::Same(line) => {
                 self.kernel.add(event, line);

@@ -18,6 +18,9 @@ pub struct Counts {
     answers: BTreeMap<(&'static str, String), u64>,
     effects: BTreeMap<(&'static str, u64), u64>,
     phases: BTreeMap<(&'static str, &'static str), u64>,
+    replies: BTreeMap<(&'static str, String), u64>,
+    /// The event that each slot was given out for last.
+    calls: BTreeMap<u64, &'static str>,
     entries: BTreeMap<(u8, &'static str, String), u64>,
     most_slots: u64,
     most_queued: u64,
@@ -57,6 +60,19 @@ fn phase(state: &State, tag: u64) -> &'static str {
     }
 }
 
+/// Does the event make a call, which is handed a reply?
+fn is_call(event: &Event) -> bool {
+    matches!(
+        event,
+        Event::Submit { .. }
+            | Event::Call { .. }
+            | Event::Generic(_)
+            | Event::Stdfs(_)
+            | Event::Fdwrite { .. }
+            | Event::Fdread { .. }
+    )
+}
+
 fn more<K: Ord>(counts: &mut BTreeMap<K, u64>, key: K) {
     *counts.entry(key).or_default() += 1;
 }
@@ -87,6 +103,17 @@ impl Counts {
         };
         if let Some(tag) = tag {
             more(&mut self.phases, (kind, phase(&state, tag)));
+        }
+        match (event, &line.answer) {
+            (Event::Wake { tag, .. }, Answer::Reply(_)) => {
+                if let Some(call) = self.calls.get(tag) {
+                    more(&mut self.replies, (*call, answer(&line.answer)));
+                }
+            }
+            (_, Answer::Ok(tag)) if is_call(event) => {
+                self.calls.insert(*tag, kind);
+            }
+            _ => {}
         }
         if let Event::Write { bytes, .. } = event
             && mark.is_empty()
@@ -140,6 +167,10 @@ impl Display for Counts {
         write!(f, "{}", self.shown.lines(reasons::ALL))?;
         writeln!(f, "\nanswers")?;
         for ((kind, answer), count) in &self.answers {
+            writeln!(f, "  {kind:8} {answer:26} {count:>10}")?;
+        }
+        writeln!(f, "\nreplies, by the event of their call")?;
+        for ((kind, answer), count) in &self.replies {
             writeln!(f, "  {kind:8} {answer:26} {count:>10}")?;
         }
         writeln!(f, "\neffects")?;

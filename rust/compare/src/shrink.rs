@@ -1,7 +1,7 @@
 //! A script with a difference, made short: events left out, then numbers and lists made plain, as
 //! long as there is a difference.
 
-use script::{Event, Payload, Script};
+use script::{Event, FdCall, Payload, Script};
 
 const ENTRY: usize = 16;
 const EFFECT_WORDS: u64 = 54;
@@ -50,6 +50,24 @@ fn plainer(event: &Event) -> Vec<Event> {
             };
             plainer.extend(shorter(list).into_iter().map(with));
             plainer.push(with(list.clone()));
+        }
+        Event::Fdwrite { call, list } => {
+            let with = |call: FdCall, list: &[u64]| Event::Fdwrite {
+                call,
+                list: list.to_vec(),
+            };
+            plainer.extend(
+                shorter(list)
+                    .iter()
+                    .map(|list| with(plain_call(call), list)),
+            );
+            plainer.extend(plainer_calls(call).into_iter().map(|call| with(call, list)));
+        }
+        Event::Fdread { call, len } => {
+            let with = |call: FdCall, len: u64| Event::Fdread { call, len };
+            // no word, one, or a part of one
+            plainer.extend([0, 8, len % 8].map(|len| with(plain_call(call), len)));
+            plainer.extend(plainer_calls(call).into_iter().map(|call| with(call, *len)));
         }
         Event::Generic(p) => plainer.push(payload(p, Event::Generic)),
         Event::Stdfs(p) => plainer.push(payload(p, Event::Stdfs)),
@@ -121,6 +139,45 @@ fn plainer(event: &Event) -> Vec<Event> {
     plainer
 }
 
+/// The words with less of them or in them.
+fn plain_words(words: &[u64]) -> Vec<Vec<u64>> {
+    let mut plain = shorter(words);
+    plain.extend([0, 1].map(|most| words.iter().map(|word| *word.min(&most)).collect()));
+    plain
+}
+
+/// Of an fdwrite's or fdread's fields what may matter to it.
+fn plain_call(call: &FdCall) -> FdCall {
+    FdCall {
+        number: 0,
+        uid: 0,
+        gid: 0,
+        pid: 0,
+        ..call.clone()
+    }
+}
+
+/// The same with plainer metadata, with plainer flags, and as it is.
+fn plainer_calls(call: &FdCall) -> Vec<FdCall> {
+    let with_meta = |meta| FdCall {
+        meta,
+        ..plain_call(call)
+    };
+    let with_flags = |flags| FdCall {
+        flags,
+        ..plain_call(call)
+    };
+    let mut calls: Vec<FdCall> = plain_words(&call.meta).into_iter().map(with_meta).collect();
+    calls.extend(plain_flags().map(with_flags));
+    calls.push(plain_call(call));
+    calls
+}
+
+/// No flag of a call, or one of those that have to do with descriptors.
+fn plain_flags() -> impl Iterator<Item = u64> {
+    [0].into_iter().chain((11..16).map(|bit| 1 << bit))
+}
+
 /// The list without one of its words, or with none.
 fn shorter(list: &[u64]) -> Vec<Vec<u64>> {
     let without = |place: usize| {
@@ -172,6 +229,8 @@ fn renumbered(script: &mut Script, differs: &dyn Fn(&Script) -> bool) -> bool {
                 | Event::Generic(_)
                 | Event::Stdfs(_)
                 | Event::Fmap { .. }
+                | Event::Fdwrite { .. }
+                | Event::Fdread { .. }
         );
         if !gives || script.events.len() > RENUMBERED_MOST {
             continue;

@@ -185,6 +185,18 @@ fn read_both(reply: &Reply) -> Result<(), String> {
     // descriptors bring no notice
     let rust = (result(rust), notice.unwrap_or(false));
     same(told(Front::StdFsCall), rust, port)?;
+    let (rust, _) = read_reply(Front::Fdwrite, reply);
+    same(
+        told(Front::Fdwrite),
+        result(rust),
+        numbers::read_kfdwrite(reply),
+    )?;
+    let (rust, _) = read_reply(Front::Fdread, reply);
+    same(
+        told(Front::Fdread),
+        result(rust),
+        numbers::read_kfdread(reply),
+    )?;
     let (rust, _) = read_reply(Front::Open, reply);
     same(told(Front::Open), opened(rust), numbers::kopenat(reply))?;
     let (rust, _) = read_reply(Front::Dup, reply);
@@ -216,7 +228,7 @@ fn readings(draw: &mut Draw) -> Result<u64, String> {
     replies.extend((0..64).map(Reply::Fd));
     replies.extend((0..=16).map(|len| Reply::Many((0..len).map(|_| draw.below(64)).collect())));
     replies.iter().try_for_each(read_both)?;
-    Ok(5 * replies.len() as u64)
+    Ok(7 * replies.len() as u64)
 }
 
 /// Compares them all, with so many random words.

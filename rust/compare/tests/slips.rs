@@ -36,7 +36,7 @@ const A_LIST: usize = 24;
 const ALL_SLOTS: usize = 66;
 const ALL_QUEUE: usize = 140;
 
-const SLIPS: [Slip; 18] = [
+const SLIPS: [Slip; 24] = [
     Slip {
         name: "a killed wake vacates the slot",
         before: NOT_BEFORE,
@@ -260,6 +260,92 @@ const SLIPS: [Slip; 18] = [
                 && let Some(d) = list.first()
             {
                 layer.drop_one(*d);
+            }
+        },
+        most: FEW,
+    },
+    Slip {
+        name: "fdwrite passes its flags on as they are",
+        before: |layer, event| match event {
+            Event::Fdwrite { call, list } => {
+                let first = call.meta.first().copied().unwrap_or(0);
+                Some(layer.step(&Event::Call {
+                    c: call.c,
+                    op: 12,
+                    args: [call.number, call.flags, first, list.len() as u64, 0, 0],
+                    uid: call.uid,
+                    gid: call.gid,
+                    pid: call.pid,
+                    list: list.clone(),
+                }))
+            }
+            _ => None,
+        },
+        after: NOT_AFTER,
+        most: FEW,
+    },
+    Slip {
+        name: "fdwrite looks at the bit beside its own",
+        before: |layer, event| match event {
+            Event::Fdwrite { call, list } if call.flags >> 12 & 3 == 2 => {
+                let (mut call, list) = (call.clone(), list.clone());
+                call.flags |= 1 << 12;
+                Some(layer.step(&Event::Fdwrite { call, list }))
+            }
+            _ => None,
+        },
+        after: NOT_AFTER,
+        most: FEW,
+    },
+    Slip {
+        name: "fdread sends its length in bytes",
+        before: |layer, event| match event {
+            Event::Fdread { call, len } if len % 8 == 0 => {
+                let (call, len) = (call.clone(), len.wrapping_mul(8));
+                Some(layer.step(&Event::Fdread { call, len }))
+            }
+            _ => None,
+        },
+        after: NOT_AFTER,
+        most: FEW,
+    },
+    Slip {
+        name: "fdread sends one word of metadata",
+        before: |layer, event| match event {
+            Event::Fdread { call, len } if call.meta.len() > 1 => {
+                let (mut call, len) = (call.clone(), *len);
+                call.meta.truncate(1);
+                Some(layer.step(&Event::Fdread { call, len }))
+            }
+            _ => None,
+        },
+        after: NOT_AFTER,
+        most: FEW,
+    },
+    Slip {
+        name: "202 before an fdread's 22",
+        before: NOT_BEFORE,
+        after: |before, _, event, line| {
+            if let (Event::Fdread { .. }, Answer::No(22)) = (event, &line.answer)
+                && occupied(before) == 64
+            {
+                line.answer = Answer::No(202);
+            }
+        },
+        most: ALL_SLOTS,
+    },
+    Slip {
+        name: "the last of what fdwrite sends is held outside, too",
+        before: NOT_BEFORE,
+        after: |_, layer, event, line| {
+            if let (Event::Fdwrite { list, .. }, Answer::Ok(_)) = (event, &line.answer)
+                && let Some(d) = list.last()
+            {
+                layer.change_parts(|state| {
+                    let holds = &mut state.table.holds;
+                    holds.holds[*d as usize] += 1;
+                    holds.outside[*d as usize] += 1;
+                });
             }
         },
         most: FEW,

@@ -3,12 +3,12 @@
 use std::fmt::Display;
 use std::io::{self, Write};
 
-use script::{Answer, Effect, Event, Line, Payload, Script, source_lines};
+use script::{Answer, Effect, Event, Form, Line, Payload, Script, source_lines};
 use tilgurap::numbers::Layer;
-use tilgurap::{Cqe, Opcode, Sqe};
+use tilgurap::{CallFlags, Cqe, Opcode, Sqe};
 
 use crate::reasons;
-use crate::reply::{told, typed};
+use crate::reply::{self, list, told};
 use crate::table;
 
 /// The comments that belong to one event: the lines above it, and what stands behind it.
@@ -58,16 +58,26 @@ impl Comments<'_> {
     }
 }
 
-fn numbers(list: &[u64]) -> String {
-    let numbers: Vec<String> = list.iter().map(u64::to_string).collect();
-    numbers.join(", ")
+fn descriptions(named: &[u64]) -> String {
+    match named {
+        [] => "no description".to_owned(),
+        [one] => format!("description {one}"),
+        many => format!("descriptions {}", list(many)),
+    }
 }
 
-fn along(list: &[u64]) -> String {
-    match list {
+fn along(sent: &[u64]) -> String {
+    match sent {
         [] => String::new(),
-        [one] => format!(" and sends description {one} along"),
-        many => format!(" and sends descriptions {} along", numbers(many)),
+        some => format!(" and sends {} along", descriptions(some)),
+    }
+}
+
+/// What follows where this one is among a call's flags.
+fn flagged(flags: u64, flag: CallFlags, what: &'static str) -> &'static str {
+    match CallFlags::from_bits(flags).contains(flag) {
+        true => what,
+        false => "",
     }
 }
 
@@ -90,7 +100,7 @@ fn files(payload: &Payload) -> String {
     match &payload.fds[..] {
         [] => "no file".to_owned(),
         [one] => format!("file {one}"),
-        many => format!("files {}", numbers(many)),
+        many => format!("files {}", list(many)),
     }
 }
 
@@ -200,6 +210,27 @@ fn asked(event: &Event) -> String {
         Event::Supply { tag, base, .. } => {
             format!("the driver supplies the page at {base} for tag {tag}")
         }
+        Event::Fdwrite { call, list } => format!(
+            "caller {} sends {} to file {}{}",
+            call.c,
+            descriptions(list),
+            call.number,
+            flagged(call.flags, CallFlags::FD_EXCLUSIVE, ", exclusively")
+        ),
+        Event::Fdread { call, len } => format!(
+            "caller {} asks file {} for descriptions, into {}{}",
+            call.c,
+            call.number,
+            count(*len, "byte"),
+            flagged(
+                call.flags,
+                CallFlags::FD_UPPER,
+                ", for the upper file table"
+            )
+        ),
+        Event::Front { form, reply } => {
+            format!("a call by {} reads its reply, {}", form.name(), told(reply))
+        }
     }
 }
 
@@ -233,7 +264,16 @@ fn accepted(event: &Event, number: u64, line: &Line, before: &Layer) -> String {
         | Event::Call { .. }
         | Event::Generic(_)
         | Event::Stdfs(_)
-        | Event::Fmap { .. } => format!("accepted, tag {number}"),
+        | Event::Fmap { .. }
+        | Event::Fdwrite { .. }
+        | Event::Fdread { .. } => format!("accepted, tag {number}"),
+        Event::Front {
+            form: Form::Fdwrite,
+            ..
+        } => format!("it returns {number}"),
+        Event::Front {
+            form: Form::Fdread, ..
+        } => format!("it returns {number}, how many came"),
         Event::Read { .. } => format!(
             "it gets {}: {}",
             count(number, "byte"),
@@ -271,6 +311,10 @@ fn accepted(event: &Event, number: u64, line: &Line, before: &Layer) -> String {
 fn answered(event: &Event, line: &Line, before: &Layer) -> String {
     match &line.answer {
         Answer::Ok(number) => accepted(event, *number, line, before),
+        Answer::No(number) if !event.is_of_a_run() => {
+            let why = reasons::refusal(event, *number, before.typed());
+            format!("it returns with {}: {why}", reply::error(*number))
+        }
         Answer::No(4) => {
             "its call returns with EINTR (4), the slot stays taken until the driver has replied"
                 .to_owned()
@@ -282,7 +326,7 @@ fn answered(event: &Event, line: &Line, before: &Layer) -> String {
         Answer::Wait => "the queue is empty, the driver would wait".to_owned(),
         Answer::Blocked if line.effects.is_empty() => "no reply yet, it stays blocked".to_owned(),
         Answer::Blocked => "no reply yet, it stays blocked and a Cancel is queued".to_owned(),
-        Answer::Reply(handed) => format!("it is handed its reply: {}", told(&typed(handed))),
+        Answer::Reply(handed) => format!("it is handed its reply: {}", told(handed)),
         Answer::Skip => unreachable!("the layer answers every event"),
     }
 }

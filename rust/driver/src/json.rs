@@ -3,11 +3,11 @@
 use std::fmt::{self, Display, Formatter};
 use std::io::{self, Write};
 
-use script::{Answer, Effect, Event, Line, Script, Value, source_lines};
+use script::{Answer, Effect, Event, Line, Reply, Script, Value, source_lines};
 use tilgurap::numbers;
-use tilgurap::{Description, Handle, Holds, Layer, Reply, Slot, Sqe, StatusWord, Tag};
+use tilgurap::{Description, Handle, Holds, Layer, Slot, Sqe, StatusWord, Tag};
 
-use crate::reply::typed;
+use crate::reply;
 use crate::table;
 
 /// Rises with every change that a reader of the objects could stumble over.
@@ -105,6 +105,8 @@ fn event(event: &Event) -> Json<'static> {
         Value::Six(arguments) => numbers(arguments),
         Value::List(list) => numbers(list),
         Value::Bytes(bytes) => hex(bytes),
+        Value::Word(word) => text(word),
+        Value::Reply(reply) => handed_over(reply),
     };
     let fields = event.fields().into_iter();
     let name = ("name", text(event.name()));
@@ -112,11 +114,7 @@ fn event(event: &Event) -> Json<'static> {
     Object([name].into_iter().chain(named).collect())
 }
 
-fn descriptions(list: &[Description]) -> Json<'static> {
-    List(list.iter().map(|d| Number(d.0)).collect())
-}
-
-fn reply(reply: &Reply) -> Json<'static> {
+fn handed_over(reply: &Reply) -> Json<'static> {
     Object(match reply {
         Reply::Regular {
             result,
@@ -126,15 +124,15 @@ fn reply(reply: &Reply) -> Json<'static> {
             ("kind", text("regular")),
             match result {
                 Ok(word) => ("ok", Number(*word)),
-                Err(errno) => ("err", Number(errno.number())),
+                Err(errno) => ("err", Number(*errno)),
             },
             ("extra0", Number(u64::from(*extra0))),
             ("notice", Bool(*notice)),
         ],
-        Reply::Descriptor(description) => {
-            vec![("kind", text("fd")), ("description", Number(description.0))]
+        Reply::Fd(description) => {
+            vec![("kind", text("fd")), ("description", Number(*description))]
         }
-        Reply::Many(many) => vec![("kind", text("many")), ("descriptions", descriptions(many))],
+        Reply::Many(many) => vec![("kind", text("many")), ("descriptions", numbers(many))],
     })
 }
 
@@ -144,7 +142,7 @@ fn answer(answer: &Answer) -> Json<'static> {
         Answer::No(number) => vec![("kind", text("no")), ("number", Number(*number))],
         Answer::Wait => vec![("kind", text("wait"))],
         Answer::Blocked => vec![("kind", text("blocked"))],
-        Answer::Reply(handed) => vec![("kind", text("reply")), ("reply", reply(&typed(handed)))],
+        Answer::Reply(reply) => vec![("kind", text("reply")), ("reply", handed_over(reply))],
         Answer::Skip => unreachable!("the layer answers every event"),
     })
 }
@@ -189,6 +187,7 @@ fn slot((tag, slot): &(Tag, Slot)) -> Json<'static> {
         ("base", Number(slot.span.base)),
         ("count", Number(slot.span.count)),
     ];
+    let stored = slot.reply.as_ref().map(reply::stored);
     Object(vec![
         ("tag", Number(tag.0)),
         ("state", Text(format!("{:?}", slot.state))),
@@ -197,8 +196,8 @@ fn slot((tag, slot): &(Tag, Slot)) -> Json<'static> {
         ("returned", Bool(slot.returned)),
         ("ended", Bool(slot.ended)),
         ("span", Object(span)),
-        ("descriptions", descriptions(&slot.descriptions)),
-        ("reply", slot.reply.as_ref().map_or(Null, reply)),
+        ("descriptions", numbers(&reply::numbers(&slot.descriptions))),
+        ("reply", stored.as_ref().map_or(Null, handed_over)),
     ])
 }
 

@@ -1,6 +1,6 @@
 //! Why the layer refused an event, told from the state that the event found.
 
-use script::Event;
+use script::{Event, Form, Reply};
 use tilgurap::{Cqe, Description, Handle, Layer, Opcode, Refusal, SlotState, Tag};
 
 /// Why a list is refused, where it is.
@@ -86,6 +86,21 @@ pub fn completion(layer: &Layer, bytes: &[u8]) -> String {
     }
 }
 
+/// Why a call of this form reads a reply as an error.
+fn front(form: Form, reply: &Reply) -> String {
+    let takes = match form {
+        Form::Fdwrite => "it takes a word or an error",
+        Form::Fdread => "it takes a list of descriptions or an error",
+    };
+    match reply {
+        Reply::Regular { result: Err(_), .. } => "so the driver replied".to_owned(),
+        Reply::Regular { result: Ok(_), .. } => takes.to_owned(),
+        Reply::Fd(_) | Reply::Many(_) => {
+            format!("{takes}; what the reply holds is the host's to drop")
+        }
+    }
+}
+
 /// Why this event was refused with this number.
 pub fn refusal(event: &Event, number: u64, layer: &Layer) -> String {
     let told = match (event, number) {
@@ -99,7 +114,11 @@ pub fn refusal(event: &Event, number: u64, layer: &Layer) -> String {
         (Event::Submit { op, list: of, .. } | Event::Call { op, list: of, .. }, 205 | 206) => {
             unknown_opcode(*op).or_else(|| list(layer, of))
         }
-        (Event::Move { list: of, .. }, 205 | 206) => list(layer, of),
+        (Event::Move { list: of, .. } | Event::Fdwrite { list: of, .. }, 205 | 206) => {
+            list(layer, of)
+        }
+        (Event::Fdread { len, .. }, 22) => Some(format!("its length, {len}, is no multiple of 8")),
+        (Event::Front { form, reply }, _) => Some(front(*form, reply)),
         (Event::Wake { killed, .. }, 205) => {
             Some(format!("killed is {killed}, it has to be 0 or 1"))
         }

@@ -1,11 +1,22 @@
-//! Replies: in a few words, and from a script's numbers.
+//! Replies in a script's numbers: in a few words, and from what a slot holds.
 
-use tilgurap::{Description, Errno, Reply};
+use script::Reply;
+use tilgurap::{Description, Errno};
 
 /// A list of descriptions in words.
-pub fn list(descriptions: &[Description]) -> String {
-    let numbers: Vec<String> = descriptions.iter().map(Description::to_string).collect();
+pub fn list(descriptions: &[u64]) -> String {
+    let numbers: Vec<String> = descriptions.iter().map(u64::to_string).collect();
     numbers.join(", ")
+}
+
+/// The numbers of descriptions.
+pub fn numbers(descriptions: &[Description]) -> Vec<u64> {
+    descriptions.iter().map(|d| d.0).collect()
+}
+
+/// An error by its name and its number; a line may say one without a name.
+pub fn error(errno: u64) -> String {
+    Errno::new(errno).map_or_else(|| errno.to_string(), |errno| errno.to_string())
 }
 
 /// A reply in a few words.
@@ -18,7 +29,7 @@ pub fn told(reply: &Reply) -> String {
         } => {
             let mut text = match result {
                 Ok(word) => format!("success with {word}"),
-                Err(errno) => format!("error {errno}"),
+                Err(errno) => format!("error {}", error(*errno)),
             };
             if *extra0 != 0 {
                 text += &format!(", extra0 {extra0}");
@@ -28,25 +39,25 @@ pub fn told(reply: &Reply) -> String {
             }
             text
         }
-        Reply::Descriptor(description) => format!("description {description}"),
+        Reply::Fd(description) => format!("description {description}"),
         Reply::Many(many) if many.is_empty() => "an empty list of descriptions".to_owned(),
         Reply::Many(many) => format!("descriptions {}", list(many)),
     }
 }
 
-/// The reply that a line's numbers say.
-pub fn typed(reply: &script::Reply) -> Reply {
+/// The reply that a slot holds, as a line's numbers say it.
+pub fn stored(reply: &tilgurap::Reply) -> Reply {
     match reply {
-        script::Reply::Regular {
+        tilgurap::Reply::Regular {
             result,
             extra0,
             notice,
         } => Reply::Regular {
-            result: result.map_err(|errno| Errno::new(errno).expect("a reply's errno")),
+            result: result.map_err(Errno::number),
             extra0: *extra0,
             notice: *notice,
         },
-        script::Reply::Fd(d) => Reply::Descriptor(Description(*d)),
-        script::Reply::Many(many) => Reply::Many(many.iter().copied().map(Description).collect()),
+        tilgurap::Reply::Descriptor(description) => Reply::Fd(description.0),
+        tilgurap::Reply::Many(many) => Reply::Many(numbers(many)),
     }
 }

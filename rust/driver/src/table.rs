@@ -56,10 +56,11 @@ fn notes(slot: &Slot) -> String {
         notes.push(format!("pages to unmap: {count} from {base}"));
     }
     if !slot.descriptions.is_empty() {
-        notes.push(format!("descriptions {}", reply::list(&slot.descriptions)));
+        let list = reply::list(&reply::numbers(&slot.descriptions));
+        notes.push(format!("descriptions {list}"));
     }
     if let Some(stored) = &slot.reply {
-        notes.push(format!("reply: {}", reply::told(stored)));
+        notes.push(format!("reply: {}", reply::told(&reply::stored(stored))));
     }
     notes.join("; ")
 }

@@ -85,6 +85,59 @@ fn events_that_are_accepted() {
             "write 0 -",
             "The driver writes no whole entry; taken, 0 bytes.",
         ),
+        (
+            "open 3\nopen 4\nfdwrite 9 20 4096 0 0 0 9 2 3 4",
+            "Caller 9 sends descriptions 3, 4 to file 20, exclusively; accepted, tag 0; effect: the queue of scheme 7 has something to read.",
+        ),
+        (
+            "fdwrite 9 20 16384 0 0 0 9 0",
+            "Caller 9 sends no description to file 20; accepted, tag 0; effect: the queue of scheme 7 has something to read.",
+        ),
+        (
+            "fdread 9 20 16 4096 0 0 0 9",
+            "Caller 9 asks file 20 for descriptions, into 16 bytes; accepted, tag 0; effect: the queue of scheme 7 has something to read.",
+        ),
+        (
+            "fdread 9 20 0 20480 0 0 0 9",
+            "Caller 9 asks file 20 for descriptions, into 0 bytes, for the upper file table; accepted, tag 0; effect: the queue of scheme 7 has something to read.",
+        ),
+        (
+            "front fdwrite regular ok 9 0 0",
+            "A call by fdwrite reads its reply, success with 9; it returns 9.",
+        ),
+        (
+            "front fdread many 2 3 4",
+            "A call by fdread reads its reply, descriptions 3, 4; it returns 2, how many came.",
+        ),
+    ] {
+        assert_eq!(sentence(events), wanted, "{events}");
+    }
+}
+
+/// No event is refused here: an error is what the call returns.
+#[test]
+fn replies_that_are_read_as_errors() {
+    for (events, wanted) in [
+        (
+            "front fdread regular err 4 0 0",
+            "A call by fdread reads its reply, error EINTR (4); it returns with EINTR (4): so the driver replied.",
+        ),
+        (
+            "front fdwrite regular err 500 0 0",
+            "A call by fdwrite reads its reply, error 500; it returns with 500: so the driver replied.",
+        ),
+        (
+            "front fdread regular ok 2 0 0",
+            "A call by fdread reads its reply, success with 2; it returns with EIO (5): it takes a list of descriptions or an error.",
+        ),
+        (
+            "front fdread fd 3",
+            "A call by fdread reads its reply, description 3; it returns with EIO (5): it takes a list of descriptions or an error; what the reply holds is the host's to drop.",
+        ),
+        (
+            "front fdwrite many 2 3 4",
+            "A call by fdwrite reads its reply, descriptions 3, 4; it returns with EIO (5): it takes a word or an error; what the reply holds is the host's to drop.",
+        ),
     ] {
         assert_eq!(sentence(events), wanted, "{events}");
     }
@@ -160,6 +213,30 @@ fn refusals_say_why() {
                 " 3".repeat(17)
             ),
             "206: more than 16 descriptions are sent along.",
+        ),
+        (
+            "open 3\nfdwrite 1 9 0 0 0 0 1 2 3 3",
+            "205: the host has too few holds of description 3 to send it.",
+        ),
+        (
+            "fdwrite 1 9 0 0 0 0 1 1 64",
+            "205: description 64 is over 63.",
+        ),
+        (
+            &format!(
+                "open 3\n{}fdwrite 1 9 0 0 0 0 1 17{}",
+                "copy 3\n".repeat(16),
+                " 3".repeat(17)
+            ),
+            "206: more than 16 descriptions are sent along.",
+        ),
+        (
+            "fdread 1 9 23 0 0 0 0 1",
+            "22: its length, 23, is no multiple of 8.",
+        ),
+        (
+            &format!("{}fdread 1 9 24 0 0 0 0 1", "close 1\n".repeat(128)),
+            "203: the queue is full.",
         ),
         (
             "submit 5 2 6 0 0 0 0 0 0 0 0 0",

@@ -76,6 +76,8 @@ fn a_mistake_on_each_kind_of_line() {
         "move 1 1 1 5",
         "obtain 1 0",
         "supply 0 0 4096 1",
+        "fdwrite 1 2 3 1 4 5 6 7 1 0",
+        "fdread 1 2 8 3 1 4 5 6 7",
     ] {
         let (kind, _) = good.split_once(' ').expect("a kind and its fields");
         let (cut, _) = good.rsplit_once(' ').expect("a last field");
@@ -110,6 +112,122 @@ fn a_mistake_on_each_kind_of_line() {
         }
         let output = run(&["replay"], format!("scheme 7\n{good}\n").as_bytes());
         assert_eq!(output.status.code(), Some(0), "{good}");
+    }
+}
+
+/// How each form reads each shape of a reply, also numbers that no reply has. Nothing else is printed, and the state
+/// stays as it is.
+#[test]
+fn fronts() {
+    let sixteen = "many 16 0 1 2 3 4 5 6 7 8 9 10 11 12 13 14 63";
+    let asked = [
+        ("regular ok 9 0 0", "ok 9", "no 5"),
+        ("regular ok 0 255 1", "ok 0", "no 5"),
+        (
+            "regular ok 18446744073709551615 0 0",
+            "ok 18446744073709551615",
+            "no 5",
+        ),
+        ("regular err 5 0 0", "no 5", "no 5"),
+        ("regular err 4 0 1", "no 4", "no 4"),
+        ("regular err 132 255 0", "no 132", "no 132"),
+        ("regular err 500 0 0", "no 500", "no 500"),
+        ("fd 3", "no 5", "no 5"),
+        ("fd 18446744073709551615", "no 5", "no 5"),
+        ("many 0", "no 5", "ok 0"),
+        ("many 1 18446744073709551615", "no 5", "ok 1"),
+        ("many 3 7 7 7", "no 5", "ok 3"),
+        (sixteen, "no 5", "ok 16"),
+    ];
+    let (mut script, mut wanted) = ("scheme 7\n".to_owned(), String::new());
+    for (reply, by_fdwrite, by_fdread) in asked {
+        script += &format!("front fdwrite {reply}\nfront fdread {reply}\n");
+        wanted += &format!("{by_fdwrite}\n{by_fdread}\n");
+    }
+    let (output, fresh) = (
+        run(&["replay"], script.as_bytes()),
+        run(&["replay"], b"scheme 7\n"),
+    );
+    assert_eq!(text(&output.stdout), wanted + text(&fresh.stdout));
+    assert_eq!(output.status.code(), Some(0));
+    for args in [
+        &["replay", "--explain"][..],
+        &["replay", "--json"],
+        &["status"],
+    ] {
+        assert_eq!(run(args, script.as_bytes()).status.code(), Some(0));
+    }
+
+    let objects = run(
+        &["replay", "--json"],
+        b"scheme 7\nfront fdread regular err 500 1 1\nfront fdwrite many 2 3 4\n",
+    );
+    let lines: Vec<&str> = text(&objects.stdout).lines().collect();
+    assert_eq!(
+        lines[1..3],
+        [
+            r#"{"type":"event","number":1,"line":2,"event":{"name":"front","form":"fdread","reply":{"kind":"regular","err":500,"extra0":1,"notice":true}},"answer":{"kind":"no","number":500},"effects":[],"bytes":""}"#,
+            r#"{"type":"event","number":2,"line":3,"event":{"name":"front","form":"fdwrite","reply":{"kind":"many","descriptions":[3,4]}},"answer":{"kind":"no","number":5},"effects":[],"bytes":""}"#,
+        ]
+    );
+
+    for (bad, what) in [
+        (
+            "front read fd 3",
+            "field FORM: `read` is not `fdwrite` or `fdread`",
+        ),
+        ("front fdread", "field REPLY is missing"),
+        ("front fdread many 2 3", "field D2 is missing"),
+        (
+            &format!("front fdread many 17{}", " 3".repeat(17)),
+            "field K: 17 is over 16, the most that a reply hands over",
+        ),
+    ] {
+        let output = run(&["replay"], format!("scheme 7\n{bad}\n").as_bytes());
+        let message = format!(
+            "standard input: line 2: {what}; nothing was run; `./tilgurap help script` shows each event's line\n"
+        );
+        assert_eq!(text(&output.stderr), message);
+        assert_eq!(output.status.code(), Some(2));
+    }
+}
+
+/// Descriptions sent and asked for, at each limit: a length is looked at first, then the list, the slots, the queue.
+#[test]
+fn descriptions_by_calls() {
+    let opened: String = (0..17).map(|d| format!("open {d}\n")).collect();
+    let all: String = (0..17).map(|d| format!(" {d}")).collect();
+    let (sixteen, _) = all.rsplit_once(' ').expect("a last one");
+    let slots = "reserve 1\n".repeat(64);
+    let entries = "close 1\n".repeat(128);
+    for (events, answer) in [
+        (format!("{opened}fdwrite 1 9 0 0 0 0 1 17{all}"), "no 206"),
+        (
+            format!("{opened}drop 16\nfdwrite 1 9 0 0 0 0 1 17{all}"),
+            "no 205",
+        ),
+        (
+            format!("{opened}fdwrite 1 9 0 0 0 0 1 16{sixteen}"),
+            "ok 0 ; E 5 7 1",
+        ),
+        (
+            format!("{opened}{slots}fdwrite 1 9 0 0 0 0 1 17{all}"),
+            "no 206",
+        ),
+        (format!("{slots}fdwrite 1 9 0 0 0 0 1 0"), "no 202"),
+        (format!("{entries}fdwrite 1 9 0 0 0 0 1 0"), "no 203"),
+        (format!("{slots}{entries}fdwrite 1 9 0 0 0 0 1 0"), "no 202"),
+        (format!("{slots}fdread 1 9 23 0 0 0 0 1"), "no 22"),
+        (format!("{entries}fdread 1 9 23 0 0 0 0 1"), "no 22"),
+        ("fdread 1 9 23 0 0 0 0 1".to_owned(), "no 22"),
+        (format!("{slots}fdread 1 9 24 0 0 0 0 1"), "no 202"),
+        (format!("{entries}fdread 1 9 24 0 0 0 0 1"), "no 203"),
+        ("fdread 1 9 0 0 0 0 0 1".to_owned(), "ok 0 ; E 5 7 1"),
+        ("fdread 1 9 8 0 0 0 0 1".to_owned(), "ok 0 ; E 5 7 1"),
+    ] {
+        let output = run(&["replay"], format!("scheme 7\n{events}\n").as_bytes());
+        let said: Vec<&str> = text(&output.stdout).lines().collect();
+        assert_eq!(said[said.len() - 2], answer, "{events}");
     }
 }
 

@@ -1,13 +1,21 @@
 //! An event of a kind, aimed at what the run has: most of them do something, some are refused, a
 //! few are wild.
 
-use script::{Event, Payload, Phase};
+use script::{Event, FdCall, Payload, Phase};
 
 use crate::draw::Draw;
 use crate::model::{Generator, Kind};
 
 const CALLERS: [u32; 8] = [1, 2, 3, 4, 5, 100, 0, u32::MAX];
 const NON_BLOCKING: u32 = 0x0004_0000;
+
+/// The verbs of a driver's calls.
+const OBTAIN: u64 = 0;
+const MOVE: u64 = 1;
+
+/// The flags of a call that fdwrite and fdread look at.
+const FD_EXCLUSIVE: u64 = 1 << 12;
+const FD_UPPER: u64 = 1 << 14;
 
 fn args(draw: &mut Draw) -> [u64; 6] {
     [(); 6].map(|()| draw.word())
@@ -17,6 +25,40 @@ fn opcode(draw: &mut Draw) -> u64 {
     match draw.below(100) {
         0..97 => 3 + draw.below(32),
         97 | 98 => draw.one_of(&[0, 1, 2, 35, 36, 255, 256, 259]),
+        _ => draw.word(),
+    }
+}
+
+/// Either bit that is looked at, both, none, all but one, all, a bit nearby.
+fn call_flags(draw: &mut Draw) -> u64 {
+    match draw.below(100) {
+        0..15 => 0,
+        15..30 => FD_EXCLUSIVE,
+        30..45 => FD_UPPER,
+        45..60 => FD_EXCLUSIVE | FD_UPPER,
+        60..68 => !FD_EXCLUSIVE,
+        68..76 => !FD_UPPER,
+        76..80 => u64::MAX,
+        80..90 => 1 << (10 + draw.below(8)),
+        _ => draw.word(),
+    }
+}
+
+/// No words to three, mostly.
+fn fd_meta(draw: &mut Draw) -> Vec<u64> {
+    match draw.chance(95) {
+        true => words(draw, 3),
+        false => words(draw, 40),
+    }
+}
+
+/// The bytes of a payload: mostly whole words, as many as a list may have or about so many.
+fn payload_length(draw: &mut Draw) -> u64 {
+    match draw.below(100) {
+        0..35 => 8 * draw.below(4),
+        35..65 => 8 * draw.below(18),
+        65..78 => draw.below(140),
+        78..90 => draw.word() & !7,
         _ => draw.word(),
     }
 }
@@ -118,6 +160,22 @@ impl Generator {
             Some(given) if !self.draw.chance(3) => given.caller,
             _ => self.caller(),
         }
+    }
+
+    /// What fdwrite and fdread share; what one of them has behind the number is drawn there.
+    fn fd_call<T>(&mut self, behind_number: fn(&mut Draw) -> T) -> (FdCall, T) {
+        let (c, number) = (self.caller(), self.draw.word());
+        let behind = behind_number(&mut self.draw);
+        let call = FdCall {
+            c,
+            number,
+            flags: call_flags(&mut self.draw),
+            meta: fd_meta(&mut self.draw),
+            uid: self.draw.half(),
+            gid: self.draw.half(),
+            pid: self.draw.word(),
+        };
+        (call, behind)
     }
 
     fn payload(&mut self, kinds: &[u64]) -> Payload {
@@ -225,6 +283,14 @@ impl Generator {
         {
             request = listed;
         }
+        // an fdread has no list of its own
+        let receiving = self.receiving(false);
+        if let Some(receiving) = self.draw.maybe_of(&receiving)
+            && verb == MOVE
+            && self.draw.chance(60)
+        {
+            request = receiving;
+        }
         if self.draw.chance(3) {
             request |= 1 << 32;
         }
@@ -329,12 +395,26 @@ impl Generator {
             Kind::Wake => self.wake(),
             Kind::Read => self.read(),
             Kind::Write => self.write(),
-            Kind::Move => Event::Move {
-                meta: self.meta(1),
+            Kind::Move => {
+                let meta = self.meta(MOVE);
+                let mut list = self.list();
+                if list.is_empty() && self.draw.chance(60) {
+                    list = self.list();
+                }
+                Event::Move { meta, list }
+            }
+            Kind::Obtain => Event::Obtain {
+                meta: self.meta(OBTAIN),
+            },
+            Kind::Supply => self.supply(),
+            Kind::Fdwrite => Event::Fdwrite {
+                call: self.fd_call(|_| ()).0,
                 list: self.list(),
             },
-            Kind::Obtain => Event::Obtain { meta: self.meta(0) },
-            Kind::Supply => self.supply(),
+            Kind::Fdread => {
+                let (call, len) = self.fd_call(payload_length);
+                Event::Fdread { call, len }
+            }
         }
     }
 }

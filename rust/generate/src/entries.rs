@@ -7,6 +7,7 @@ use crate::model::Generator;
 
 const ENTRY: usize = 16;
 const OBTAIN: u8 = 3;
+const MANY: u8 = 4;
 /// The words that an entry may make.
 const EFFECT_WORDS: u64 = 54;
 /// EINTR and ECANCELED, which cancelling turns round; errors at the ends; numbers that are none.
@@ -72,6 +73,9 @@ impl Generator {
 
     /// A kind that has something to do, mostly.
     fn entry_kind(&mut self) -> u8 {
+        if !self.receiving(true).is_empty() && self.draw.chance(25) {
+            return MANY;
+        }
         let kind = self.draw.weighted(&[30, 14, 7, 16, 14, 10, 1, 1]) as u8;
         let idle = match kind {
             1 => self.state.handles.iter().all(Option::is_none),
@@ -123,6 +127,15 @@ impl Generator {
                 }
                 let occupied = self.occupied && self.draw.chance(8);
                 self.handle(occupied)
+            }
+            MANY => {
+                let receiving = self.receiving(true);
+                if let Some(receiving) = self.draw.maybe_of(&receiving)
+                    && self.draw.chance(80)
+                {
+                    tag = receiving as u32;
+                }
+                result_word(&mut self.draw)
             }
             _ => result_word(&mut self.draw),
         };

@@ -90,6 +90,20 @@ mod tests {
         assert_eq!(made.lines.last(), Some(&Line::answer(Answer::No(205))));
     }
 
+    /// Every event of a run; `front` is none.
+    #[test]
+    fn every_event_is_drawn() {
+        let mut names: Vec<&str> = (0..20)
+            .flat_map(|seed| run(seed, 400, false, |_| Slots(0)).script.events)
+            .map(|event| event.name())
+            .collect();
+        names.sort();
+        names.dedup();
+        let all = "call close copy detach drop ended fdread fdwrite fmap generic move obtain open put \
+                   read reserve stdfs submit supply wake write";
+        assert_eq!(names.join(" "), all);
+    }
+
     /// A side on which the tail would never end.
     struct Stuck;
 

@@ -13,6 +13,8 @@ pub(crate) struct Given {
     pub(crate) returned: bool,
     /// How many descriptions its list has.
     pub(crate) listed: u64,
+    /// Its call is an fdread, which is to have many descriptors in reply.
+    pub(crate) receives: bool,
 }
 
 /// Each kind of event, in the order of the weights.
@@ -37,9 +39,11 @@ pub(crate) enum Kind {
     Move,
     Obtain,
     Supply,
+    Fdwrite,
+    Fdread,
 }
 
-const KINDS: [Kind; 19] = [
+const KINDS: [Kind; 21] = [
     Kind::Open,
     Kind::Copy,
     Kind::Drop,
@@ -59,31 +63,45 @@ const KINDS: [Kind; 19] = [
     Kind::Move,
     Kind::Obtain,
     Kind::Supply,
+    Kind::Fdwrite,
+    Kind::Fdread,
 ];
 
 /// How often each kind comes, while a part of a run lasts.
-const PARTS: [[u64; 19]; 7] = [
+const PARTS: [[u64; 21]; 7] = [
     // a bit of everything
-    [4, 4, 2, 3, 1, 4, 6, 12, 4, 4, 3, 2, 2, 16, 8, 18, 5, 4, 3],
+    [
+        4, 4, 2, 3, 1, 4, 6, 8, 4, 4, 3, 2, 2, 16, 8, 18, 5, 4, 3, 4, 4,
+    ],
     // the table fills
-    [2, 2, 1, 1, 1, 14, 8, 20, 6, 6, 8, 2, 2, 6, 8, 6, 3, 3, 2],
+    [
+        2, 2, 1, 1, 1, 14, 8, 12, 6, 6, 8, 2, 2, 6, 8, 6, 3, 3, 2, 6, 6,
+    ],
     // the queue fills
-    [1, 1, 1, 1, 0, 3, 6, 14, 4, 4, 4, 20, 14, 16, 1, 8, 2, 2, 2],
+    [
+        1, 1, 1, 1, 0, 3, 6, 8, 4, 4, 4, 20, 14, 16, 1, 8, 2, 2, 2, 4, 4,
+    ],
     // descriptions wander
     [
-        8, 10, 4, 6, 1, 3, 5, 12, 2, 2, 1, 1, 1, 12, 4, 20, 12, 10, 1,
+        8, 10, 4, 6, 1, 3, 5, 8, 2, 2, 1, 1, 1, 12, 4, 20, 12, 10, 1, 6, 6,
     ],
     // calls are cancelled and killed
-    [2, 2, 1, 2, 3, 2, 4, 12, 4, 4, 2, 1, 1, 30, 6, 22, 4, 3, 2],
+    [
+        2, 2, 1, 2, 3, 2, 4, 8, 4, 4, 2, 1, 1, 30, 6, 22, 4, 3, 2, 4, 4,
+    ],
     // maps
-    [1, 1, 1, 1, 3, 4, 3, 4, 1, 1, 22, 1, 1, 8, 6, 10, 2, 2, 22],
+    [
+        1, 1, 1, 1, 3, 4, 3, 4, 1, 1, 22, 1, 1, 8, 6, 10, 2, 2, 22, 1, 1,
+    ],
     // slots come free
-    [1, 1, 3, 1, 1, 1, 4, 2, 1, 1, 1, 0, 0, 36, 16, 30, 2, 3, 8],
+    [
+        1, 1, 3, 1, 1, 1, 4, 2, 1, 1, 1, 0, 0, 36, 16, 30, 2, 3, 8, 1, 1,
+    ],
 ];
 const FILLS_QUEUE: usize = 2;
 
 /// What a part may begin with: many of a kind, until holds, handles, slots or the queue run full.
-const BURSTS: [Option<(Kind, u64)>; 14] = [
+const BURSTS: [Option<(Kind, u64)>; 16] = [
     None,
     None,
     None,
@@ -98,6 +116,8 @@ const BURSTS: [Option<(Kind, u64)>; 14] = [
     Some((Kind::Reserve, 66)),
     Some((Kind::Close, 100)),
     Some((Kind::Detach, 130)),
+    Some((Kind::Fdwrite, 30)),
+    Some((Kind::Fdread, 66)),
 ];
 
 /// No tail is longer: 128 reads, then four passes over the slots. A side that answers wrongly
@@ -175,7 +195,9 @@ impl Generator {
     fn burst_kind(&mut self) -> Option<Kind> {
         let (kind, left) = self.burst?;
         let room = match kind {
-            Kind::Call | Kind::Reserve => !self.full() && self.state.queue < 128,
+            Kind::Call | Kind::Reserve | Kind::Fdwrite | Kind::Fdread => {
+                !self.full() && self.state.queue < 128
+            }
             Kind::Close | Kind::Detach => self.state.queue < 128,
             _ => true,
         };
@@ -199,11 +221,14 @@ impl Generator {
             | Event::Submit { c, .. }
             | Event::Call { c, .. }
             | Event::Fmap { c, .. } => Some(*c),
+            Event::Fdwrite { call, .. } | Event::Fdread { call, .. } => Some(call.c),
             Event::Generic(payload) | Event::Stdfs(payload) => Some(payload.c),
             _ => None,
         };
         let listed = match event {
-            Event::Submit { list, .. } | Event::Call { list, .. } => list.len() as u64,
+            Event::Submit { list, .. } | Event::Call { list, .. } | Event::Fdwrite { list, .. } => {
+                list.len() as u64
+            }
             _ => 0,
         };
         match (&line.answer, event) {
@@ -214,6 +239,7 @@ impl Generator {
                         ended: false,
                         returned: false,
                         listed,
+                        receives: matches!(event, Event::Fdread { .. }),
                     });
                 }
             }
@@ -249,15 +275,24 @@ impl Generator {
         }
     }
 
-    /// The Waiting slots with a list that is not empty.
-    pub(crate) fn with_list(&self) -> Vec<u64> {
-        let has = |tag: &u64| {
-            let given = self.given[*tag as usize];
-            given.is_some_and(|given| given.listed != 0)
-        };
+    /// The Waiting slots whose call is such a one.
+    fn waiting(&self, is: fn(&Given) -> bool) -> Vec<u64> {
         let mut tags = self.in_phase(Phase::Waiting);
-        tags.retain(has);
+        tags.retain(|tag| self.given[*tag as usize].as_ref().is_some_and(is));
         tags
+    }
+
+    /// Those with a list that is not empty.
+    pub(crate) fn with_list(&self) -> Vec<u64> {
+        self.waiting(|given| given.listed != 0)
+    }
+
+    /// Those of an fdread, with a list or without.
+    pub(crate) fn receiving(&self, listed: bool) -> Vec<u64> {
+        match listed {
+            true => self.waiting(|given| given.receives && given.listed != 0),
+            false => self.waiting(|given| given.receives && given.listed == 0),
+        }
     }
 
     pub(crate) fn in_phase(&self, phase: Phase) -> Vec<u64> {
@@ -278,7 +313,13 @@ impl Generator {
         for _ in 0..6 {
             let takes_slot = matches!(
                 kind,
-                Kind::Reserve | Kind::Call | Kind::Generic | Kind::Stdfs | Kind::Fmap
+                Kind::Reserve
+                    | Kind::Call
+                    | Kind::Generic
+                    | Kind::Stdfs
+                    | Kind::Fmap
+                    | Kind::Fdwrite
+                    | Kind::Fdread
             );
             let queues = takes_slot && kind != Kind::Reserve
                 || matches!(kind, Kind::Submit | Kind::Close | Kind::Detach)

@@ -36,8 +36,8 @@ pub struct Machine {
     waited: Cell<bool>,
     /// The spans that killed callers left behind: call, base page, count.
     left: RefCell<Vec<(u64, u64, u64)>>,
-    /// The call whose payload is captured next.
-    capture: Cell<u64>,
+    /// The call whose span is made next.
+    next_span: Cell<u64>,
     /// The time spent in the kernel's code, if it is taken, and since when it runs.
     spent: Cell<Option<Duration>>,
     since: Cell<Option<Instant>>,
@@ -73,7 +73,7 @@ impl Machine {
             on_switch: RefCell::default(),
             waited: Cell::new(false),
             left: RefCell::default(),
-            capture: Cell::new(0),
+            next_span: Cell::new(0),
             spent: Cell::new(None),
             since: Cell::new(None),
         }
@@ -144,9 +144,9 @@ impl Machine {
         self.effects.borrow_mut().drain(..).collect()
     }
 
-    /// The next payload that is captured is that call's; 0 is none's.
-    pub fn capture(&self, call: u64) {
-        self.capture.set(call);
+    /// The next span that is made empty is that call's; 0 is none's.
+    pub fn next_span(&self, call: u64) {
+        self.next_span.set(call);
     }
 
     /// A killed caller leaves its call's span to whoever replies.
@@ -165,8 +165,9 @@ pub fn cause(kind: u64, a: u64, b: u64) {
     here(|machine| machine.effects.borrow_mut().push(Effect { kind, a, b }));
 }
 
-pub fn captured() -> u64 {
-    here(|machine| machine.capture.take())
+/// The call whose span this is, which is made now.
+pub fn made_span() -> u64 {
+    here(|machine| machine.next_span.take())
 }
 
 /// The base page and count of the span that was left in that call.

@@ -2,7 +2,7 @@
 
 use std::sync::{Arc, Mutex, PoisonError};
 
-use script::Reply;
+use script::{Answer, Form, Reply};
 use syscall::CallFlags;
 use syscall::schemev2::Cqe;
 
@@ -10,7 +10,7 @@ use crate::context::Context;
 use crate::context::file::InternalFlags;
 use crate::context::memory::AddrSpaceWrapper;
 use crate::machine::Machine;
-use crate::oracle::{Description, clean, description, number};
+use crate::oracle::{Description, LISTED, clean, description, number, with_files};
 use crate::scheme::user::probe::{self, Handed};
 use crate::scheme::user::{UserInner, UserScheme};
 use crate::scheme::{CallerCtx, KernelScheme, OpenResult, SchemeId, StrOrBytes};
@@ -32,6 +32,10 @@ pub enum Front {
     Open,
     /// `kdup`.
     Dup,
+    /// `kfdwrite`.
+    Fdwrite,
+    /// `kfdread`, whose payload has a word for each descriptor of the reply.
+    Fdread,
 }
 
 /// What it reads.
@@ -45,8 +49,13 @@ pub enum Reading {
     External(u64),
 }
 
-/// Makes a call by that front and reads its reply.
-fn read(scheme: &UserScheme, front: Front, noticed: Description) -> Result<Reading> {
+/// Makes a call by that front and reads its reply. What comes in descriptors goes to these handles.
+fn read(
+    scheme: &UserScheme,
+    front: Front,
+    noticed: Description,
+    handles: &mut [usize],
+) -> Result<Reading> {
     let (token, flags) = (&mut clean(), CallFlags::empty());
     let ctx = CallerCtx {
         pid: 0,
@@ -62,6 +71,13 @@ fn read(scheme: &UserScheme, front: Front, noticed: Description) -> Result<Readi
         Front::StdFsCall => {
             let (payload, meta) = (UserSlice::captured(0, 0), [1, 0, 0]);
             scheme.translate_std_fs_call(&[0], noticed, payload, flags, &meta, token)?
+        }
+        Front::Fdwrite => scheme.kfdwrite(0, Vec::new(), flags, &[], token)?,
+        Front::Fdread => {
+            let (base, len) = (handles.as_mut_ptr() as usize, size_of_val(handles));
+            // SAFETY: the handles outlive the slice.
+            let payload = unsafe { UserSlice::new(base, len) };
+            scheme.kfdread(0, payload, flags, &[], token)?
         }
         Front::Open | Front::Dup => {
             let opened = if front == Front::Open {
@@ -99,7 +115,10 @@ fn handed(reply: &Reply) -> Handed {
 /// What a front reads in a reply, and the notice, where it takes one.
 pub fn read_reply(front: Front, reply: &Reply) -> (Reading, Option<bool>) {
     let space = AddrSpaceWrapper::new();
-    let context = || Arc::new(RwLock::new(Context::new(space.clone(), 0, 0, 0)));
+    let context = || {
+        let context = Context::new(space.clone(), 0, 0, 0);
+        Arc::new(RwLock::new(with_files(context, LISTED)))
+    };
     let (driver, caller) = (context(), context());
     let machine = Arc::new(Machine::new(caller));
     let scheme = SchemeId::User(0);
@@ -112,13 +131,18 @@ pub fn read_reply(front: Front, reply: &Reply) -> (Reading, Option<bool>) {
     let noticed = description(0);
     (noticed.write(clean().token()).internal_flags).set(told, !notice);
 
+    let listed = match reply {
+        Reply::Many(list) => list.len(),
+        _ => 0,
+    };
     let end = Arc::new(Mutex::new(None));
     let mut running = Running::new(Box::new({
         let (scheme, noticed) = (UserScheme::new(inner.clone()), noticed.clone());
         let end = end.clone();
         move || {
             let _inside = machine.enter();
-            let read = read(&scheme, front, noticed);
+            let mut handles: Vec<usize> = (0..listed).collect();
+            let read = read(&scheme, front, noticed, &mut handles);
             *end.lock().unwrap_or_else(PoisonError::into_inner) = Some(read);
         }
     }));
@@ -133,6 +157,25 @@ pub fn read_reply(front: Front, reply: &Reply) -> (Reading, Option<bool>) {
     let reading = read.unwrap_or_else(|error| Reading::Error(error.errno as u64));
     let after = noticed.read(clean().token()).internal_flags.contains(told);
     (reading, (after == notice).then_some(notice))
+}
+
+/// What the line `front` answers. No errno of the kernel's has more than 32 bits: it is not asked about
+/// such a one.
+pub(crate) fn front(form: Form, reply: &Reply) -> Answer {
+    if let Reply::Regular { result, .. } = reply
+        && result.is_err_and(|errno| i32::try_from(errno).is_err())
+    {
+        return Answer::Skip;
+    }
+    let front = match form {
+        Form::Fdwrite => Front::Fdwrite,
+        Form::Fdread => Front::Fdread,
+    };
+    match read_reply(front, reply).0 {
+        Reading::Word(word) => Answer::Ok(word),
+        Reading::Error(errno) => Answer::No(errno),
+        other => unreachable!("{other:?} is no word and no error"),
+    }
 }
 
 /// What `parse_cqe` refuses an entry with.

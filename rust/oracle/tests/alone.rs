@@ -12,6 +12,8 @@ fn a_call_on_one_thread_leaves_nothing() {
         "call 100 6 1 2 3 4 5 6 7 8 9 0",
         "generic 100 9 1 5 4096 64 3 1 2 3",
         "stdfs 100 9 2 5 6 4096 64 3 1 2 3",
+        "fdwrite 100 5 4096 1 1 7 8 9 0",
+        "fdread 100 5 64 16384 2 1 2 7 8 9",
         "submit 0 100 6 0 1 2 3 4 5 6 9 0",
     ] {
         let event = Event::parse(line).expect("an event");

@@ -28,13 +28,15 @@ fn refused(oracle: &mut Oracle, lines: &[(&str, u64)]) {
 }
 
 /// What the fronts refuse before they take a slot.
-const FRONTS: [(&str, u64); 6] = [
+const FRONTS: [(&str, u64); 8] = [
     ("generic 1 1 0 0 0 0", 22),
     ("generic 1 1 3 1 2 3 0 0 0", 22),
     ("stdfs 1 1 1 1 0 0 2 1 1", 22),
     ("stdfs 1 1 0 0 0 3 9 0 0", 95),
     ("stdfs 1 1 0 0 0 3 1 0 0", 22),
     ("stdfs 1 1 3 1 2 3 0 0 3 1 0 0", 22),
+    ("fdread 1 1 7 0 0 0 0 0", 22),
+    ("fdread 1 1 18446744073709551615 0 0 0 0 0", 22),
 ];
 
 #[test]
@@ -51,6 +53,8 @@ fn slots() {
             "fmap 1 0 0 0 0 0 0",
             "generic 1 1 1 1 0 0 0",
             "stdfs 1 1 2 1 2 0 0 3 1 0 0",
+            "fdwrite 1 1 0 0 0 0 0 0",
+            "fdread 1 1 8 0 0 0 0 0",
         ],
     );
     refused(&mut oracle, &FRONTS);
@@ -85,6 +89,8 @@ fn queue() {
             "fmap 1 0 0 0 0 0 0",
             "generic 1 1 1 1 0 0 0",
             "stdfs 1 1 2 1 2 0 0 3 1 0 0",
+            "fdwrite 1 1 0 0 0 0 0 0",
+            "fdread 1 1 0 0 0 0 0 0",
             // a Cancel would be queued
             "wake 1 1 0 0 0",
         ],
@@ -115,6 +121,8 @@ fn lists() {
         &mut oracle,
         &[
             &format!("call 1 6 0 0 0 0 0 0 0 0 0 {}", list(17)),
+            &format!("fdwrite 1 1 0 0 0 0 0 {}", list(17)),
+            &format!("fdwrite 1 1 0 0 0 0 0 {}", list(34)),
             &format!("move 2 1 0 {}", list(17)),
             // more than there are
             &format!("move 2 1 0 {}", list(34)),
@@ -134,6 +142,36 @@ fn lists() {
     assert_eq!(oracle.state().holds[0], 17);
     assert_eq!(put(&mut oracle, "obtain 2 0 0"), "ok 16");
     assert_eq!(oracle.state().outside[0], 17);
+    let sent = format!("fdwrite 1 1 0 0 0 0 0 {}", list(16));
+    assert_eq!(put(&mut oracle, &sent), "ok 1 ; E 5 7 1");
+    assert_eq!(oracle.state().outside[0], 1);
+}
+
+/// As many as a list can have, into a payload of as many words.
+#[test]
+fn received() {
+    let mut oracle = Oracle::new(7);
+    assert_eq!(put(&mut oracle, "open 0"), "ok 0");
+    for _ in 1..16 {
+        assert_eq!(put(&mut oracle, "copy 0"), "ok 0");
+    }
+    assert_eq!(
+        put(&mut oracle, "fdread 1 1 128 0 0 0 0 0"),
+        "ok 0 ; E 5 7 1"
+    );
+    let list = " 0".repeat(16);
+    assert_eq!(put(&mut oracle, &format!("move 2 1 0 16{list}")), "ok 16");
+    assert_eq!(
+        put(&mut oracle, "write 54 04000000000000000000000000000000"),
+        "ok 16 ; E 1 1 0"
+    );
+    assert_eq!(oracle.state().outside[0], 0);
+    assert_eq!(
+        put(&mut oracle, "wake 0 1 0 0 0"),
+        format!("reply many 16{list}")
+    );
+    let state = oracle.state();
+    assert_eq!((state.holds[0], state.outside[0]), (16, 16));
 }
 
 #[test]

@@ -16,7 +16,7 @@ fn regular(result: Result<u64, u64>, extra0: u8, notice: bool) -> Reply {
 
 #[test]
 fn words_and_errors() {
-    for front in [Front::Regular, Front::Call] {
+    for front in [Front::Regular, Front::Call, Front::Fdwrite] {
         for notice in [false, true] {
             let word = regular(Ok(u64::MAX), 255, notice);
             assert_eq!(read_reply(front, &word), (Reading::Word(u64::MAX), None));
@@ -50,11 +50,28 @@ fn the_notice() {
 
 #[test]
 fn descriptors_where_a_word_belongs() {
-    for front in [Front::Regular, Front::Call] {
+    for front in [Front::Regular, Front::Call, Front::Fdwrite] {
         let read = |reply| read_reply(front, &reply).0;
         assert_eq!(read(Reply::Fd(3)), Reading::Error(EIO));
         assert_eq!(read(Reply::Many(vec![3, 4])), Reading::Error(EIO));
         assert_eq!(read(Reply::Many(vec![])), Reading::Error(EIO));
+    }
+}
+
+/// The payload has a word for each.
+#[test]
+fn descriptors_that_are_received() {
+    let read = |reply| read_reply(Front::Fdread, &reply);
+    for notice in [false, true] {
+        let word = regular(Ok(9), 0, notice);
+        assert_eq!(read(word), (Reading::Error(EIO), None));
+        let error = regular(Err(132), 255, notice);
+        assert_eq!(read(error), (Reading::Error(132), None));
+    }
+    assert_eq!(read(Reply::Fd(3)), (Reading::Error(EIO), None));
+    for count in 0..=16 {
+        let many = Reply::Many((0..count).map(|d| d % 3).collect());
+        assert_eq!(read(many), (Reading::Word(count), None));
     }
 }
 

@@ -20,7 +20,7 @@ impl Draw {
 
 fn line(draw: &mut Draw) -> String {
     let (d, c, tag) = (draw.below(4), 1 + draw.below(3), draw.below(12));
-    match draw.below(24) {
+    match draw.below(27) {
         0 => format!("open {d}"),
         1 | 2 => format!("copy {d}"),
         3 => format!("put {d} {}", draw.below(4)),
@@ -37,6 +37,9 @@ fn line(draw: &mut Draw) -> String {
         16 => format!("obtain 2 0 {tag}"),
         17 => format!("read {} 262144", 64 * draw.below(4)),
         18..=20 => format!("wake {tag} {c} {} 5 1", draw.below(4) / 3),
+        21 => format!("fdwrite {c} 1 4096 1 2 3 4 5 1 {d}"),
+        22 => format!("fdread {c} 1 {} 16384 0 3 4 5", 4 * draw.below(5)),
+        23 => format!("front fdread many 1 {d}"),
         _ => {
             let (kind, word) = (draw.below(6), draw.below(4));
             format!("write 54 {kind:02x}000000{tag:02x}000000{word:02x}00000000000000")

@@ -9,6 +9,8 @@ use crate::step::{EFFECT_WORDS, ENTRY, Step};
 const LISTED: usize = 16;
 const QUEUE: u64 = 128;
 const HOLDS: u64 = 65_535;
+/// The bytes of a handle in an fdread's payload.
+const WORD: u64 = 8;
 
 #[derive(Clone, Copy)]
 struct Given {
@@ -75,6 +77,7 @@ impl Table {
             | Event::Submit { c, .. }
             | Event::Call { c, .. }
             | Event::Fmap { c, .. } => Some(*c),
+            Event::Fdwrite { call, .. } | Event::Fdread { call, .. } => Some(call.c),
             Event::Generic(payload) | Event::Stdfs(payload) => Some(payload.c),
             _ => None,
         };
@@ -139,6 +142,8 @@ impl Table {
             Event::Call { op, list: l, .. } => {
                 (opcode(*op).or_else(|| list(state, l))).or_else(|| no_room(state, event))
             }
+            Event::Fdwrite { list: l, .. } => list(state, l).or_else(|| no_room(state, event)),
+            Event::Fdread { len, .. } if len % WORD != 0 => None,
             Event::Generic(_) | Event::Stdfs(_) => match step.line.answer {
                 Answer::No(22 | 95) => None,
                 _ => no_room(state, event),
@@ -164,8 +169,12 @@ impl Table {
             Event::Reserve { .. }
             | Event::Fmap { .. }
             | Event::Close { .. }
-            | Event::Detach { .. } => no_room(state, event),
-            Event::Ended { .. } | Event::Read { .. } | Event::Obtain { .. } => None,
+            | Event::Detach { .. }
+            | Event::Fdread { .. } => no_room(state, event),
+            Event::Ended { .. }
+            | Event::Read { .. }
+            | Event::Obtain { .. }
+            | Event::Front { .. } => None,
         }
     }
 }

@@ -1,5 +1,6 @@
 //! What the recorded runs cover: how often each event got each answer, each kind of completion
-//! entry its own, each of them by the phase of its slot, and each of 01's own refusals each event.
+//! entry its own, each of them by the phase of its slot, each call each kind of reply, and each of
+//! 01's own refusals each event.
 
 use std::collections::BTreeMap;
 use std::fmt::{self, Display, Formatter};
@@ -11,7 +12,7 @@ const ENTRY: usize = 16;
 const PAGE: u64 = 4_096;
 
 /// Each answer that the kernel has for each event, as its source reads.
-const ANSWERS: [(&str, &[&str]); 19] = [
+const ANSWERS: [(&str, &[&str]); 21] = [
     ("open", &["ok"]),
     ("copy", &["ok"]),
     ("drop", &["ok"]),
@@ -45,6 +46,27 @@ const ANSWERS: [(&str, &[&str]); 19] = [
     ("move", &["ok", "no 22", "no 2"]),
     ("obtain", &["ok", "no 22", "no 2"]),
     ("supply", &["ok", "no 22", "no 77", "no 3"]),
+    ("fdwrite", &["ok"]),
+    ("fdread", &["ok", "no 22"]),
+];
+
+const REPLIES: &[&str] = &[
+    "regular ok",
+    "regular ok, notice",
+    "regular err",
+    "regular err, notice",
+    "fd",
+    "many",
+];
+
+/// The replies that each event's call was handed.
+const REPLIED: [(&str, &[&str]); 6] = [
+    ("reply to submit", REPLIES),
+    ("reply to call", REPLIES),
+    ("reply to generic", REPLIES),
+    ("reply to stdfs", REPLIES),
+    ("reply to fdwrite", REPLIES),
+    ("reply to fdread", REPLIES),
 ];
 
 /// Each answer to a completion entry. One that is refused behind a good one tells no number.
@@ -78,14 +100,7 @@ const BY_PHASE: [(&str, [&[&str]; 5]); 10] = [
             &["no 77"],
             &["no 77"],
             &["no 4", "blocked, Cancel queued", "blocked"],
-            &[
-                "regular ok",
-                "regular ok, notice",
-                "regular err",
-                "regular err, notice",
-                "fd",
-                "many",
-            ],
+            REPLIES,
             &["no 77"],
         ],
     ),
@@ -115,21 +130,27 @@ const BY_PHASE: [(&str, [&[&str]; 5]); 10] = [
 /// The events that 01 refuses by its own numbers, 207 apart.
 const LIMITS: [(&str, &[&str]); 6] = [
     ("no 201", &["submit", "wake"]),
-    ("no 202", &["reserve", "call", "generic", "stdfs", "fmap"]),
+    (
+        "no 202",
+        &[
+            "reserve", "call", "generic", "stdfs", "fmap", "fdwrite", "fdread",
+        ],
+    ),
     (
         "no 203",
         &[
-            "submit", "call", "generic", "stdfs", "fmap", "close", "detach", "wake",
+            "submit", "call", "generic", "stdfs", "fmap", "close", "detach", "wake", "fdwrite",
+            "fdread",
         ],
     ),
     ("no 204", &["write"]),
     (
         "no 205",
         &[
-            "open", "copy", "drop", "put", "submit", "call", "move", "wake",
+            "open", "copy", "drop", "put", "submit", "call", "move", "wake", "fdwrite",
         ],
     ),
-    ("no 206", &["submit", "call", "move"]),
+    ("no 206", &["submit", "call", "move", "fdwrite"]),
 ];
 
 /// The bits of an obtain entry's extra bytes that have a name (syscall/src/flag.rs).
@@ -222,6 +243,12 @@ impl Counts {
     }
 }
 
+/// The row of `REPLIED` for an event that makes a call.
+fn calls(event: &Event) -> Option<&'static str> {
+    let row = |name: &str| REPLIED.iter().find(|(row, _)| row.ends_with(name));
+    row(&format!(" {}", event.name())).map(|(row, _)| *row)
+}
+
 /// A table's rows, and the answers of each.
 type Table = Vec<(String, &'static [&'static str])>;
 
@@ -250,7 +277,10 @@ pub struct Cover {
     events: Counts,
     entries: Counts,
     phases: Counts,
+    replies: Counts,
     limits: Counts,
+    /// The row of `REPLIED` of the call that each slot was given out for last.
+    calls: BTreeMap<u64, &'static str>,
     /// By kind.
     effects: BTreeMap<u64, u64>,
 }
@@ -269,6 +299,17 @@ impl Cover {
         if let Some((row, tag)) = tagged(event, before) {
             let row = format!("{row}, {}", phase_name(before, tag));
             self.phases.add(&row, &answer);
+        }
+        match (event, &line.answer) {
+            (Event::Wake { tag, .. }, Answer::Reply(_)) => {
+                self.replies.add(self.calls[tag], &answer);
+            }
+            (_, Answer::Ok(tag)) => {
+                if let Some(row) = calls(event) {
+                    self.calls.insert(*tag, row);
+                }
+            }
+            _ => {}
         }
         self.events.add(event.name(), &answer);
     }
@@ -292,11 +333,12 @@ impl Cover {
         }
     }
 
-    fn tables(&self) -> [(&Counts, Table); 4] {
+    fn tables(&self) -> [(&Counts, Table); 5] {
         [
             (&self.events, plain(&ANSWERS)),
             (&self.entries, plain(&ENTRY_ANSWERS)),
             (&self.phases, by_phase()),
+            (&self.replies, plain(&REPLIED)),
             (&self.limits, plain(&LIMITS)),
         ]
     }
@@ -390,5 +432,19 @@ mod tests {
         // the third entry is not read
         assert_eq!(cover.entries.0.values().flatten().count(), 2);
         assert_eq!(cover.effects[&5] + cover.effects[&1], 2);
+    }
+
+    #[test]
+    fn replies_by_the_call() {
+        let mut cover = Cover::default();
+        let before = &State::fresh();
+        for call in ["fdwrite 1 2 3 0 5 6 7 0", "call 1 6 0 0 0 0 0 0 0 0 0 0"] {
+            added(&mut cover, call, before, "ok 4 ; E 5 7 1");
+            added(&mut cover, "wake 4 1 0 0 0", before, "reply fd 3");
+        }
+        added(&mut cover, "reserve 1", before, "ok 4");
+        let counts = |row| cover.replies.count(row, "fd");
+        assert_eq!(counts("reply to fdwrite") + counts("reply to call"), 2);
+        assert_eq!(cover.replies.0.len(), 2);
     }
 }

@@ -1,9 +1,10 @@
-//! Runs that are written by hand as event scripts. What only 01 refuses is left out of them.
+//! Runs that are written by hand as event scripts. What only 01 refuses is left out of them, and so
+//! are questions, which are no events of a run.
 
 use std::fs;
 use std::path::{Path, PathBuf};
 
-use script::Script;
+use script::{Event, Script};
 
 use crate::Outcome;
 use crate::cover::Cover;
@@ -31,7 +32,11 @@ pub fn parse(path: &Path) -> Outcome<(String, Script)> {
 
 pub fn record(folder: &Path, file: &mut File, cover: &mut Cover) -> Outcome<()> {
     for path in paths(folder)? {
-        let (_, script) = parse(&path)?;
+        let (_, mut script) = parse(&path)?;
+        script.events.retain(Event::is_of_a_run);
+        if script.events.is_empty() {
+            continue;
+        }
         let mut kernel = Kernel::new(script.scheme, reasons::ALL, cover);
         for event in &script.events {
             if let Taken::Over = kernel.step(event)? {

@@ -3,6 +3,7 @@
 use std::fmt::{self, Display, Formatter};
 
 use crate::fields::{Fields, hex};
+use crate::output::Reply;
 
 /// What `generic` and `stdfs` carry: the fds, the captured payload's address and length, the
 /// metadata words.
@@ -14,6 +15,36 @@ pub struct Payload {
     pub base: u64,
     pub len: u64,
     pub meta: Vec<u64>,
+}
+
+/// What `fdwrite` and `fdread` carry beside a list or a length: the file's number, the call's flags,
+/// the metadata words, and who asks.
+#[derive(Clone, Debug, PartialEq, Eq)]
+pub struct FdCall {
+    pub c: u32,
+    pub number: u64,
+    pub flags: u64,
+    pub meta: Vec<u64>,
+    pub uid: u32,
+    pub gid: u32,
+    pub pid: u64,
+}
+
+/// The calls whose reading of a reply the line `front` asks for.
+#[derive(Clone, Copy, Debug, PartialEq, Eq)]
+pub enum Form {
+    Fdwrite,
+    Fdread,
+}
+
+impl Form {
+    /// Its word on a line.
+    pub fn name(self) -> &'static str {
+        match self {
+            Form::Fdwrite => "fdwrite",
+            Form::Fdread => "fdread",
+        }
+    }
 }
 
 /// One event. `d` is a description, `h` a handle, `c` a caller, `list` a list of descriptions.
@@ -102,6 +133,39 @@ pub enum Event {
         base: u64,
         count: u64,
     },
+    Fdwrite {
+        call: FdCall,
+        list: Vec<u64>,
+    },
+    Fdread {
+        call: FdCall,
+        len: u64,
+    },
+    /// How a call of that form reads a reply: a question that has no state, and no event of a run.
+    Front {
+        form: Form,
+        reply: Reply,
+    },
+}
+
+fn form(f: &mut Fields) -> Result<Form, String> {
+    let word = f.word("FORM")?;
+    [Form::Fdwrite, Form::Fdread]
+        .into_iter()
+        .find(|form| form.name() == word)
+        .ok_or_else(|| format!("field FORM: `{word}` is not `fdwrite` or `fdread`"))
+}
+
+/// A reply that a wake can hand over: a longer list is none.
+fn handed_over(f: &mut Fields) -> Result<Reply, String> {
+    match Reply::parse(f)? {
+        Reply::Many(list) if list.len() > Reply::MOST => Err(format!(
+            "field K: {} is over {}, the most that a reply hands over",
+            list.len(),
+            Reply::MOST
+        )),
+        reply => Ok(reply),
+    }
 }
 
 fn payload(f: &mut Fields) -> Result<Payload, String> {
@@ -113,6 +177,25 @@ fn payload(f: &mut Fields) -> Result<Payload, String> {
         len: f.u64("LEN")?,
         meta: f.list("NM", "M")?,
     })
+}
+
+/// The fields that `fdwrite` and `fdread` share; what one of them has behind the number is read there.
+fn fd_call<T>(
+    f: &mut Fields,
+    behind_number: impl FnOnce(&mut Fields) -> Result<T, String>,
+) -> Result<(FdCall, T), String> {
+    let (c, number) = (f.u32("C")?, f.u64("NUMBER")?);
+    let behind = behind_number(f)?;
+    let call = FdCall {
+        c,
+        number,
+        flags: f.u64("FLAGS")?,
+        meta: f.list("NM", "M")?,
+        uid: f.u32("UID")?,
+        gid: f.u32("GID")?,
+        pid: f.u64("PID")?,
+    };
+    Ok((call, behind))
 }
 
 impl Event {
@@ -191,6 +274,18 @@ impl Event {
                 base: f.u64("BASE")?,
                 count: f.u64("COUNT")?,
             },
+            "fdwrite" => Event::Fdwrite {
+                call: fd_call(f, |_| Ok(()))?.0,
+                list: f.list("L", "D")?,
+            },
+            "fdread" => {
+                let (call, len) = fd_call(f, |f| f.u64("LENGTH"))?;
+                Event::Fdread { call, len }
+            }
+            "front" => Event::Front {
+                form: form(f)?,
+                reply: handed_over(f)?,
+            },
             other => return Err(format!("unknown event `{other}`")),
         };
         f.end()?;
@@ -221,12 +316,20 @@ impl Event {
             Event::Move { .. } => "move",
             Event::Obtain { .. } => "obtain",
             Event::Supply { .. } => "supply",
+            Event::Fdwrite { .. } => "fdwrite",
+            Event::Fdread { .. } => "fdread",
+            Event::Front { .. } => "front",
         }
+    }
+
+    /// Whether it is an event of a run, which has a record and may change the state.
+    pub fn is_of_a_run(&self) -> bool {
+        !matches!(self, Event::Front { .. })
     }
 
     /// The fields of its line in order, each with the name that docs/JSON.md lists.
     pub fn fields(&self) -> Vec<(&'static str, Value<'_>)> {
-        use Value::{Bytes, List, Number, Six};
+        use Value::{Bytes, List, Number, Six, Word};
         let number = |name, number: u32| (name, Number(u64::from(number)));
         match self {
             Event::Open { d } | Event::Copy { d } | Event::Drop { d } => {
@@ -327,7 +430,35 @@ impl Event {
                 ("base", Number(*base)),
                 ("count", Number(*count)),
             ],
+            Event::Fdwrite { call, list } => {
+                let mut fields = vec![number("caller", call.c), ("number", Number(call.number))];
+                fields.extend(call.said());
+                fields.push(("descriptions", List(list)));
+                fields
+            }
+            Event::Fdread { call, len } => {
+                let mut fields = vec![number("caller", call.c), ("number", Number(call.number))];
+                fields.push(("length", Number(*len)));
+                fields.extend(call.said());
+                fields
+            }
+            Event::Front { form, reply } => {
+                vec![("form", Word(form.name())), ("reply", Value::Reply(reply))]
+            }
         }
+    }
+}
+
+impl FdCall {
+    /// Its fields from the flags on.
+    fn said(&self) -> [(&'static str, Value<'_>); 5] {
+        [
+            ("flags", Value::Number(self.flags)),
+            ("metadata", Value::List(&self.meta)),
+            ("uid", Value::Number(u64::from(self.uid))),
+            ("gid", Value::Number(u64::from(self.gid))),
+            ("pid", Value::Number(self.pid)),
+        ]
     }
 }
 
@@ -342,6 +473,10 @@ pub enum Value<'a> {
     List(&'a [u64]),
     /// Bytes in hex.
     Bytes(&'a [u8]),
+    /// A word of the script's.
+    Word(&'static str),
+    /// A reply as a wake hands it over.
+    Reply(&'a Reply),
 }
 
 impl Display for Value<'_> {
@@ -357,6 +492,8 @@ impl Display for Value<'_> {
                 after_a_space(f, list)
             }
             Value::Bytes(bytes) => write!(f, " {}", hex(bytes)),
+            Value::Word(word) => write!(f, " {word}"),
+            Value::Reply(reply) => write!(f, " {reply}"),
         }
     }
 }

@@ -2,7 +2,7 @@
 
 use std::fmt::{self, Display, Formatter};
 
-use crate::event::{Event, Payload};
+use crate::event::{Event, FdCall, Payload};
 use crate::output::{Answer, Line, Reply};
 use crate::state::State;
 
@@ -13,6 +13,8 @@ pub enum NoPlace {
     List(usize),
     /// A write of 2^32 bytes or more, and how many it has.
     Bytes(usize),
+    /// The line `front`, which is no event of a run.
+    Front,
     /// The answer `skip`, which a run never gives.
     Skip,
     /// Status words that are not those of the slots: the slots' own states are not written.
@@ -26,6 +28,7 @@ impl Display for NoPlace {
         match self {
             NoPlace::List(len) => write!(f, "a list of {len} words, more than 255"),
             NoPlace::Bytes(len) => write!(f, "a write of {len} bytes, 2^32 or more"),
+            NoPlace::Front => write!(f, "the line `front`, which is no event of a run"),
             NoPlace::Skip => write!(f, "the answer `skip`"),
             NoPlace::Status => write!(f, "status words that are not those of the slots"),
             NoPlace::Handle(h) => write!(f, "handle {h} holds description 2^64 - 1"),
@@ -100,8 +103,17 @@ fn of_payload(kind: u8, payload: &Payload) -> Record<'_> {
     }
 }
 
+fn of_fd_call(kind: u8, call: &FdCall) -> Record<'_> {
+    Record {
+        uid: call.uid,
+        gid: call.gid,
+        first: &call.meta,
+        ..of_caller(kind, call.c)
+    }
+}
+
 impl Event {
-    /// The event's record.
+    /// The event's record, but for what is no event of a run or doesn't fit into one.
     pub fn encode(&self) -> Result<Vec<u8>, NoPlace> {
         let record = match self {
             Event::Open { d } => of_words(1, &[*d]),
@@ -193,6 +205,16 @@ impl Event {
                 base,
                 count,
             } => of_words(19, &[*tag, *offset, *base, *count]),
+            Event::Fdwrite { call, list } => Record {
+                words: vec![call.number, call.flags, call.pid],
+                second: list,
+                ..of_fd_call(20, call)
+            },
+            Event::Fdread { call, len } => Record {
+                words: vec![call.number, *len, call.flags, call.pid],
+                ..of_fd_call(21, call)
+            },
+            Event::Front { .. } => return Err(NoPlace::Front),
         };
         record.encode()
     }
@@ -330,9 +352,24 @@ mod tests {
                 "supply 1 2 3 4",
                 "13000000 12*00 01 7*00 02 7*00 03 7*00 04 7*00",
             ),
+            (
+                "fdwrite 1 2 3 1 4 5 6 7 3 8 9 10",
+                "14010300 01000000 05000000 06000000 02 7*00 03 7*00 07 7*00 04 7*00 08 7*00
+                 09 7*00 0a 7*00",
+            ),
+            (
+                "fdwrite 4294967295 1 18446744073709551615 0 4294967295 256 2 0",
+                "14000000 ffffffff ffffffff 00010000 01 7*00 8*ff 02 7*00",
+            ),
+            (
+                "fdread 1 2 3 4 2 5 6 7 8 9",
+                "15020000 01000000 07000000 08000000 02 7*00 03 7*00 04 7*00 09 7*00 05 7*00
+                 06 7*00",
+            ),
         ] {
             let event = Event::parse(line).unwrap();
             assert_eq!(hex(&event.encode().unwrap()), bytes(wanted), "{line}");
+            assert!(event.is_of_a_run(), "{line}");
         }
     }
 
@@ -404,6 +441,9 @@ mod tests {
             list: vec![0; 300],
         };
         assert_eq!(event.encode(), Err(NoPlace::List(300)));
+        event = Event::parse("front fdread many 0").unwrap();
+        assert_eq!(event.encode(), Err(NoPlace::Front));
+        assert!(!event.is_of_a_run());
         assert_eq!(Line::answer(Answer::Skip).encode(), Err(NoPlace::Skip));
         let mut state = State::fresh();
         state.handles[5] = Some(u64::MAX);

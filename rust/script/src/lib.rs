@@ -11,7 +11,7 @@ mod printed;
 mod script;
 mod state;
 
-pub use event::{Event, Payload, Value};
+pub use event::{Event, FdCall, Form, Payload, Value};
 pub use fields::hex;
 pub use format::NoPlace;
 pub use lines::{SourceLine, source_lines};

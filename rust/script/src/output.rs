@@ -107,6 +107,33 @@ impl Display for OutputLine {
     }
 }
 
+impl Reply {
+    /// How many descriptions a wake hands over at most.
+    pub(crate) const MOST: usize = 16;
+
+    /// A reply from the fields that it prints.
+    pub(crate) fn parse(f: &mut Fields) -> Result<Reply, String> {
+        Ok(match f.word("REPLY")? {
+            "regular" => Reply::Regular {
+                result: match f.word("RESULT")? {
+                    "ok" => Ok(f.u64("V")?),
+                    "err" => Err(f.u64("E")?),
+                    other => return Err(format!("unknown result `{other}`")),
+                },
+                extra0: f.u8("X")?,
+                notice: match f.u64("N")? {
+                    0 => false,
+                    1 => true,
+                    other => return Err(format!("field N: {other} is not 0 or 1")),
+                },
+            },
+            "fd" => Reply::Fd(f.u64("D")?),
+            "many" => Reply::Many(f.list("K", "D")?),
+            other => return Err(format!("unknown reply `{other}`")),
+        })
+    }
+}
+
 impl Answer {
     fn parse(text: &str) -> Result<Answer, String> {
         let f = &mut Fields::new(text);
@@ -116,24 +143,7 @@ impl Answer {
             "wait" => Answer::Wait,
             "blocked" => Answer::Blocked,
             "skip" => Answer::Skip,
-            "reply" => Answer::Reply(match f.word("REPLY")? {
-                "regular" => Reply::Regular {
-                    result: match f.word("RESULT")? {
-                        "ok" => Ok(f.u64("V")?),
-                        "err" => Err(f.u64("E")?),
-                        other => return Err(format!("unknown result `{other}`")),
-                    },
-                    extra0: f.u8("X")?,
-                    notice: match f.u64("N")? {
-                        0 => false,
-                        1 => true,
-                        other => return Err(format!("field N: {other} is not 0 or 1")),
-                    },
-                },
-                "fd" => Reply::Fd(f.u64("D")?),
-                "many" => Reply::Many(f.list("K", "D")?),
-                other => return Err(format!("unknown reply `{other}`")),
-            }),
+            "reply" => Answer::Reply(Reply::parse(f)?),
             other => return Err(format!("unknown answer `{other}`")),
         };
         f.end()?;

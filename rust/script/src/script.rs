@@ -123,6 +123,15 @@ move 2 1 0 2 5 6
 move 0 0
 obtain 2 0 0
 supply 0 0 4096 1
+fdwrite 1 2 18446744073709551615 2 3 4 5 6 7 2 0 1
+fdwrite 1 2 0 0 5 6 7 0
+fdread 1 2 16 16384 2 3 4 5 6 7
+fdread 1 2 0 0 0 5 6 7
+front fdwrite regular ok 9 0 0
+front fdread regular err 5 255 1
+front fdread fd 3
+front fdwrite many 0
+front fdread many 16 0 1 2 3 4 5 6 7 8 9 10 11 12 13 14 15
 ";
 
     fn mistake(text: &str) -> String {
@@ -133,7 +142,7 @@ supply 0 0 4096 1
     fn each_event_prints_as_it_reads() {
         let script = Script::parse(EACH).unwrap();
         assert_eq!(script.to_string(), EACH);
-        assert_eq!(script.events.len(), 23);
+        assert_eq!(script.events.len(), 32);
     }
 
     #[test]
@@ -214,6 +223,44 @@ supply 0 0 4096 1
     }
 
     #[test]
+    fn mistakes_in_descriptors_and_fronts() {
+        for (line, what) in [
+            ("fdwrite 1 2 3", "field NM is missing"),
+            ("fdwrite 1 2 3 2 4", "field M2 is missing"),
+            ("fdwrite 1 2 3 0 5 6 7", "field L is missing"),
+            ("fdwrite 1 2 3 0 5 6 7 2 0", "field D2 is missing"),
+            ("fdwrite 1 2 3 0 5 6 7 1 0 1", "spare field `1`"),
+            ("fdread 1 2", "field LENGTH is missing"),
+            ("fdread 1 2 8 0 0 5 6", "field PID is missing"),
+            ("fdread 1 2 8 0 0 5 6 7 0", "spare field `0`"),
+            ("front", "field FORM is missing"),
+            (
+                "front read fd 1",
+                "field FORM: `read` is not `fdwrite` or `fdread`",
+            ),
+            ("front fdread", "field REPLY is missing"),
+            ("front fdread reply fd 1", "unknown reply `reply`"),
+            ("front fdread fd", "field D is missing"),
+            ("front fdread fd 1 2", "spare field `2`"),
+            ("front fdread many 2 3", "field D2 is missing"),
+            ("front fdread many 1 2 3", "spare field `3`"),
+            (
+                "front fdread many 17 0 1 2 3 4 5 6 7 8 9 10 11 12 13 14 15 16",
+                "field K: 17 is over 16, the most that a reply hands over",
+            ),
+            ("front fdwrite regular", "field RESULT is missing"),
+            ("front fdwrite regular no 1 0 0", "unknown result `no`"),
+            ("front fdwrite regular ok 1 0", "field N is missing"),
+            ("front fdwrite regular ok 1 0 2", "field N: 2 is not 0 or 1"),
+        ] {
+            assert_eq!(
+                mistake(&format!("scheme 1\n{line}")),
+                format!("line 2: {what}")
+            );
+        }
+    }
+
+    #[test]
     fn numbers_too_wide() {
         assert_eq!(
             mistake("scheme 18446744073709551616"),
@@ -234,6 +281,32 @@ supply 0 0 4096 1
         assert_eq!(
             mistake("scheme 1\ncall 1 6 1 2 3 4 5 6 4294967296 8 9 0"),
             "line 2: field UID: 4294967296 is over 4294967295, the most that 32 bits hold"
+        );
+        for line in [
+            "fdwrite 4294967296 2 3 0 5 6 7 0",
+            "fdread 4294967296 2 8 0 0 5 6 7",
+        ] {
+            assert_eq!(
+                mistake(&format!("scheme 1\n{line}")),
+                "line 2: field C: 4294967296 is over 4294967295, the most that 32 bits hold"
+            );
+        }
+        for line in [
+            "fdwrite 1 2 3 0 5 4294967296 7 0",
+            "fdread 1 2 8 0 0 5 4294967296 7",
+        ] {
+            assert_eq!(
+                mistake(&format!("scheme 1\n{line}")),
+                "line 2: field GID: 4294967296 is over 4294967295, the most that 32 bits hold"
+            );
+        }
+        assert_eq!(
+            mistake("scheme 1\nfdread 1 2 8 18446744073709551616 0 5 6 7"),
+            "line 2: field FLAGS: 18446744073709551616 is over 18446744073709551615, the most that 64 bits hold"
+        );
+        assert_eq!(
+            mistake("scheme 1\nfront fdwrite regular ok 1 256 0"),
+            "line 2: field X: 256 is over 255, the most that 8 bits hold"
         );
     }
 

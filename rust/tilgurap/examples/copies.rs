@@ -39,7 +39,7 @@ fn copies(what: impl FnOnce()) -> u64 {
 }
 
 /// Each accepted, in this order.
-const STEPS: [&str; 22] = [
+const STEPS: [&str; 24] = [
     "open 0",
     "copy 0",
     "put 0 0",
@@ -61,6 +61,8 @@ const STEPS: [&str; 22] = [
     "move 2 1 1 1 1",
     "obtain 2 0 1",
     "supply 4 0 4096 1",
+    "fdwrite 1 5 4096 1 6 7 8 9 1 1",
+    "fdread 1 5 16 16384 2 6 6 7 8 9",
     "write 108 0000000001000000070000000000000000000000020000000700000000000000",
 ];
 

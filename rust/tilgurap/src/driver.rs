@@ -241,7 +241,8 @@ calls! {
     fcntl = Fcntl;
     /// Ask for events: file, flags.
     fevent = Fevent;
-    /// Descriptors are sent along: file, flags, the first metadata word, how many.
+    /// Descriptors are sent along: file, flags ([`SendFdFlags`](crate::SendFdFlags)), the first metadata word, how many.
+    /// [`Layer::take_list`] or [`Call::obtain`] takes them.
     sendfd = Sendfd;
     /// A file's path: file, address, length.
     fpath = Fpath;
@@ -273,7 +274,9 @@ calls! {
     openat = OpenAt;
     /// Link: file, address, length.
     flink = Flink;
-    /// Descriptors are asked for: file, flags, how many, two metadata words.
+    /// Descriptors are asked for: file, flags ([`RecvFdFlags`](crate::RecvFdFlags)), how many there is room for, two metadata words.
+    /// [`Layer::give_list`] gives some, and [`Call::many`] replies with them; any other reply but an error reads as
+    /// [`EIO`](Errno::EIO).
     recvfd = Recvfd;
     /// Remove a path.
     unlinkat = UnlinkAt;

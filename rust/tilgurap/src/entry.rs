@@ -32,6 +32,22 @@ flags! {
     }
 }
 
+flags! {
+    /// What the entry of a [`kfdwrite`](crate::Layer::kfdwrite) has as its argument 1.
+    SendFdFlags(u64) {
+        /// The caller wants nobody else to hold the descriptions.
+        EXCLUSIVE = 1;
+    }
+}
+
+flags! {
+    /// What the entry of a [`kfdread`](crate::Layer::kfdread) has as its argument 1.
+    RecvFdFlags(u64) {
+        /// The caller wants them in its upper file table.
+        UPPER_TBL = 2;
+    }
+}
+
 /// A submission entry, 64 bytes: what a driver is asked for, to be looked at. What a driver takes to serve is
 /// [`Taken`](crate::Taken).
 #[derive(Clone, Copy, Debug, PartialEq, Eq)]

@@ -270,6 +270,31 @@ unsafe extern "C" {
         gid: u32,
         pid: u64,
     ) -> StepWords;
+    pub fn tilgurap_kfdwrite(
+        words: *mut Words,
+        fds: *const u64,
+        fds_len: usize,
+        metadata: *const u64,
+        metadata_len: usize,
+        caller: u32,
+        number: u64,
+        flags: u64,
+        uid: u32,
+        gid: u32,
+        pid: u64,
+    ) -> StepWords;
+    pub fn tilgurap_kfdread(
+        words: *mut Words,
+        metadata: *const u64,
+        metadata_len: usize,
+        caller: u32,
+        number: u64,
+        len: u64,
+        flags: u64,
+        uid: u32,
+        gid: u32,
+        pid: u64,
+    ) -> StepWords;
     pub fn tilgurap_close(words: *mut Words, id: u64) -> StepWords;
     pub fn tilgurap_detach(words: *mut Words, id: u64, pid: u64) -> StepWords;
     pub fn tilgurap_wake(
@@ -314,6 +339,8 @@ unsafe extern "C" {
     ) -> StepWords;
     pub fn tilgurap_into_regular(reply: Reply, fds: List) -> AnswerWords;
     pub fn tilgurap_read_call_generic(reply: Reply, fds: List) -> Regular;
+    pub fn tilgurap_read_kfdwrite(reply: Reply, fds: List) -> AnswerWords;
+    pub fn tilgurap_read_kfdread(reply: Reply, fds: List) -> AnswerWords;
     pub fn tilgurap_kopenat(reply: Reply, fds: List) -> OpenedWords;
     pub fn tilgurap_kdup(reply: Reply, fds: List) -> OpenedWords;
     pub fn tilgurap_demux(word: u64) -> AnswerWords;

@@ -48,3 +48,16 @@ macro_rules! flags {
 }
 
 pub(crate) use flags;
+
+flags! {
+    /// A call's flags, as in `syscall/src/flag.rs`: those that [`kfdwrite`](crate::Layer::kfdwrite) and
+    /// [`kfdread`](crate::Layer::kfdread) pass on. Any other bit may be among them, and is not looked at.
+    CallFlags(u64) {
+        /// Of descriptions that are sent: nobody else is to hold them. The driver is told so
+        /// ([`SendFdFlags::EXCLUSIVE`](crate::SendFdFlags::EXCLUSIVE)); whether it is so is the host's to see to.
+        FD_EXCLUSIVE = 0x1000;
+        /// Of descriptions that are asked for: into the upper file table. The driver is told so
+        /// ([`RecvFdFlags::UPPER_TBL`](crate::RecvFdFlags::UPPER_TBL)); where they go is the host's to see to.
+        FD_UPPER = 0x4000;
+    }
+}

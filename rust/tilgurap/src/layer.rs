@@ -8,6 +8,7 @@ use core::iter;
 use crate::effect::Effect;
 use crate::entry::{Cqe, Sqe, SqeFlags};
 use crate::ffi;
+use crate::flags::CallFlags;
 use crate::ids::{
     Caller, Description, FileNumber, Handle, Identity, Payload, Pid, SchemeNumber, Span, Tag,
 };
@@ -16,7 +17,7 @@ use crate::opcode::Opcode;
 use crate::refusal::{Refusal, refusal};
 use crate::reply::Reply;
 use crate::status::{Holds, Slot, SlotState, Status, StatusWord};
-use crate::steps::{GenericCall, Steps};
+use crate::steps::{FdCall, GenericCall, Steps};
 use crate::taken::{Outstanding, Serial, Taken, Wants};
 
 const NONBLOCK: u32 = 0x0004_0000;
@@ -210,6 +211,24 @@ fn generic_call<'a>(
     }
 }
 
+fn fd_call(
+    caller: Caller,
+    file: FileNumber,
+    flags: CallFlags,
+    metadata: &[u64],
+    who: Identity,
+) -> FdCall<'_> {
+    FdCall {
+        caller: caller.0,
+        number: file.0,
+        flags: flags.bits(),
+        metadata,
+        uid: who.uid,
+        gid: who.gid,
+        pid: who.pid.0,
+    }
+}
+
 impl Layer {
     /// A fresh layer: every slot vacant, the queue and the handles empty, no description open.
     pub fn new(scheme: SchemeNumber) -> Layer {
@@ -359,6 +378,94 @@ impl Layer {
         let fds = file_numbers(files);
         let call = generic_call(caller, pid, &fds, payload, metadata);
         let step = self.steps.stdfs(&call);
+        self.submitted(step)
+    }
+
+    /// Sends descriptions with a call about a file (`Opcode::Sendfd`), taken from the host's outside holds. The driver is told the file,
+    /// the [flags](crate::SendFdFlags) that it is to know of, the first word of metadata (0 where there is none), and how many come along.
+    /// [`Reply::into_kfdwrite`] reads the reply.
+    ///
+    /// Refused: [`OutOfRules`](Refusal::OutOfRules), [`ManyDescriptions`](Refusal::ManyDescriptions),
+    /// [`NoVacantSlot`](Refusal::NoVacantSlot), [`QueueFull`](Refusal::QueueFull).
+    ///
+    /// ```
+    /// use tilgurap::{
+    ///     CallFlags, Caller, Description, FileNumber, Identity, Layer, Opcode, Pid, SchemeNumber,
+    ///     SendFdFlags, Taken, Wake,
+    /// };
+    ///
+    /// let mut layer = Layer::new(SchemeNumber(7));
+    /// let (gauge, tank) = (Caller(100), Description(3));
+    /// let who = Identity { uid: 0, gid: 0, pid: Pid(100) };
+    /// layer.open(tank)?;
+    /// let sent = layer.kfdwrite(gauge, FileNumber(9), CallFlags::FD_EXCLUSIVE, &[44], who, &[tank])?;
+    ///
+    /// let Some(Taken::Call(call)) = layer.next_entry() else { panic!("a call is queued") };
+    /// assert_eq!(call.opcode(), Some(Opcode::Sendfd));
+    /// assert_eq!(call.args()[..4], [9, SendFdFlags::EXCLUSIVE.bits(), 44, 1]);
+    /// assert_eq!(layer.take_list(&call), Ok(1));
+    /// assert!(layer.answer(call.ok(0)).refused.is_empty());
+    ///
+    /// let Wake::Replied(reply) = layer.wake(sent.tag, gauge)? else { panic!("no reply") };
+    /// assert_eq!(reply.into_kfdwrite(), Ok(0));
+    /// # Ok::<(), tilgurap::Refusal>(())
+    /// ```
+    pub fn kfdwrite(
+        &mut self,
+        caller: Caller,
+        file: FileNumber,
+        flags: CallFlags,
+        metadata: &[u64],
+        who: Identity,
+        list: &[Description],
+    ) -> Result<Submitted, Refusal> {
+        let call = fd_call(caller, file, flags, metadata, who);
+        let step = self.steps.fdwrite(&call, &numbers(list));
+        self.submitted(step)
+    }
+
+    /// Asks for descriptions by a call about a file (`Opcode::Recvfd`), with room for as many as `len` bytes hold, eight for each. The
+    /// driver is told the file, the [flags](crate::RecvFdFlags) that it is to know of, how many there is room for, and two words of
+    /// metadata (0 where there are fewer). [`Reply::into_kfdread`] reads the reply.
+    ///
+    /// Refused: [`Einval`](Refusal::Einval) for a length that is no multiple of 8,
+    /// [`NoVacantSlot`](Refusal::NoVacantSlot), [`QueueFull`](Refusal::QueueFull).
+    ///
+    /// ```
+    /// use tilgurap::{
+    ///     CallFlags, Caller, Description, FileNumber, Identity, Layer, Opcode, Pid, SchemeNumber,
+    ///     Taken, Wake,
+    /// };
+    ///
+    /// let mut layer = Layer::new(SchemeNumber(7));
+    /// let (scheduler, tank) = (Caller(100), Description(3));
+    /// let who = Identity { uid: 0, gid: 0, pid: Pid(100) };
+    /// let asked = layer.kfdread(scheduler, FileNumber(9), 16, CallFlags::NONE, &[44], who)?;
+    ///
+    /// // the driver has room for two, and gives one
+    /// let Some(Taken::Call(call)) = layer.next_entry() else { panic!("a call is queued") };
+    /// assert_eq!(call.opcode(), Some(Opcode::Recvfd));
+    /// assert_eq!(call.args()[..5], [9, 0, 2, 44, 0]);
+    /// layer.open(tank)?;
+    /// layer.give_list(&call, &[tank])?;
+    /// assert!(layer.answer(call.many()).refused.is_empty());
+    ///
+    /// let Wake::Replied(reply) = layer.wake(asked.tag, scheduler)? else { panic!("no reply") };
+    /// assert_eq!(reply.descriptions(), [tank]);
+    /// assert_eq!(reply.into_kfdread(), Ok(1));
+    /// # Ok::<(), tilgurap::Refusal>(())
+    /// ```
+    pub fn kfdread(
+        &mut self,
+        caller: Caller,
+        file: FileNumber,
+        len: u64,
+        flags: CallFlags,
+        metadata: &[u64],
+        who: Identity,
+    ) -> Result<Submitted, Refusal> {
+        let call = fd_call(caller, file, flags, metadata, who);
+        let step = self.steps.fdread(&call, len);
         self.submitted(step)
     }
 

@@ -8,6 +8,7 @@
 //! | to | method |
 //! |---|---|
 //! | call the driver | [`call`](Layer::call), or [`reserve`](Layer::reserve) and [`submit`](Layer::submit) |
+//! | send descriptions with a call, or ask for some | [`kfdwrite`](Layer::kfdwrite), [`kfdread`](Layer::kfdread), and how their replies are read: [`Reply::into_kfdwrite`], [`Reply::into_kfdread`] |
 //! | let a driver take its turn | [`serve`](Layer::serve) with a [`Driver`]; one by one [`next_entry`](Layer::next_entry) and [`answer`](Layer::answer) |
 //! | hand descriptions over with a reply | [`give_list`](Layer::give_list), [`take_list`](Layer::take_list), [`Call::obtain`] |
 //! | pass on the bytes of a driver elsewhere | [`read`](Layer::read), [`write`](Layer::write), [`provide_mmap`](Layer::provide_mmap), [`move_list`](Layer::move_list), [`obtain_list`](Layer::obtain_list) |
@@ -81,6 +82,8 @@
 //!
 //! | function | bytes |
 //! |---|---|
+//! | kfdread | 496 |
+//! | kfdwrite | 480 |
 //! | submit | 448 |
 //! | call | 416 |
 //! | move | 304 |
@@ -89,7 +92,7 @@
 //! | read | 160 |
 //! | every other step, the readings, the status words | under 100 |
 //! | a fresh state; its words; the state from its words | 4,752; 6,832; 11,408 |
-//! | a run over bytes | 39,120 |
+//! | a run over bytes | 39,128 |
 //!
 //! Making a [`Layer`] and what looks into its state ([`slot`](Layer::slot), [`occupied`](Layer::occupied),
 //! [`holds`](Layer::holds), [`handle`](Layer::handle), [`kill`](Layer::kill), [`driver_gone`](Layer::driver_gone)) hold copies of the
@@ -131,8 +134,9 @@ mod taken;
 pub use completion::Completion;
 pub use driver::{Answer, Driver, Gone, Refused, Rejected, Served, Supplied, dispatch};
 pub use effect::{Effect, EventFlags};
-pub use entry::{Cqe, ObtainFlags, Sqe, SqeFlags};
+pub use entry::{Cqe, ObtainFlags, RecvFdFlags, SendFdFlags, Sqe, SqeFlags};
 pub use errno::{Errno, demux, mux};
+pub use flags::CallFlags;
 pub use ids::{
     Caller, Description, FileNumber, Handle, Identity, Payload, Pid, SchemeNumber, Span, Tag,
 };

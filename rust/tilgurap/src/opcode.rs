@@ -24,7 +24,7 @@ pub enum Opcode {
     Fcntl = 10,
     /// Ask for events of a file.
     Fevent = 11,
-    /// Send a descriptor.
+    /// Send descriptors.
     Sendfd = 12,
     /// A file's path.
     Fpath = 13,
@@ -62,7 +62,7 @@ pub enum Opcode {
     OpenAt = 29,
     /// Link a file.
     Flink = 30,
-    /// Receive a descriptor.
+    /// Receive descriptors.
     Recvfd = 31,
     /// Remove a path.
     UnlinkAt = 32,

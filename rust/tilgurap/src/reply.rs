@@ -1,10 +1,12 @@
 //! A reply handed over, and the ways to read it.
 
 use alloc::vec::Vec;
+use core::slice;
 
 use crate::errno::{self, Errno};
 use crate::ffi;
 use crate::ids::Description;
+use crate::limits::LIST;
 
 /// A driver's reply, as a wake hands it over. The holds of its descriptions are the host's from
 /// then on, whichever way it is read.
@@ -55,7 +57,16 @@ impl Reply {
         }
     }
 
-    /// As a slot stores it. No reading looks at a list's numbers.
+    /// The descriptions that it holds. Each hold is the host's to drop, also where the reply is read as an error.
+    pub fn descriptions(&self) -> &[Description] {
+        match self {
+            Reply::Regular { .. } => &[],
+            Reply::Descriptor(description) => slice::from_ref(description),
+            Reply::Many(many) => many,
+        }
+    }
+
+    /// As a slot stores it. No reading looks at which descriptions a list has.
     fn stored(&self) -> (ffi::Reply, ffi::List) {
         let (kind, word) = match self {
             Reply::Regular {
@@ -77,13 +88,11 @@ impl Reply {
             notice,
             word,
         };
-        (
-            reply,
-            ffi::List {
-                at: [0; 16],
-                len: 0,
-            },
-        )
+        let len = match self {
+            Reply::Regular { .. } | Reply::Descriptor(_) => 0,
+            Reply::Many(many) => many.len().min(LIST) as u8,
+        };
+        (reply, ffi::List { at: [0; 16], len })
     }
 
     /// Reads a reply to most calls: the word or the error; descriptions read as
@@ -102,6 +111,22 @@ impl Reply {
         // SAFETY: numbers alone.
         let regular = unsafe { ffi::tilgurap_read_call_generic(reply, list) };
         (errno::result(regular.answer), regular.notice)
+    }
+
+    /// Reads a reply to [`kfdwrite`](crate::Layer::kfdwrite), as [`into_regular`](Reply::into_regular) does.
+    pub fn into_kfdwrite(self) -> Result<u64, Errno> {
+        let (reply, list) = self.stored();
+        // SAFETY: numbers alone.
+        errno::result(unsafe { ffi::tilgurap_read_kfdwrite(reply, list) })
+    }
+
+    /// Reads a reply to [`kfdread`](crate::Layer::kfdread): how many descriptions came, or the error. A word or one description alone
+    /// reads as [`EIO`](Errno::EIO). Which they are, [`descriptions`](Reply::descriptions) tells before.
+    pub fn into_kfdread(self) -> Result<usize, Errno> {
+        let (reply, list) = self.stored();
+        // SAFETY: numbers alone.
+        let count = errno::result(unsafe { ffi::tilgurap_read_kfdread(reply, list) })?;
+        Ok(count as usize)
     }
 
     /// Reads a reply to `OpenAt`: the error first, then unknown flags

@@ -15,6 +15,17 @@ pub(crate) struct GenericCall<'a> {
     pub metadata: &'a [u64],
 }
 
+/// What `fdwrite` and `fdread` carry beside a list or a length.
+pub(crate) struct FdCall<'a> {
+    pub caller: u32,
+    pub number: u64,
+    pub flags: u64,
+    pub metadata: &'a [u64],
+    pub uid: u32,
+    pub gid: u32,
+    pub pid: u64,
+}
+
 /// The words that each event is lent and changes in place.
 #[derive(Clone, PartialEq, Eq)]
 pub(crate) struct Steps {
@@ -183,6 +194,43 @@ impl Steps {
         let words = self.lent();
         // SAFETY: the words are the layer's own.
         unsafe { ffi::tilgurap_request_fmap(words, c, id, pages, flags, uid, gid, pid) }
+    }
+
+    pub fn fdwrite(&mut self, call: &FdCall, list: &[u64]) -> ffi::StepWords {
+        // SAFETY: the words are the layer's own; each list's pointer goes with its length.
+        unsafe {
+            ffi::tilgurap_kfdwrite(
+                self.lent(),
+                list.as_ptr(),
+                list.len(),
+                call.metadata.as_ptr(),
+                call.metadata.len(),
+                call.caller,
+                call.number,
+                call.flags,
+                call.uid,
+                call.gid,
+                call.pid,
+            )
+        }
+    }
+
+    pub fn fdread(&mut self, call: &FdCall, len: u64) -> ffi::StepWords {
+        // SAFETY: the words are the layer's own; the metadata's pointer goes with their length.
+        unsafe {
+            ffi::tilgurap_kfdread(
+                self.lent(),
+                call.metadata.as_ptr(),
+                call.metadata.len(),
+                call.caller,
+                call.number,
+                len,
+                call.flags,
+                call.uid,
+                call.gid,
+                call.pid,
+            )
+        }
     }
 
     pub fn close(&mut self, id: u64) -> ffi::StepWords {

@@ -1,9 +1,10 @@
 //! Each event through the crate's types: what it answers, what it asks the host to do, what it leaves.
 
 use tilgurap::{
-    Call, Caller, Completion, Description, Effect, Errno, EventFlags, FileNumber, Handle, Holds,
-    Identity, Killed, Layer, ObtainFlags, Opcode, Opened, Payload, Pid, Read, Refusal, Reply,
-    Request, SchemeNumber, SlotState, Span, Sqe, SqeFlags, Submitted, Tag, Taken, Wake, WhenEmpty,
+    Call, CallFlags, Caller, Completion, Description, Effect, Errno, EventFlags, FileNumber,
+    Handle, Holds, Identity, Killed, Layer, ObtainFlags, Opcode, Opened, Payload, Pid, Read,
+    RecvFdFlags, Refusal, Reply, Request, SchemeNumber, SendFdFlags, SlotState, Span, Sqe,
+    SqeFlags, Submitted, Tag, Taken, Wake, WhenEmpty,
 };
 
 const CALLER: Caller = Caller(100);
@@ -461,4 +462,296 @@ fn replies_read() {
     };
     assert_eq!(opened(1).into_kopenat(), Ok(local));
     assert_eq!(opened(2).into_kdup(), Err(Errno::EINVAL));
+
+    let failed = || regular(Err(Errno::ENOSPC));
+    assert_eq!(regular(Ok(u64::MAX)).into_kfdwrite(), Ok(u64::MAX));
+    assert_eq!(failed().into_kfdwrite(), Err(Errno::ENOSPC));
+    assert_eq!(one().into_kfdwrite(), Err(Errno::EIO));
+    assert_eq!(many().into_kfdwrite(), Err(Errno::EIO));
+    assert_eq!(regular(Ok(0)).into_kfdread(), Err(Errno::EIO));
+    assert_eq!(failed().into_kfdread(), Err(Errno::ENOSPC));
+    assert_eq!(one().into_kfdread(), Err(Errno::EIO));
+    assert_eq!(many().into_kfdread(), Ok(16));
+    assert_eq!(
+        Reply::Many(vec![Description(0), Description(9)]).into_kfdread(),
+        Ok(2)
+    );
+    assert_eq!(Reply::Many(Vec::new()).into_kfdread(), Ok(0));
+    // what the host has to drop can be seen before it is read
+    assert_eq!(one().descriptions(), [Description(5)]);
+    assert_eq!(many().descriptions(), [Description(5); 16]);
+    assert_eq!(failed().descriptions(), []);
+}
+
+/// The entry that its driver finds.
+fn told_entry(layer: &Layer) -> Sqe {
+    let unread = layer.unread();
+    assert_eq!(unread.len(), 1);
+    unread[0]
+}
+
+fn send(
+    layer: &mut Layer,
+    flags: CallFlags,
+    metadata: &[u64],
+    list: &[Description],
+) -> Result<Submitted, Refusal> {
+    layer.kfdwrite(CALLER, FileNumber(20), flags, metadata, WHO, list)
+}
+
+fn ask(
+    layer: &mut Layer,
+    len: u64,
+    flags: CallFlags,
+    metadata: &[u64],
+) -> Result<Submitted, Refusal> {
+    layer.kfdread(CALLER, FileNumber(20), len, flags, metadata, WHO)
+}
+
+/// An asking call that its driver has taken.
+fn asked(layer: &mut Layer, len: u64) -> (Tag, Call) {
+    let tag = ask(layer, len, CallFlags::NONE, &[]).unwrap().tag;
+    let Some(Taken::Call(call)) = layer.next_entry() else {
+        panic!("a call is queued")
+    };
+    (tag, call)
+}
+
+const SUBMITTED: Submitted = Submitted {
+    tag: Tag(0),
+    effect: READABLE,
+};
+
+/// Uid and gid, as the sixth argument.
+const OWNER: u64 = 1 + (2 << 32);
+
+#[test]
+fn what_a_driver_is_told_of_descriptions_sent() {
+    let (none, exclusive) = (SendFdFlags::NONE, SendFdFlags::EXCLUSIVE);
+    let others = CallFlags::from_bits(!CallFlags::FD_EXCLUSIVE.bits());
+    let all = CallFlags::from_bits(u64::MAX);
+    let sent = [Description(3), Description(4), Description(3)];
+    for (flags, told) in [
+        (CallFlags::NONE, none),
+        (CallFlags::FD_EXCLUSIVE, exclusive),
+        (CallFlags::FD_UPPER, none),
+        (others, none),
+        (all, exclusive),
+    ] {
+        for (metadata, first) in [(&[][..], 0), (&[6], 6), (&[u64::MAX, 7, 8], u64::MAX)] {
+            for many in [0, 1, 3] {
+                let mut layer = layer();
+                layer.open(Description(3)).unwrap();
+                layer.copy(Description(3)).unwrap();
+                layer.open(Description(4)).unwrap();
+                let list = &sent[..many];
+                assert_eq!(send(&mut layer, flags, metadata, list), Ok(SUBMITTED));
+                let wanted = Sqe {
+                    opcode: 12,
+                    flags: SqeFlags::NONE,
+                    tag: Tag(0),
+                    args: [20, told.bits(), first, many as u64, 0, OWNER],
+                    pid: Pid(9),
+                };
+                assert_eq!(told_entry(&layer), wanted);
+                assert_eq!(layer.slot(Tag(0)).descriptions, list);
+            }
+        }
+    }
+}
+
+#[test]
+fn what_a_driver_is_told_of_descriptions_asked_for() {
+    let (none, upper) = (RecvFdFlags::NONE, RecvFdFlags::UPPER_TBL);
+    let others = CallFlags::from_bits(!CallFlags::FD_UPPER.bits());
+    let all = CallFlags::from_bits(u64::MAX);
+    for (flags, told) in [
+        (CallFlags::NONE, none),
+        (CallFlags::FD_UPPER, upper),
+        (CallFlags::FD_EXCLUSIVE, none),
+        (others, none),
+        (all, upper),
+    ] {
+        for (metadata, first, second) in [
+            (&[][..], 0, 0),
+            (&[6], 6, 0),
+            (&[6, u64::MAX], 6, u64::MAX),
+            (&[6, 7, 8], 6, 7),
+        ] {
+            for (len, room) in [(0, 0), (8, 1), (24, 3), (u64::MAX - 7, u64::MAX / 8)] {
+                let mut layer = layer();
+                assert_eq!(ask(&mut layer, len, flags, metadata), Ok(SUBMITTED));
+                let wanted = Sqe {
+                    opcode: 31,
+                    flags: SqeFlags::NONE,
+                    tag: Tag(0),
+                    args: [20, told.bits(), room, first, second, OWNER],
+                    pid: Pid(9),
+                };
+                assert_eq!(told_entry(&layer), wanted);
+                assert_eq!(layer.slot(Tag(0)).descriptions, []);
+            }
+        }
+    }
+}
+
+#[test]
+fn sixteen_descriptions_are_sent_and_seventeen_are_not() {
+    let mut layer = layer();
+    let list: Vec<Description> = (0..17).map(Description).collect();
+    for description in &list[..16] {
+        layer.open(*description).unwrap();
+    }
+    // one that is not open is told first
+    let before = layer.clone();
+    let refused = send(&mut layer, CallFlags::NONE, &[], &list);
+    assert_eq!(refused, Err(Refusal::OutOfRules));
+    assert_eq!(layer, before);
+    layer.open(list[16]).unwrap();
+    let before = layer.clone();
+    let refused = send(&mut layer, CallFlags::NONE, &[], &list);
+    assert_eq!(refused, Err(Refusal::ManyDescriptions));
+    assert_eq!(layer, before);
+    // as often as the host holds it, and not once more
+    let twice = [Description(3); 2];
+    let refused = send(&mut layer, CallFlags::NONE, &[], &twice);
+    assert_eq!(refused, Err(Refusal::OutOfRules));
+    assert_eq!(layer, before);
+
+    let sent = send(&mut layer, CallFlags::NONE, &[], &list[..16]);
+    assert_eq!(sent, Ok(SUBMITTED));
+    assert_eq!(layer.slot(Tag(0)).descriptions, list[..16]);
+    for description in &list {
+        let outside = u64::from(*description == list[16]);
+        assert_eq!(layer.holds(*description), Holds { all: 1, outside });
+    }
+}
+
+#[test]
+fn an_odd_length_is_told_before_a_full_table_and_a_full_queue() {
+    const ODD: [u64; 4] = [1, 7, 23, u64::MAX];
+    // every slot is given out
+    let mut full = layer();
+    for _ in 0..64 {
+        full.reserve(CALLER).unwrap();
+    }
+    // every place of the queue is taken
+    let mut unread = layer();
+    for _ in 0..128 {
+        assert_eq!(unread.close(FileNumber(1)), Ok(told()));
+    }
+    let mut both = full.clone();
+    for _ in 0..128 {
+        assert_eq!(both.close(FileNumber(1)), Ok(told()));
+    }
+    for (mut layer, why) in [
+        (layer(), None),
+        (full, Some(Refusal::NoVacantSlot)),
+        (unread, Some(Refusal::QueueFull)),
+        (both, Some(Refusal::NoVacantSlot)),
+    ] {
+        let before = layer.clone();
+        for len in ODD {
+            let refused = ask(&mut layer, len, CallFlags::NONE, &[]);
+            assert_eq!(refused, Err(Refusal::Einval));
+            assert_eq!(layer, before);
+        }
+        if let Some(why) = why {
+            assert_eq!(ask(&mut layer, 24, CallFlags::NONE, &[]), Err(why));
+            assert_eq!(send(&mut layer, CallFlags::NONE, &[], &[]), Err(why));
+            // what is wrong with a list comes before both
+            let refused = send(&mut layer, CallFlags::NONE, &[], &[Description(1)]);
+            assert_eq!(refused, Err(Refusal::OutOfRules));
+            assert_eq!(layer, before);
+        }
+    }
+}
+
+#[test]
+fn one_descriptor_where_many_were_asked_for() {
+    let mut layer = layer();
+    let (tank, handle) = (Description(3), Handle(6));
+    layer.open(tank).unwrap();
+    layer.put(tank, handle).unwrap();
+    let (tag, call) = asked(&mut layer, 16);
+    let wake = Effect::Wake {
+        caller: CALLER,
+        tag,
+    };
+    assert_eq!(accepted(&mut layer, call.descriptor(handle)), [wake]);
+    assert_eq!(layer.holds(tank), Holds { all: 1, outside: 0 });
+
+    // it is handed over once, and its hold is the host's though it is read as an error
+    let handed = reply(&mut layer, tag);
+    assert_eq!(handed, Reply::Descriptor(tank));
+    assert_eq!(layer.holds(tank), Holds { all: 1, outside: 1 });
+    assert_eq!(layer.slot(tag).state, SlotState::Vacant);
+    assert_eq!(layer.wake(tag, CALLER), Err(Refusal::Ebadfd));
+    let held = handed.descriptions().to_vec();
+    assert_eq!(handed.into_kfdread(), Err(Errno::EIO));
+    assert_eq!(held, [tank]);
+    assert_eq!(layer.drop_hold(tank), Ok(()));
+    assert_eq!(layer.holds(tank), Holds { all: 0, outside: 0 });
+    assert_eq!(layer.drop_hold(tank), Err(Refusal::OutOfRules));
+}
+
+#[test]
+fn many_descriptors_where_many_were_asked_for() {
+    let mut layer = layer();
+    let (tank, valve) = (Description(3), Description(4));
+    for description in [tank, tank, valve] {
+        layer
+            .open(description)
+            .or_else(|_| layer.copy(description))
+            .unwrap();
+    }
+    // room for one, and three come: how many fit is the host's to see to
+    let (tag, call) = asked(&mut layer, 8);
+    let list = [tank, valve, tank];
+    assert_eq!(layer.give_list(&call, &list), Ok(3));
+    assert_eq!(layer.holds(tank), Holds { all: 2, outside: 0 });
+    assert_eq!(accepted(&mut layer, call.many()).len(), 1);
+    let handed = reply(&mut layer, tag);
+    assert_eq!(handed.descriptions(), list);
+    assert_eq!(handed.into_kfdread(), Ok(3));
+    assert_eq!(layer.holds(tank), Holds { all: 2, outside: 2 });
+    assert_eq!(layer.holds(valve), Holds { all: 1, outside: 1 });
+
+    // none, whatever there is room for
+    for len in [0, 64] {
+        let (tag, call) = asked(&mut layer, len);
+        assert_eq!(accepted(&mut layer, call.many()).len(), 1);
+        assert_eq!(reply(&mut layer, tag).into_kfdread(), Ok(0));
+    }
+    // a word, and an error
+    let (tag, call) = asked(&mut layer, 8);
+    assert_eq!(accepted(&mut layer, call.ok(1)).len(), 1);
+    assert_eq!(reply(&mut layer, tag).into_kfdread(), Err(Errno::EIO));
+    let (tag, call) = asked(&mut layer, 8);
+    assert_eq!(accepted(&mut layer, call.err(Errno::ENOSPC)).len(), 1);
+    assert_eq!(reply(&mut layer, tag).into_kfdread(), Err(Errno::ENOSPC));
+}
+
+#[test]
+fn descriptions_sent_are_taken_or_closed() {
+    let mut layer = layer();
+    let (tank, valve) = (Description(3), Description(4));
+    layer.open(tank).unwrap();
+    layer.open(valve).unwrap();
+    let sent = send(&mut layer, CallFlags::NONE, &[], &[tank, valve]);
+    let tag = sent.unwrap().tag;
+    let Some(Taken::Call(call)) = layer.next_entry() else {
+        panic!("a call is queued")
+    };
+    let obtain = call.obtain(Handle(0), ObtainFlags::NONE);
+    assert_eq!(accepted(&mut layer, obtain), []);
+    assert_eq!(layer.handle(Handle(0)), Some(tank));
+    let effects = accepted(&mut layer, call.ok(1));
+    let closed = Effect::Close { description: valve };
+    let wake = Effect::Wake {
+        caller: CALLER,
+        tag,
+    };
+    assert_eq!(effects, [wake, closed]);
+    assert_eq!(reply(&mut layer, tag).into_kfdwrite(), Ok(1));
 }

@@ -208,6 +208,9 @@ fn timed(layer: &mut Layer, lent: &mut Lent, event: &Event) -> Duration {
             base,
             count,
         } => clocked!(layer.supply(*tag, *offset, *base, *count)),
+        Event::Fdwrite { call, list } => clocked!(layer.fdwrite(call, list)),
+        Event::Fdread { call, len } => clocked!(layer.fdread(call, *len)),
+        Event::Front { .. } => panic!("{event} is no event of a run"),
     }
 }
 
@@ -238,6 +241,7 @@ fn events_of_call(entry: &Event, tag: u64, c: u32) -> [Event; 6] {
 fn caller(entry: &Event) -> u32 {
     match entry {
         Event::Submit { c, .. } | Event::Call { c, .. } => *c,
+        Event::Fdwrite { call, .. } | Event::Fdread { call, .. } => call.c,
         Event::Generic(payload) | Event::Stdfs(payload) => payload.c,
         _ => panic!("{entry} enters no call"),
     }
@@ -272,6 +276,14 @@ const ENTERED: [bool; 3] = [true, false, false];
 
 fn call_line() -> Event {
     event("call 100 6 1 2 3 4 5 6 7 8 9 0")
+}
+
+fn fdwrite_line() -> Event {
+    event("fdwrite 100 5 4096 1 1 7 8 9 0")
+}
+
+fn fdread_line() -> Event {
+    event("fdread 100 5 64 16384 2 1 2 7 8 9")
 }
 
 fn payload() -> Payload {
@@ -317,7 +329,7 @@ fn waiting_with_holds() -> Vec<Event> {
     events
 }
 
-const KINDS: [Kind; 17] = [
+const KINDS: [Kind; 19] = [
     Kind {
         name: "reserve",
         batch: |both| (0..64).for_each(|_| both.time(&event("reserve 1"))),
@@ -354,6 +366,16 @@ const KINDS: [Kind; 17] = [
             (0..32).for_each(|_| both.call(&Event::Stdfs(payload()), ENTERED));
         },
         run: || (vec![], vec![Event::Stdfs(payload()); 64]),
+    },
+    Kind {
+        name: "fdwrite",
+        batch: |both| (0..32).for_each(|_| both.call(&fdwrite_line(), ENTERED)),
+        run: || (vec![], vec![fdwrite_line(); 64]),
+    },
+    Kind {
+        name: "fdread",
+        batch: |both| (0..32).for_each(|_| both.call(&fdread_line(), ENTERED)),
+        run: || (vec![], vec![fdread_line(); 64]),
     },
     Kind {
         name: "wake, still blocked",

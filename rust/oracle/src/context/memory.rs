@@ -38,9 +38,9 @@ impl PageSpan {
         let call = 0;
         PageSpan { base, count, call }
     }
-    /// No pages. The first one that a capture makes is its call's.
+    /// No pages. The first one that a front or its capture makes is its call's.
     pub fn empty() -> Self {
-        PageSpan::of_call(machine::captured())
+        PageSpan::of_call(machine::made_span())
     }
     /// The span of that call; call 0 is none.
     pub fn of_call(call: u64) -> Self {

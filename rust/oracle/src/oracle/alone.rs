@@ -18,6 +18,7 @@ use crate::scheme::CallerCtx;
 use crate::scheme::KernelScheme;
 use crate::scheme::user::{UserInner, UserScheme};
 use crate::sync::RwLock;
+use crate::syscall::error::{EIO, Error};
 use crate::syscall::usercopy::{UserSlice, UserSliceRw};
 
 /// The kernel's own time in each part of a call.
@@ -89,8 +90,8 @@ impl Meanwhile {
 }
 
 impl Oracle {
-    /// A submit, call, generic or stdfs from its entry until its reply is handed over, on this
-    /// thread alone. It has no list, and the queue is empty.
+    /// A submit, call, generic, stdfs, fdwrite or fdread from its entry until its reply is handed
+    /// over, on this thread alone. It has no list, and the queue is empty.
     pub fn alone(&mut self, event: &Event) -> Alone {
         let _inside = self.machine.enter();
         let meanwhile = Rc::new(Meanwhile {
@@ -170,6 +171,22 @@ impl Oracle {
                     }),
                 };
                 called.is_ok()
+            }
+            Event::Fdwrite { call, .. } => {
+                let scheme = UserScheme::new(self.inner.clone());
+                let flags = CallFlags::from_bits_retain(call.flags as usize);
+                let number = call.number as usize;
+                let called = || scheme.kfdwrite(number, list, flags, &call.meta, token);
+                self.machine.kernel(called).is_ok()
+            }
+            Event::Fdread { call, len } => {
+                let scheme = UserScheme::new(self.inner.clone());
+                let flags = CallFlags::from_bits_retain(call.flags as usize);
+                let number = call.number as usize;
+                let payload = UserSliceRw::captured(0, *len as usize);
+                let called = || scheme.kfdread(number, payload, flags, &call.meta, token);
+                // a word is no reply to it
+                self.machine.kernel(called) == Err(Error::new(EIO))
             }
             _ => panic!("{event} enters no call"),
         };

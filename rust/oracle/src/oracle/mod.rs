@@ -13,6 +13,7 @@ use crate::context::file::{
 use crate::context::memory::AddrSpaceWrapper;
 use crate::context::{Context, ContextLock};
 use crate::machine::Machine;
+use crate::reading;
 use crate::scheme::user::UserInner;
 use crate::scheme::{CallerCtx, SchemeId};
 use crate::sync::{CleanLockToken, RwLock};
@@ -30,7 +31,7 @@ use submit::Given;
 /// The limits that the kernel does not have.
 const SLOTS: usize = 64;
 const QUEUE: usize = 128;
-const LISTED: usize = 16;
+pub(crate) const LISTED: usize = 16;
 const DESCRIPTIONS: u64 = 64;
 const HANDLES: u64 = 64;
 const HOLDS: usize = 65_535;
@@ -77,21 +78,24 @@ pub(crate) fn description(number: u64) -> Description {
     }))
 }
 
-/// A context whose file table has that many places.
-fn with_files(space: &Arc<AddrSpaceWrapper>, places: u64) -> Arc<ContextLock> {
-    let context = Context::new(space.clone(), 0, 0, 0);
+/// The context with that many places in its file table.
+pub(crate) fn with_files(context: Context, places: usize) -> Context {
     let files = context.files.clone();
-    let resized = files.write(clean().token()).resize(0, places as usize);
+    let resized = files.write(clean().token()).resize(0, places);
     resized.expect("the file table takes its size");
-    Arc::new(RwLock::new(context))
+    context
 }
 
 impl Oracle {
     /// A fresh state, given the scheme's number.
     pub fn new(scheme: u64) -> Oracle {
         let space = AddrSpaceWrapper::new();
-        let driver = with_files(&space, HANDLES);
-        let receiver = with_files(&space, LISTED as u64);
+        let context = |places: usize| {
+            let context = Context::new(space.clone(), 0, 0, 0);
+            Arc::new(RwLock::new(with_files(context, places)))
+        };
+        let driver = context(HANDLES as usize);
+        let receiver = context(LISTED);
         let scheme = SchemeId::User(scheme as usize);
         let inner = || UserInner::new(SchemeId::Root, scheme, Arc::downgrade(&driver));
         let (inner, stand_in) = (inner(), inner());
@@ -178,6 +182,9 @@ impl Oracle {
                 base,
                 count,
             } => self.supply(*tag, *offset, *base, *count),
+            Event::Fdwrite { call, list } => self.fdwrite(call, list),
+            Event::Fdread { call, len } => self.fdread(call, *len),
+            Event::Front { form, reply } => reading::front(*form, reply),
         };
         Line {
             answer,

@@ -3,11 +3,11 @@
 use std::panic::{AssertUnwindSafe, catch_unwind, resume_unwind};
 use std::sync::{Arc, Mutex, PoisonError};
 
-use script::{Answer, Payload, Phase};
+use script::{Answer, FdCall, Payload, Phase};
 use syscall::schemev2::{Opcode, Sqe, SqeFlags};
 use syscall::{CallFlags, MapFlags};
 
-use super::{Description, LISTED, Oracle, QUEUE, SLOTS, clean, description, done, no};
+use super::{Description, LISTED, Oracle, QUEUE, SLOTS, clean, description, done, no, with_files};
 use crate::context::memory::PageSpan;
 use crate::context::{Context, ContextLock};
 use crate::machine::{Left, OnSwitch};
@@ -55,6 +55,8 @@ pub(super) enum Way {
     Front,
     /// A front that leaves kind 5's notice with this description.
     Noticing(Description),
+    /// `kfdread`, with a payload of so many bytes.
+    Receiving(u64),
 }
 
 impl Given {
@@ -177,13 +179,43 @@ impl Oracle {
         if self.no_slot() || self.no_room() {
             return self.front_refusal(context, put);
         }
-        let (inner, machine) = (self.inner.clone(), self.machine.clone());
-        self.begin(payload.c, context, way, move |span| {
-            machine.capture(span);
-            let result = put(inner);
-            machine.capture(0);
-            Ended::Read(result)
+        self.begin_front(payload.c, context, way, put)
+    }
+
+    fn context_of(&self, call: &FdCall) -> Context {
+        Context::new(self.space.clone(), call.pid as usize, call.uid, call.gid)
+    }
+
+    pub(super) fn fdwrite(&mut self, call: &FdCall, list: &[u64]) -> Answer {
+        if !self.is_list(list) || list.len() > LISTED || self.no_slot() || self.no_room() {
+            return Answer::Skip;
+        }
+        let (list, meta, number) = (self.take(list), call.meta.clone(), call.number as usize);
+        let flags = CallFlags::from_bits_retain(call.flags as usize);
+        self.begin_front(call.c, self.context_of(call), Way::Front, move |inner| {
+            let scheme = UserScheme::new(inner);
+            scheme.kfdwrite(number, list, flags, &meta, &mut clean())
         })
+    }
+
+    /// Its payload names a place in the caller's table for as many files as a reply can have, so that
+    /// they are refused for no other reason than the payload's length.
+    pub(super) fn fdread(&mut self, call: &FdCall, len: u64) -> Answer {
+        let (meta, number) = (call.meta.clone(), call.number as usize);
+        let flags = CallFlags::from_bits_retain(call.flags as usize);
+        let context = self.context_of(call);
+        let mut handles: Vec<usize> = (0..LISTED).collect();
+        let put = move |inner: Arc<UserInner>| {
+            // SAFETY: the handles outlive the slice, and no more of it is read than descriptions come.
+            let payload = unsafe { UserSliceRw::new(handles.as_mut_ptr() as usize, len as usize) };
+            let scheme = UserScheme::new(inner);
+            scheme.kfdread(number, payload, flags, &meta, &mut clean())
+        };
+        if self.no_slot() || self.no_room() {
+            return self.front_refusal(context, put);
+        }
+        let context = with_files(context, LISTED);
+        self.begin_front(call.c, context, Way::Receiving(len), put)
     }
 
     /// There is no room for the call: does the kernel refuse it before it takes a slot? The
@@ -207,6 +239,24 @@ impl Oracle {
             Err(left) if left.is::<Left>() => Answer::Skip,
             Err(panic) => resume_unwind(panic),
         }
+    }
+
+    /// Begins a call by a front that makes its span itself. That of `kfdwrite` and `kfdread` stays empty
+    /// in the kernel; here a killed caller's wake says it, as for any other call.
+    fn begin_front(
+        &mut self,
+        caller: u32,
+        context: Context,
+        way: Way,
+        put: impl FnOnce(Arc<UserInner>) -> Result<usize> + Send + 'static,
+    ) -> Answer {
+        let (inner, machine) = (self.inner.clone(), self.machine.clone());
+        self.begin(caller, context, way, move |span| {
+            machine.next_span(span);
+            let result = put(inner);
+            machine.next_span(0);
+            Ended::Read(result)
+        })
     }
 
     /// Runs a call on a thread of its own until it blocks, or is refused.

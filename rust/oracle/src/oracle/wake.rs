@@ -11,7 +11,7 @@ use crate::context::file::InternalFlags;
 use crate::machine::OnSwitch;
 use crate::scheme::user::probe::Handed;
 use crate::sync::RwLock;
-use crate::syscall::error::{EIO, Error, Result};
+use crate::syscall::error::{EINVAL, EIO, Error, Result};
 
 impl Oracle {
     pub(super) fn wake(&mut self, tag: u64, c: u32, killed: u64, span: (u64, u64)) -> Answer {
@@ -43,7 +43,7 @@ impl Oracle {
         // a front reads the reply and drops its descriptions: the host takes its own holds before
         let held = match call.way {
             Way::Inner => None,
-            Way::Front | Way::Noticing(_) => self.inner.probe_reply(tag),
+            Way::Front | Way::Noticing(_) | Way::Receiving(_) => self.inner.probe_reply(tag),
         };
         let running = call.running.as_mut().expect("a thread inside the call");
         if !self.machine.run_as(&context, || running.resume()) {
@@ -110,17 +110,32 @@ fn notices(description: &Description) -> bool {
 
 /// The reply that a front read: what the front answered, and of the reply what it did not say.
 fn read_as(held: Handed, read: Result<usize>, way: &Way) -> Handed {
-    match held {
-        Handed::Regular(_, extra0, notice) => {
+    match (held, way) {
+        (held, Way::Receiving(len)) => {
+            assert_eq!(read, received(&held, *len), "kfdread reads {held:?}");
+            held
+        }
+        (Handed::Regular(_, extra0, notice), _) => {
             let notice = match way {
-                Way::Inner | Way::Front => notice,
                 Way::Noticing(description) => notices(description),
+                _ => notice,
             };
             Handed::Regular(read, extra0, notice)
         }
-        Handed::Fd(_) | Handed::Many(_) => {
+        (held, _) => {
             assert_eq!(read, Err(Error::new(EIO)), "descriptions are read as EIO");
             held
         }
+    }
+}
+
+/// What `kfdread` answers where its payload has so many bytes: `bulk_insert_fds` asks for a word of it
+/// for each description.
+fn received(held: &Handed, len: u64) -> Result<usize> {
+    match held {
+        Handed::Regular(Err(error), ..) => Err(*error),
+        Handed::Regular(Ok(_), ..) | Handed::Fd(_) => Err(Error::new(EIO)),
+        Handed::Many(list) if (size_of::<usize>() * list.len()) as u64 == len => Ok(list.len()),
+        Handed::Many(_) => Err(Error::new(EINVAL)),
     }
 }

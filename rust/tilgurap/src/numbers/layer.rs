@@ -6,7 +6,7 @@ use script::{Answer, Effect, Payload, Phase, Reply, State};
 
 use crate::ffi;
 use crate::ids::SchemeNumber;
-use crate::steps::GenericCall;
+use crate::steps::{FdCall, GenericCall};
 
 /// What an event answered, and the effect that it made, if any.
 #[derive(Clone, Debug, PartialEq, Eq)]
@@ -76,6 +76,18 @@ fn generic_call(payload: &Payload) -> GenericCall<'_> {
         base: payload.base,
         len: payload.len,
         metadata: &payload.meta,
+    }
+}
+
+fn fd_call(call: &script::FdCall) -> FdCall<'_> {
+    FdCall {
+        caller: call.c,
+        number: call.number,
+        flags: call.flags,
+        metadata: &call.meta,
+        uid: call.uid,
+        gid: call.gid,
+        pid: call.pid,
     }
 }
 
@@ -230,6 +242,16 @@ impl Layer {
     /// `supply`
     pub fn supply(&mut self, tag: u64, offset: u64, base: u64, count: u64) -> Outcome {
         self.layer.steps.supply(tag, offset, base, count).into()
+    }
+
+    /// `fdwrite`
+    pub fn fdwrite(&mut self, call: &script::FdCall, list: &[u64]) -> Outcome {
+        self.layer.steps.fdwrite(&fd_call(call), list).into()
+    }
+
+    /// `fdread`
+    pub fn fdread(&mut self, call: &script::FdCall, len: u64) -> Outcome {
+        self.layer.steps.fdread(&fd_call(call), len).into()
     }
 
     /// The state as a run's last line has it.

@@ -1,6 +1,6 @@
 //! How a reply, an error word and an entry are read, in numbers.
 
-use script::Reply;
+use script::{Form, Reply};
 
 use crate::ffi::{self, Cqe, Sqe};
 
@@ -15,9 +15,8 @@ pub enum Opened {
     Refused(u64),
 }
 
-/// A reply as a slot stores it. Descriptions have eight bits there and lists at most 16.
+/// A reply as a slot stores it. A list has at most 16 there, with eight bits each: no reading looks at which they are.
 fn stored(reply: &Reply) -> (ffi::Reply, ffi::List) {
-    let description = |d: u64| u8::try_from(d).expect("a description's number has eight bits");
     let mut list = ffi::List {
         at: [0; 16],
         len: 0,
@@ -25,11 +24,11 @@ fn stored(reply: &Reply) -> (ffi::Reply, ffi::List) {
     let (kind, word) = match reply {
         Reply::Regular { result: Ok(v), .. } => (0, *v),
         Reply::Regular { result: Err(e), .. } => (1, *e),
-        Reply::Fd(d) => (2, u64::from(description(*d))),
+        Reply::Fd(d) => (2, *d),
         Reply::Many(many) => {
             assert!(many.len() <= list.at.len(), "a list has at most 16");
             for (place, d) in list.at.iter_mut().zip(many) {
-                *place = description(*d);
+                *place = u8::try_from(*d).unwrap_or(u8::MAX);
             }
             list.len = many.len() as u8;
             (3, 0)
@@ -78,6 +77,28 @@ pub fn read_call_generic(reply: &Reply) -> (Result<u64, u64>, bool) {
     // SAFETY: numbers alone.
     let regular = unsafe { ffi::tilgurap_read_call_generic(reply, list) };
     (result(regular.answer), regular.notice)
+}
+
+/// How `kfdwrite` reads it.
+pub fn read_kfdwrite(reply: &Reply) -> Result<u64, u64> {
+    let (reply, list) = stored(reply);
+    // SAFETY: numbers alone.
+    result(unsafe { ffi::tilgurap_read_kfdwrite(reply, list) })
+}
+
+/// How `kfdread` reads it.
+pub fn read_kfdread(reply: &Reply) -> Result<u64, u64> {
+    let (reply, list) = stored(reply);
+    // SAFETY: numbers alone.
+    result(unsafe { ffi::tilgurap_read_kfdread(reply, list) })
+}
+
+/// How a call of this form reads it.
+pub fn front(form: Form, reply: &Reply) -> Result<u64, u64> {
+    match form {
+        Form::Fdwrite => read_kfdwrite(reply),
+        Form::Fdread => read_kfdread(reply),
+    }
 }
 
 /// How `kopenat` reads it.

@@ -8,7 +8,7 @@ use script::{Answer, Effect, Event, Line, OutputLine, Script};
 
 use crate::entry::{Cqe, Sqe};
 use crate::limits::{EFFECT_WORDS, QUEUE_ENTRIES};
-use crate::numbers::{Layer, Outcome};
+use crate::numbers::{Layer, Outcome, front};
 
 /// The bytes of a full queue. No read stores more, so a longer one is lent no more.
 const QUEUE_BYTES: u64 = (QUEUE_ENTRIES * Sqe::BYTES) as u64;
@@ -99,6 +99,13 @@ impl Layer {
                 base,
                 count,
             } => self.supply(*tag, *offset, *base, *count).into(),
+            Event::Fdwrite { call, list } => self.fdwrite(call, list).into(),
+            Event::Fdread { call, len } => self.fdread(call, *len).into(),
+            // a question that the state has no part in
+            Event::Front { form, reply } => Line::answer(match front(*form, reply) {
+                Ok(value) => Answer::Ok(value),
+                Err(errno) => Answer::No(errno),
+            }),
         }
     }
 

@@ -2,13 +2,13 @@
 //! hold: a tag in a state, that slot's caller, an open description, a handle in use.
 
 use generate::Draw;
-use script::{Event, Payload};
+use script::{Event, FdCall, Payload};
 
 use crate::ffi::Words;
 use crate::places::{ALL, CALLER, HANDLES, MARKS, OUTSIDE, QUEUE, SLOT};
 
-/// The events there are, from `open` to `supply`.
-pub const EVENTS: usize = 19;
+/// The events there are, from `open` to `fdread`.
+pub const EVENTS: usize = 21;
 pub const ENDED: usize = 4;
 
 const LIMITS: [u64; 8] = [
@@ -144,6 +144,23 @@ fn payload(draw: &mut Draw) -> Payload {
         base: draw.any(),
         len: draw.any(),
         meta,
+    }
+}
+
+/// 0 to 4 words.
+fn any_metadata(draw: &mut Draw) -> Vec<u64> {
+    (0..draw.below(5)).map(|_| draw.any()).collect()
+}
+
+fn fd_call(draw: &mut Draw) -> FdCall {
+    FdCall {
+        c: caller(draw),
+        number: draw.any(),
+        flags: draw.any(),
+        meta: any_metadata(draw),
+        uid: draw.half(),
+        gid: draw.half(),
+        pid: draw.any(),
     }
 }
 
@@ -290,6 +307,18 @@ pub fn event(draw: &mut Draw, words: &Words, number_of_event: usize) -> Event {
             offset: page(draw),
             base: page(draw),
             count: if draw.chance(90) { 1 } else { draw.word() },
+        },
+        19 => Event::Fdwrite {
+            call: fd_call(draw),
+            list: list(draw, words),
+        },
+        20 => Event::Fdread {
+            call: fd_call(draw),
+            len: if draw.chance(75) {
+                8 * draw.below(20)
+            } else {
+                draw.word()
+            },
         },
         _ => unreachable!("there are {EVENTS} events"),
     }

@@ -252,6 +252,41 @@ impl Lent {
                     base,
                     count,
                 } => ffi::tilgurap_provide_mmap(words, Tag(*tag), *offset, *base, *count).answer,
+                Event::Fdwrite { call, list } => {
+                    let (fds, fds_len) = self.fds.lend(list);
+                    let (meta, len) = self.metadata.lend(&call.meta);
+                    ffi::tilgurap_kfdwrite(
+                        words,
+                        fds,
+                        fds_len,
+                        meta,
+                        len,
+                        call.c,
+                        call.number,
+                        call.flags,
+                        call.uid,
+                        call.gid,
+                        call.pid,
+                    )
+                    .answer
+                }
+                Event::Fdread { call, len: payload } => {
+                    let (meta, len) = self.metadata.lend(&call.meta);
+                    ffi::tilgurap_kfdread(
+                        words,
+                        meta,
+                        len,
+                        call.c,
+                        call.number,
+                        *payload,
+                        call.flags,
+                        call.uid,
+                        call.gid,
+                        call.pid,
+                    )
+                    .answer
+                }
+                Event::Front { .. } => unreachable!("it is lent no words"),
             }
         };
         let around = self.words.keeps_beyond(WORDS);
