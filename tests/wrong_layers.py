@@ -74,7 +74,8 @@ WRONG = [
     # byte 16 of the entry is the first of its argument 1
     ("all_flags_sent", "Spelled", "[]", ".calls .kfdwrite (freshWorld 7 (replicate 1024 0)) 1 0 4 [] 0 0 0 []", "calls",
      "(λ (o : Outcome). getD (unreadIn (o .world)) 16 0)", "4", "0"),
-    ("many_counted_as_eio", "Spelled", "[]", ".fronts .many []", "fronts", "code", "1005", "0"),
+    ("many_counted_as_eio", "Spelled", "[]", ".fronts .kfdread .many []", "fronts", "code", "1005", "0"),
+    ("list_read_as_word", "Spelled", "[]", ".fronts .kfdwrite .many []", "fronts", "code", "0", "1005"),
     ("killed_wake_vacates", "Exactly", f"{CALL} ∷ on (wake 0 1 1 0 0) ∷ []", "on (reserve 2)", "answer", "code", "0", "1"),
 ]
 

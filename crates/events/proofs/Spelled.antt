@@ -93,7 +93,11 @@ spelled =
             detach = λ id pid. refl;
           };
       calls = calls-are;
-      fronts = record { written = λ r. refl; success = λ w x b. refl; error = λ e x b. refl; descriptor = λ d. refl; many = λ ds. refl };
+      fronts =
+          record {
+            kfdwrite = record { success = λ w x b. refl; error = λ e x b. refl; descriptor = λ d. refl; many = λ ds. refl };
+            kfdread = record { success = λ w x b. refl; error = λ e x b. refl; descriptor = λ d. refl; many = λ ds. refl };
+          };
       readings =
           record {
             success = λ v w x b. refl;

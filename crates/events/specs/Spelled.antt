@@ -21,10 +21,10 @@ use Rattle.slot.specs.declared.Phase.the-variants.{Vacant}
 use Rattle.slot.specs.declared.Slot.{Slot}
 use Rattle.slot.specs.Slots.{interruptedOf}
 use Rattle.events.specs.World.{World, freshWorld, schemeOf, holdsOf, handlesOf, phaseIn, unreadIn}
-use Rattle.events.specs.Outcome.{Response, success, error, descriptor, many, ok, no, refuse}
+use Rattle.events.specs.Outcome.{Response, success, error, descriptor, many, Answer, ok, no, refuse}
 use Rattle.events.specs.Submit.{args6, submitEntry, callEntry, genericEntry, stdMeta, fmapEntry, closeEntry, detachEntry}
 use Rattle.events.specs.Entry.{result, one, listed, responseTo, inHandle}
-use Rattle.events.specs.Replies.{intoRegularOf, kfdwriteOf, kfdreadOf}
+use Rattle.events.specs.Replies.{kfdwriteOf, kfdreadOf}
 use Rattle.events.specs.Event.{call, fdwrite, fdread, on, step}
 
 -- "A fresh state has every slot vacant, the queue and handles empty, no description open, and is given the scheme number"
@@ -85,13 +85,18 @@ pub record AreCalls : Type 0 where
       (w : World) (c number words k flags : ℕ) (ms : List ℕ) (uid gid pid : ℕ)
       → 0 < k → k < 8 → step w (on (fdread c number (8 * words + k) flags ms uid gid pid)) ≡ refuse w 22
 
--- "A regular success or a single descriptor in reply to it is EIO; an error passes through; many descriptors [..] their count"
+-- how a reply is read: an error passes through, one descriptor is EIO; a word and a list by the front
+pub record Reads (front : Response → Answer) (word : ℕ → Answer) (list : List ℕ → Answer) : Type 0 where
+  pub success : (w x : ℕ) (b : Bool) → front (success w x b) ≡ word w
+  pub error : (e x : ℕ) (b : Bool) → front (error e x b) ≡ no e
+  pub descriptor : (d : ℕ) → front (descriptor d) ≡ no 5
+  pub many : (ds : List ℕ) → front (many ds) ≡ list ds
+
+-- "A regular success or a single descriptor in reply to it is EIO; an error passes through; many descriptors [..] their count";
+-- the other reads a word as `into_regular` does, and no descriptors
 pub record Fronts : Type 0 where
-  pub written : (r : Response) → kfdwriteOf r ≡ intoRegularOf r
-  pub success : (w x : ℕ) (b : Bool) → kfdreadOf (success w x b) ≡ no 5
-  pub error : (e x : ℕ) (b : Bool) → kfdreadOf (error e x b) ≡ no e
-  pub descriptor : (d : ℕ) → kfdreadOf (descriptor d) ≡ no 5
-  pub many : (ds : List ℕ) → kfdreadOf (many ds) ≡ ok (length ds)
+  pub kfdwrite : Reads kfdwriteOf (λ w. ok w) (λ ds. no 5)
+  pub kfdread : Reads kfdreadOf (λ w. no 5) (λ ds. ok (length ds))
 
 -- 01, "Completions": "cancelling and ECANCELED is stored as EINTR; not cancelling and EINTR as EIO"; kind 4 stores the slot's list
 pub record Readings : Type 0 where

@@ -3,16 +3,15 @@ use answer_words::AnswerWords;
 use error::Error;
 use error::Result;
 use fd_list::List;
+use response::FrontAnswer;
 use response::OpenResult;
-use response::Received;
-use response::RegularAnswer;
 use slot::Reply;
 ghost use mathlib.Core.Path.{_≡_};
 ghost use Rattle.answer_words.specs.Words.{wordsOf};
 ghost use Rattle.error.specs.Errors.{demuxOf, resultAnswer};
 ghost use Rattle.events.specs.Replies.{intoRegularOf, callGenericOf, noticeOf, kfdwriteOf, kfdreadOf, kopenatOf, kdupOf};
 ghost use Rattle.events.specs.Wake.{responseFrom};
-ghost use Rattle.response.specs.Response.{regularAnswer, receivedAnswer, openedAs};
+ghost use Rattle.response.specs.Response.{frontAnswer, openedAs};
 ghost use Rattle.reading_step.specs.Opened.{openedWords, readAs};
 
 // With the notice of a completion's kind 5.
@@ -30,23 +29,12 @@ pub struct OpenedWords {
     pub flags: u8,
 }
 
-fn regular_words(a: RegularAnswer) -> AnswerWords
-    ensures { λ r. ⌜ r ≡ wordsOf (regularAnswer a) ⌝ }
+fn front_words(a: FrontAnswer) -> AnswerWords
+    ensures { λ r. ⌜ r ≡ wordsOf (frontAnswer a) ⌝ }
 {
     match a {
-        RegularAnswer::Value(w) => answer_words::done(w),
-        RegularAnswer::Failed(e) => answer_words::refused(e),
-        RegularAnswer::NotRegular => answer_words::refused(5),
-    }
-}
-
-fn received_words(a: Received) -> AnswerWords
-    ensures { λ r. ⌜ r ≡ wordsOf (receivedAnswer a) ⌝ }
-{
-    match a {
-        Received::Count(n) => answer_words::done(n),
-        Received::Failed(e) => answer_words::refused(e),
-        Received::NotMany => answer_words::refused(5),
+        FrontAnswer::Value(w) => answer_words::done(w),
+        FrontAnswer::Failed(e) => answer_words::refused(e),
     }
 }
 
@@ -84,7 +72,7 @@ pub fn into_regular(reply: Reply, fds: List) -> AnswerWords
     ensures { λ r. ⌜ r ≡ wordsOf (intoRegularOf (responseFrom reply fds)) ⌝ }
 {
     let a = response::into_regular(reply, fds);
-    regular_words(a)
+    front_words(a)
 }
 
 pub fn call_generic(reply: Reply, fds: List) -> Regular
@@ -92,7 +80,7 @@ pub fn call_generic(reply: Reply, fds: List) -> Regular
 {
     let got = response::call_generic(reply, fds);
     let a = got.answer;
-    let words = regular_words(a);
+    let words = front_words(a);
     Regular {
         answer: words,
         notice: got.notice,
@@ -103,14 +91,14 @@ pub fn kfdwrite(reply: Reply, fds: List) -> AnswerWords
     ensures { λ r. ⌜ r ≡ wordsOf (kfdwriteOf (responseFrom reply fds)) ⌝ }
 {
     let a = response::kfdwrite(reply, fds);
-    regular_words(a)
+    front_words(a)
 }
 
 pub fn kfdread(reply: Reply, fds: List) -> AnswerWords
     ensures { λ r. ⌜ r ≡ wordsOf (kfdreadOf (responseFrom reply fds)) ⌝ }
 {
     let a = response::kfdread(reply, fds);
-    received_words(a)
+    front_words(a)
 }
 
 pub fn kopenat(reply: Reply, fds: List) -> OpenedWords

@@ -4,10 +4,8 @@ use Rattle.events.specs.Outcome.{Answer, ok, no}
 use Rattle.events.specs.Replies.{Opened, schemeLocal, external, failed}
 use Rattle.response.specs.declared.Kind.{Kind}
 use Rattle.response.specs.declared.Kind.the-variants.{Success, Error, Fd, MultipleFds}
-use Rattle.response.specs.declared.RegularAnswer.{RegularAnswer}
-use Rattle.response.specs.declared.RegularAnswer.the-variants as regular
-use Rattle.response.specs.declared.Received.{Received}
-use Rattle.response.specs.declared.Received.the-variants as received
+use Rattle.response.specs.declared.FrontAnswer.{FrontAnswer}
+use Rattle.response.specs.declared.FrontAnswer.the-variants as front
 use Rattle.response.specs.declared.OpenResult.{OpenResult}
 use Rattle.response.specs.declared.OpenResult.the-variants as result
 
@@ -17,15 +15,9 @@ kindNamed (suc zero) = Error
 kindNamed (suc (suc zero)) = Fd
 kindNamed (suc (suc (suc k))) = MultipleFds
 
-abbrev pub regularAnswer : RegularAnswer → Answer
-regularAnswer (regular.Value w) = ok w
-regularAnswer (regular.Failed e) = no e
-regularAnswer regular.NotRegular = no 5
-
-abbrev pub receivedAnswer : Received → Answer
-receivedAnswer (received.Count n) = ok n
-receivedAnswer (received.Failed e) = no e
-receivedAnswer received.NotMany = no 5
+abbrev pub frontAnswer : FrontAnswer → Answer
+frontAnswer (front.Value w) = ok w
+frontAnswer (front.Failed e) = no e
 
 abbrev pub openedAs : OpenResult → Opened
 openedAs (result.SchemeLocal w x) = schemeLocal w x

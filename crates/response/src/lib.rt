@@ -6,7 +6,7 @@ use slot::Reply;
 ghost use mathlib.Core.Path.{_≡_};
 ghost use Rattle.events.specs.Replies.{intoRegularOf, callGenericOf, noticeOf, kfdwriteOf, kfdreadOf, kopenatOf, kdupOf};
 ghost use Rattle.events.specs.Wake.{responseFrom};
-ghost use Rattle.response.specs.Response.{kindNamed, regularAnswer, receivedAnswer, openedAs};
+ghost use Rattle.response.specs.Response.{kindNamed, frontAnswer, openedAs};
 
 // The Rust's `Response` by its stored number.
 enum Kind {
@@ -16,24 +16,19 @@ enum Kind {
     MultipleFds,
 }
 
-// A regular reply's word or errno, or a reply that is not regular: EIO.
-pub enum RegularAnswer {
+// What a front returns, the Rust's `Result<usize>`: a number, or an errno.
+pub enum FrontAnswer {
     Value(u64),
     Failed(u64),
-    NotRegular,
 }
+
+// Another kind of reply than the front takes.
+const EIO: u64 = 5;
 
 // With the notice of a completion's kind 5.
 pub struct CallGeneric {
-    pub answer: RegularAnswer,
+    pub answer: FrontAnswer,
     pub notice: bool,
-}
-
-// How many descriptors `kfdread` received; or the reply's errno; or a reply that does not bring many: EIO.
-pub enum Received {
-    Count(u64),
-    Failed(u64),
-    NotMany,
 }
 
 // `OpenResult`: a number of the scheme's own with its flags, or a description; or the reply's errno, EINVAL for flags that
@@ -58,15 +53,15 @@ fn kind_of(reply: Reply) -> Kind
     }
 }
 
-pub fn into_regular(reply: Reply, fds: List) -> RegularAnswer
-    ensures { λ r. ⌜ regularAnswer r ≡ intoRegularOf (responseFrom reply fds) ⌝ }
+pub fn into_regular(reply: Reply, fds: List) -> FrontAnswer
+    ensures { λ r. ⌜ frontAnswer r ≡ intoRegularOf (responseFrom reply fds) ⌝ }
 {
     let kind = kind_of(reply);
     match kind {
-        Kind::Success => RegularAnswer::Value(reply.word),
-        Kind::Error => RegularAnswer::Failed(reply.word),
-        Kind::Fd => RegularAnswer::NotRegular,
-        Kind::MultipleFds => RegularAnswer::NotRegular,
+        Kind::Success => FrontAnswer::Value(reply.word),
+        Kind::Error => FrontAnswer::Failed(reply.word),
+        Kind::Fd => FrontAnswer::Failed(EIO),
+        Kind::MultipleFds => FrontAnswer::Failed(EIO),
     }
 }
 
@@ -84,7 +79,7 @@ fn notice_of(reply: Reply, fds: List) -> bool
 }
 
 pub fn call_generic(reply: Reply, fds: List) -> CallGeneric
-    ensures { λ r. ⌜ (regularAnswer (r .answer) ≡ callGenericOf (responseFrom reply fds)) × (r .notice ≡ noticeOf (responseFrom reply fds)) ⌝ }
+    ensures { λ r. ⌜ (frontAnswer (r .answer) ≡ callGenericOf (responseFrom reply fds)) × (r .notice ≡ noticeOf (responseFrom reply fds)) ⌝ }
 {
     CallGeneric {
         answer: into_regular(reply, fds),
@@ -92,23 +87,22 @@ pub fn call_generic(reply: Reply, fds: List) -> CallGeneric
     }
 }
 
-pub fn kfdwrite(reply: Reply, fds: List) -> RegularAnswer
-    ensures { λ r. ⌜ regularAnswer r ≡ kfdwriteOf (responseFrom reply fds) ⌝ }
+pub fn kfdwrite(reply: Reply, fds: List) -> FrontAnswer
+    ensures { λ r. ⌜ frontAnswer r ≡ kfdwriteOf (responseFrom reply fds) ⌝ }
 {
     into_regular(reply, fds)
 }
 
-// A success is none here: `kfdread` waits for descriptors.
-pub fn kfdread(reply: Reply, fds: List) -> Received
-    ensures { λ r. ⌜ receivedAnswer r ≡ kfdreadOf (responseFrom reply fds) ⌝ }
+pub fn kfdread(reply: Reply, fds: List) -> FrontAnswer
+    ensures { λ r. ⌜ frontAnswer r ≡ kfdreadOf (responseFrom reply fds) ⌝ }
 {
     let kind = kind_of(reply);
     let count = fd_list::size(fds) as u64;
     match kind {
-        Kind::Success => Received::NotMany,
-        Kind::Error => Received::Failed(reply.word),
-        Kind::Fd => Received::NotMany,
-        Kind::MultipleFds => Received::Count(count),
+        Kind::Success => FrontAnswer::Failed(EIO), // a word where descriptors are waited for
+        Kind::Error => FrontAnswer::Failed(reply.word),
+        Kind::Fd => FrontAnswer::Failed(EIO), // one, where a list is waited for
+        Kind::MultipleFds => FrontAnswer::Value(count),
     }
 }
 

@@ -8,11 +8,11 @@ use Rattle.answer_words.specs.Words.{wordsOf}
 call-generic-requires : tie.Need-call-generic-requires
 call-generic-requires c κs = search needs
 
-regular-words-requires : tie.Need-regular-words-requires
-regular-words-requires c κs = search needs
+front-words-requires : tie.Need-front-words-requires
+front-words-requires c κs = search needs
 
 returns : tie.Need-returns
-returns c = (c .regular-words .ensures ∙ ap wordsOf (c .before .call-generic .ensures .0), c .before .call-generic .ensures .1)
+returns c = (c .front-words .ensures ∙ ap wordsOf (c .before .call-generic .ensures .0), c .before .call-generic .ensures .1)
 
 pub call-generic-spec : {M : Type 1} → statement M
-call-generic-spec = tie.close (tie.spec call-generic-requires regular-words-requires returns)
+call-generic-spec = tie.close (tie.spec call-generic-requires front-words-requires returns)

@@ -8,11 +8,11 @@ use Rattle.answer_words.specs.Words.{wordsOf}
 into-regular-requires : tie.Need-into-regular-requires
 into-regular-requires c κs = search needs
 
-regular-words-requires : tie.Need-regular-words-requires
-regular-words-requires c κs = search needs
+front-words-requires : tie.Need-front-words-requires
+front-words-requires c κs = search needs
 
 returns : tie.Need-returns
-returns c = c .regular-words .ensures ∙ ap wordsOf (c .before .into-regular .ensures)
+returns c = c .front-words .ensures ∙ ap wordsOf (c .before .into-regular .ensures)
 
 pub into-regular-spec : {M : Type 1} → statement M
-into-regular-spec = tie.close (tie.spec into-regular-requires regular-words-requires returns)
+into-regular-spec = tie.close (tie.spec into-regular-requires front-words-requires returns)

@@ -8,11 +8,11 @@ use Rattle.answer_words.specs.Words.{wordsOf}
 kfdread-requires : tie.Need-kfdread-requires
 kfdread-requires c κs = search needs
 
-received-words-requires : tie.Need-received-words-requires
-received-words-requires c κs = search needs
+front-words-requires : tie.Need-front-words-requires
+front-words-requires c κs = search needs
 
 returns : tie.Need-returns
-returns c = c .received-words .ensures ∙ ap wordsOf (c .before .kfdread .ensures)
+returns c = c .front-words .ensures ∙ ap wordsOf (c .before .kfdread .ensures)
 
 pub kfdread-spec : {M : Type 1} → statement M
-kfdread-spec = tie.close (tie.spec kfdread-requires received-words-requires returns)
+kfdread-spec = tie.close (tie.spec kfdread-requires front-words-requires returns)

@@ -8,11 +8,11 @@ use Rattle.answer_words.specs.Words.{wordsOf}
 kfdwrite-requires : tie.Need-kfdwrite-requires
 kfdwrite-requires c κs = search needs
 
-regular-words-requires : tie.Need-regular-words-requires
-regular-words-requires c κs = search needs
+front-words-requires : tie.Need-front-words-requires
+front-words-requires c κs = search needs
 
 returns : tie.Need-returns
-returns c = c .regular-words .ensures ∙ ap wordsOf (c .before .kfdwrite .ensures)
+returns c = c .front-words .ensures ∙ ap wordsOf (c .before .kfdwrite .ensures)
 
 pub kfdwrite-spec : {M : Type 1} → statement M
-kfdwrite-spec = tie.close (tie.spec kfdwrite-requires regular-words-requires returns)
+kfdwrite-spec = tie.close (tie.spec kfdwrite-requires front-words-requires returns)
