@@ -62,15 +62,8 @@ fn phase(state: &State, tag: u64) -> &'static str {
 
 /// Does the event make a call, which is handed a reply?
 fn is_call(event: &Event) -> bool {
-    matches!(
-        event,
-        Event::Submit { .. }
-            | Event::Call { .. }
-            | Event::Generic(_)
-            | Event::Stdfs(_)
-            | Event::Fdwrite { .. }
-            | Event::Fdread { .. }
-    )
+    let gives_alone = matches!(event, Event::Reserve { .. } | Event::Fmap { .. });
+    event.caller_of_tag().is_some() && !gives_alone
 }
 
 fn more<K: Ord>(counts: &mut BTreeMap<K, u64>, key: K) {

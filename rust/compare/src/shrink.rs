@@ -222,16 +222,8 @@ fn with_tags(event: &Event, of: &dyn Fn(u64) -> u64) -> Event {
 fn renumbered(script: &mut Script, differs: &dyn Fn(&Script) -> bool) -> bool {
     let mut changed = false;
     for place in (0..script.events.len()).rev() {
-        let gives = matches!(
-            script.events[place],
-            Event::Reserve { .. }
-                | Event::Call { .. }
-                | Event::Generic(_)
-                | Event::Stdfs(_)
-                | Event::Fmap { .. }
-                | Event::Fdwrite { .. }
-                | Event::Fdread { .. }
-        );
+        let event = &script.events[place];
+        let gives = event.caller_of_tag().is_some() && !matches!(event, Event::Submit { .. });
         if !gives || script.events.len() > RENUMBERED_MOST {
             continue;
         }

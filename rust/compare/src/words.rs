@@ -5,7 +5,7 @@ use generate::Draw;
 use oracle::abi::error::Error;
 use oracle::abi::schemev2::{Cqe, Sqe, SqeFlags};
 use oracle::{Front, Reading, read_reply};
-use script::Reply;
+use script::{Form, Reply};
 use tilgurap::numbers::{self, Opened};
 
 /// How many of each were compared.
@@ -185,18 +185,13 @@ fn read_both(reply: &Reply) -> Result<(), String> {
     // descriptors bring no notice
     let rust = (result(rust), notice.unwrap_or(false));
     same(told(Front::StdFsCall), rust, port)?;
-    let (rust, _) = read_reply(Front::Fdwrite, reply);
-    same(
-        told(Front::Fdwrite),
-        result(rust),
-        numbers::read_kfdwrite(reply),
-    )?;
-    let (rust, _) = read_reply(Front::Fdread, reply);
-    same(
-        told(Front::Fdread),
-        result(rust),
-        numbers::read_kfdread(reply),
-    )?;
+    for (front, form) in [
+        (Front::Fdwrite, Form::Fdwrite),
+        (Front::Fdread, Form::Fdread),
+    ] {
+        let (rust, _) = read_reply(front, reply);
+        same(told(front), result(rust), numbers::front(form, reply))?;
+    }
     let (rust, _) = read_reply(Front::Open, reply);
     same(told(Front::Open), opened(rust), numbers::kopenat(reply))?;
     let (rust, _) = read_reply(Front::Dup, reply);

@@ -216,15 +216,7 @@ impl Generator {
     /// What an event answered, and the state that it left.
     pub fn learn(&mut self, event: &Event, line: &Line, state: State) {
         self.state = state;
-        let caller = match event {
-            Event::Reserve { c }
-            | Event::Submit { c, .. }
-            | Event::Call { c, .. }
-            | Event::Fmap { c, .. } => Some(*c),
-            Event::Fdwrite { call, .. } | Event::Fdread { call, .. } => Some(call.c),
-            Event::Generic(payload) | Event::Stdfs(payload) => Some(payload.c),
-            _ => None,
-        };
+        let caller = event.caller_of_tag();
         let listed = match event {
             Event::Submit { list, .. } | Event::Call { list, .. } | Event::Fdwrite { list, .. } => {
                 list.len() as u64

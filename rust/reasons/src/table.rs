@@ -72,15 +72,7 @@ impl Table {
 
     /// What an event answered.
     pub fn learn(&mut self, event: &Event, line: &Line) {
-        let caller = match event {
-            Event::Reserve { c }
-            | Event::Submit { c, .. }
-            | Event::Call { c, .. }
-            | Event::Fmap { c, .. } => Some(*c),
-            Event::Fdwrite { call, .. } | Event::Fdread { call, .. } => Some(call.c),
-            Event::Generic(payload) | Event::Stdfs(payload) => Some(payload.c),
-            _ => None,
-        };
+        let caller = event.caller_of_tag();
         match (event, &line.answer, caller) {
             (Event::Ended { c }, _, _) => {
                 let own = self.0.iter_mut().flatten();

@@ -26,21 +26,7 @@ const ANSWERS: [(&str, &[&str]); 21] = [
     ("fmap", &["ok"]),
     ("close", &["ok"]),
     ("detach", &["ok"]),
-    (
-        "wake",
-        &[
-            "no 77",
-            "no 4",
-            "blocked, Cancel queued",
-            "blocked",
-            "regular ok",
-            "regular ok, notice",
-            "regular err",
-            "regular err, notice",
-            "fd",
-            "many",
-        ],
-    ),
+    ("wake", WAKE),
     ("read", &["ok 0", "ok", "wait", "no 22", "no 11"]),
     ("write", &["ok 0", "ok", "no 22", "no 77", "no 2"]),
     ("move", &["ok", "no 22", "no 2"]),
@@ -50,7 +36,11 @@ const ANSWERS: [(&str, &[&str]); 21] = [
     ("fdread", &["ok", "no 22"]),
 ];
 
-const REPLIES: &[&str] = &[
+const WAKE: &[&str] = &[
+    "no 77",
+    "no 4",
+    "blocked, Cancel queued",
+    "blocked",
     "regular ok",
     "regular ok, notice",
     "regular err",
@@ -58,6 +48,8 @@ const REPLIES: &[&str] = &[
     "fd",
     "many",
 ];
+/// Those of them that hand a reply over.
+const REPLIES: &[&str] = WAKE.split_at(4).1;
 
 /// The replies that each event's call was handed.
 const REPLIED: [(&str, &[&str]); 6] = [

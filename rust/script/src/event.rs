@@ -322,6 +322,19 @@ impl Event {
         }
     }
 
+    /// The caller of an event that answers a tag: it gives a slot out, or makes a call of a reserved one.
+    pub fn caller_of_tag(&self) -> Option<u32> {
+        match self {
+            Event::Reserve { c }
+            | Event::Submit { c, .. }
+            | Event::Call { c, .. }
+            | Event::Fmap { c, .. } => Some(*c),
+            Event::Generic(payload) | Event::Stdfs(payload) => Some(payload.c),
+            Event::Fdwrite { call, .. } | Event::Fdread { call, .. } => Some(call.c),
+            _ => None,
+        }
+    }
+
     /// Whether it is an event of a run, which has a record and may change the state.
     pub fn is_of_a_run(&self) -> bool {
         !matches!(self, Event::Front { .. })

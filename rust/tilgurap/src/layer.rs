@@ -442,7 +442,7 @@ impl Layer {
     /// let who = Identity { uid: 0, gid: 0, pid: Pid(100) };
     /// let asked = layer.kfdread(scheduler, FileNumber(9), 16, CallFlags::NONE, &[44], who)?;
     ///
-    /// // the driver has room for two, and gives one
+    /// // there is room for two, and the driver gives one
     /// let Some(Taken::Call(call)) = layer.next_entry() else { panic!("a call is queued") };
     /// assert_eq!(call.opcode(), Some(Opcode::Recvfd));
     /// assert_eq!(call.args()[..5], [9, 0, 2, 44, 0]);

@@ -11,7 +11,7 @@ pub use crate::ffi::{Cqe, RunEnd, Sqe};
 pub use layer::{Layer, Outcome};
 pub use readings::{
     Opened, cqe, cqe_bytes, demux, front, into_regular, kdup, kopenat, mux_error, parse_cqe,
-    read_call_generic, read_kfdread, read_kfdwrite, sqe, sqe_bytes,
+    read_call_generic, sqe, sqe_bytes,
 };
 pub use script_steps::run_script;
 

@@ -90,6 +90,7 @@ impl Reply {
         };
         let len = match self {
             Reply::Regular { .. } | Reply::Descriptor(_) => 0,
+            // a wake hands over no longer list
             Reply::Many(many) => many.len().min(LIST) as u8,
         };
         (reply, ffi::List { at: [0; 16], len })

@@ -239,12 +239,7 @@ fn events_of_call(entry: &Event, tag: u64, c: u32) -> [Event; 6] {
 }
 
 fn caller(entry: &Event) -> u32 {
-    match entry {
-        Event::Submit { c, .. } | Event::Call { c, .. } => *c,
-        Event::Fdwrite { call, .. } | Event::Fdread { call, .. } => call.c,
-        Event::Generic(payload) | Event::Stdfs(payload) => payload.c,
-        _ => panic!("{entry} enters no call"),
-    }
+    entry.caller_of_tag().expect("an event that enters a call")
 }
 
 impl Parts {

@@ -79,26 +79,15 @@ pub fn read_call_generic(reply: &Reply) -> (Result<u64, u64>, bool) {
     (result(regular.answer), regular.notice)
 }
 
-/// How `kfdwrite` reads it.
-pub fn read_kfdwrite(reply: &Reply) -> Result<u64, u64> {
-    let (reply, list) = stored(reply);
-    // SAFETY: numbers alone.
-    result(unsafe { ffi::tilgurap_read_kfdwrite(reply, list) })
-}
-
-/// How `kfdread` reads it.
-pub fn read_kfdread(reply: &Reply) -> Result<u64, u64> {
-    let (reply, list) = stored(reply);
-    // SAFETY: numbers alone.
-    result(unsafe { ffi::tilgurap_read_kfdread(reply, list) })
-}
-
 /// How a call of this form reads it.
 pub fn front(form: Form, reply: &Reply) -> Result<u64, u64> {
-    match form {
-        Form::Fdwrite => read_kfdwrite(reply),
-        Form::Fdread => read_kfdread(reply),
-    }
+    let (reply, list) = stored(reply);
+    let read = match form {
+        Form::Fdwrite => ffi::tilgurap_read_kfdwrite,
+        Form::Fdread => ffi::tilgurap_read_kfdread,
+    };
+    // SAFETY: numbers alone.
+    result(unsafe { read(reply, list) })
 }
 
 /// How `kopenat` reads it.
