@@ -88,8 +88,8 @@
  *
  * A driver that dies while the host goes on leaves calls that wait. See to it that nothing of its own is written any more. Read
  * the queue empty, and keep the map requests among it for the driver that comes next; then write an error for each tag in the
- * word of Waiting slots (tilgurap_status), an entry of TILGURAP_CQE_REGULAR with tilgurap_mux_error as its result. A map
- * request that the dead one had read stays until somebody supplies a page.
+ * words of outstanding calls and of orphans (tilgurap_status), an entry of TILGURAP_CQE_REGULAR with tilgurap_mux_error as its
+ * result. A map request that the dead one had read stays until somebody supplies a page.
  *
  *
  * WHAT A DRIVER MUST DO
@@ -121,7 +121,7 @@
 #include <stdint.h>
 
 /* The number of the interface that this header declares: to be compared with tilgurap_abi() before the first event. */
-#define TILGURAP_ABI 2
+#define TILGURAP_ABI 3
 
 /* Limits */
 
@@ -135,7 +135,7 @@
 #define TILGURAP_EFFECT_WORDS 54   /* words to be lent for them, for each whole completion entry of a write */
 #define TILGURAP_STATE_WORDS 2060  /* words of a state */
 #define TILGURAP_QUEUE_WORDS 1024  /* words of the queue beside a TilgurapState */
-#define TILGURAP_STATUS_WORDS 8    /* words that tilgurap_status stores */
+#define TILGURAP_STATUS_WORDS 10   /* words that tilgurap_status stores */
 #define TILGURAP_SQE_BYTES 64      /* bytes of a submission entry */
 #define TILGURAP_CQE_BYTES 16      /* bytes of a completion entry */
 #define TILGURAP_ERRNO_FIRST 1     /* errors that a reply may have, */
@@ -544,8 +544,10 @@ void tilgurap_packed(TilgurapState s, const uint64_t queue[TILGURAP_QUEUE_WORDS]
 /* The state that the words hold, to be looked at; the words of its queue are stored in queue, eight to an entry. */
 TilgurapState tilgurap_plain(const uint64_t words[TILGURAP_STATE_WORDS], uint64_t queue[TILGURAP_QUEUE_WORDS]);
 
-/* Placeholder, Waiting, Responded and Fmap: of each the word in which bit N says that slot N is in that state, and its count of
- * ones. A slot in none of them is vacant. */
+/* Five words, each with its count of ones, in this order: Placeholder, outstanding, Responded, Fmap, orphans. Bit N of a word is
+ * set where slot N counts in it. Outstanding calls are the Waiting ones whose caller has not ended and that have not returned with
+ * EINTR; the other Waiting ones are orphans: nobody will fetch their reply, and they keep their slot until the driver has replied.
+ * No slot is in two words; one in none of them is vacant. */
 void tilgurap_status(const uint64_t words[TILGURAP_STATE_WORDS], uint64_t out[TILGURAP_STATUS_WORDS]);
 
 /* DESCRIPTIONS: an open description has holds, the host's own ("outside"), those of calls' lists and those of the driver's

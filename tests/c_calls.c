@@ -146,6 +146,17 @@ static void states(void)
     uint64_t status[TILGURAP_STATUS_WORDS];
     tilgurap_status(words, status);
     CHECK(status[4] == UINT64_C(1) << 63 && status[5] == 1 && status[0] + status[1] + status[2] + status[3] == 0);
+    CHECK(status[6] + status[7] + status[8] + status[9] == 0);
+    s.table.slots[63].state = TILGURAP_SLOT_WAITING;
+    s.table.slots[62].state = TILGURAP_SLOT_WAITING;
+    s.table.slots[61].state = TILGURAP_SLOT_WAITING;
+    s.table.slots[61].ended = true;
+    s.table.slots[60].state = TILGURAP_SLOT_FMAP;
+    s.table.slots[60].ended = true;
+    tilgurap_packed(s, queue, words);
+    tilgurap_status(words, status);
+    CHECK(status[2] == UINT64_C(1) << 62 && status[3] == 1 && status[8] == UINT64_C(5) << 61 && status[9] == 2);
+    CHECK(status[0] + status[4] == 0 && status[6] == UINT64_C(1) << 60 && status[7] == 1);
 }
 
 /* What each way to ask puts into the driver's entry, and what that wants. */
@@ -457,10 +468,10 @@ static void bytes(void)
     CHECK(wake(0, CALLER).reply.extra0 == 1 && is(wake(1, OTHER).answer, TILGURAP_ANSWER_BLOCKED, 0));
 
     /* the event `close`, 12, of docs/FORMAT.md: a head of 16 bytes and a word */
-    static uint8_t told[1608 + 192];
+    static uint8_t told[1624 + 192];
     uint8_t events[24] = {12};
     TilgurapRunEnd ended = tilgurap_run(SCHEME, events, sizeof events, told, sizeof told, fx, 1);
-    CHECK(ended.number == 0 && ended.place == sizeof events && ended.written > 1608 && ended.written <= sizeof told);
+    CHECK(ended.number == 0 && ended.place == sizeof events && ended.written > 1624 && ended.written <= sizeof told);
     CHECK(tilgurap_run(SCHEME, events, 23, told, sizeof told, fx, 1).number == TILGURAP_REFUSAL_OUT_OF_RULES);
 
     CHECK(done(tilgurap_demux(WIDE(1)), WIDE(1)));

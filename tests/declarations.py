@@ -402,9 +402,9 @@ EDITS = [
     ("changed field", "crates/schemev2/src/lib.rt", "ExtraRaw(pub u8, pub u8, pub u8)", "ExtraRaw(pub u8, pub u8)", "struct Cqe"),
     ("changed field", HEADER, "uint64_t at[6];", "uint64_t at[5];", "struct Args"),
     ("changed field", FFI, "pub struct Tag(pub u64);", "pub struct Tag(pub u32);", "struct Tag"),
-    ("changed interface", EXPORTS, "⌜ r ≡ 2 ⌝ }\n{\n    2\n}", "⌜ r ≡ 3 ⌝ }\n{\n    3\n}", "limit ABI"),
-    ("changed interface", HEADER, "#define TILGURAP_ABI 2", "#define TILGURAP_ABI 3", "limit ABI"),
-    ("changed interface", LIMITS, "ABI: u64 = 2;", "ABI: u64 = 3;", "limit in Rust ABI"),
+    ("changed interface", EXPORTS, "⌜ r ≡ 3 ⌝ }\n{\n    3\n}", "⌜ r ≡ 4 ⌝ }\n{\n    4\n}", "limit ABI"),
+    ("changed interface", HEADER, "#define TILGURAP_ABI 3", "#define TILGURAP_ABI 4", "limit ABI"),
+    ("changed interface", LIMITS, "ABI: u64 = 3;", "ABI: u64 = 4;", "limit in Rust ABI"),
     ("changed limit", EXPORTS, "tilgurap_open(words: &mut [u64; 2060]", "tilgurap_open(words: &mut [u64; 2061]",
      "limit STATE_WORDS"),
     ("changed limit", "crates/queue_words/src/lib.rt", "128 <= s[layout::UNREAD]", "256 <= s[layout::UNREAD]",
@@ -436,7 +436,7 @@ EDITS = [
      "completion's kind OBTAIN"),
     ("changed kind", HEADER, "TILGURAP_ANSWER_BLOCKED 3", "TILGURAP_ANSWER_BLOCKED 5", "answer's kind BLOCKED"),
     ("changed kind", RUST + "effect.rs", "2 => Effect::Unmap", "6 => Effect::Unmap", "effect's kind UNMAP"),
-    ("number of no known sort", HEADER, "#define TILGURAP_ABI 2", "#define TILGURAP_ABI 2\n#define TILGURAP_LAPS 8",
+    ("number of no known sort", HEADER, "#define TILGURAP_ABI 3", "#define TILGURAP_ABI 3\n#define TILGURAP_LAPS 8",
      "number without a counterpart LAPS"),
 ]
 # and those that the compilers have to find by themselves

@@ -48,6 +48,7 @@ detach 20 9
 read 164 0
 wake 1 100 0 5 2
 wake 1 100 1 4096 3
+status
 write 108 00000000010000000700000000000000050000000200000007000000ffffffff
 wake 2 9 0 0 0
 move 2 1 3 1 1
@@ -75,6 +76,8 @@ front fdread regular err 28 255 1 # an error passes
 front fdread fd 18446744073709551615
 front fdread many 2 3 4
 front fdread many 0
+ended 9
+status # a killed call's orphan, and three of caller 9's
 """
 
 
@@ -165,6 +168,8 @@ def line_of_answer(told):
         words.append(answer["number"])
     if "reply" in answer:
         words += reply_words(answer["reply"])
+    if "status" in answer:
+        words += status_words(answer["status"])
     for effect in told["effects"]:
         kind, a, b = EFFECTS[effect["kind"]]
         words += [";", "E", kind, effect[a], effect[b] if b else 0]
@@ -184,9 +189,16 @@ def line_of_state(state):
         handles[one["handle"]] = one["description"]
     words = ["state slots", "".join(slots), "queue", len(state["queue"]), "holds", *holds, "outside", *outside]
     words += ["handles", *handles, "status"]
-    for name in ["Placeholder", "Waiting", "Responded", "Fmap"]:
-        words += [int(state["status"][name]["bits"], 16), state["status"][name]["count"]]
-    return " ".join(map(str, words))
+    return " ".join(map(str, words + status_words(state["status"])))
+
+
+def status_words(status):
+    """The ten numbers that the status words' object says."""
+    words = []
+    for name in ["Placeholder", "Outstanding", "Responded", "Fmap", "Orphans"]:
+        words += [int(status[name]["bits"], 16), status[name]["count"]]
+    assert len(status) == 5, status
+    return words
 
 
 def setUpModule():
@@ -205,7 +217,7 @@ class Json(unittest.TestCase):
         self.assertEqual((done.returncode, done.stderr), (0, ""), args)
         found = [json.loads(line) for line in done.stdout.splitlines()]
         start = found.pop(0)
-        self.assertEqual((start.pop("type"), start.pop("format"), start.pop("command")), ("start", 1, args[0]))
+        self.assertEqual((start.pop("type"), start.pop("format"), start.pop("command")), ("start", 2, args[0]))
         return start, found
 
     def replayed(self, path):

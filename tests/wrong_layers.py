@@ -1,7 +1,8 @@
 #!/usr/bin/env python3
-"""Wrong definitions of the layer against the claims themselves: each is an edit of crates/events/must-fail, and
-for each the claim that it breaks is proved FALSE of it, by a run in which the two sides of the claim's equation
-differ. So no other proof could save it, which a refused must-fail edit alone does not show.
+"""Wrong definitions of the layer against the claims themselves: each is an edit of crates/events/must-fail, or one below of a
+lower crate, in definition and code alike, which that crate still proves. For each the claim that it breaks is proved FALSE of it,
+by a run in which the two sides of the claim's equation differ. So no other proof could save it, which a refused must-fail edit
+alone does not show.
 
     tests/wrong_layers.py [NAME..]
 
@@ -79,6 +80,22 @@ WRONG = [
     ("killed_wake_vacates", "Exactly", f"{CALL} ∷ on (wake 0 1 1 0 0) ∷ []", "on (reserve 2)", "answer", "code", "0", "1"),
 ]
 
+ABANDONED = ("specs/Status.antt", "isAbandoned v = v .ended || v .returned")
+CODE = "src/lib.rt"
+# name, crate, pairs of its files, claim, events before, the clause of the claim there, the wrong layer's, the claimed
+BELOW = [
+    ("a returned call is outstanding", "status", [(*ABANDONED, "isAbandoned v = v .ended || v .ended"), (CODE, "v.returned", "v.ended")],
+     "Statuses", f"{CALL} ∷ on (wake 0 1 1 0 0) ∷ []", "Outstanding .bits 0 (omega arith)", "1", "0"),
+    ("an ended caller's call is outstanding", "status", [(*ABANDONED, "isAbandoned v = v .returned || v .returned"), (CODE, "if v.ended", "if v.returned")],
+     "Statuses", f"{CALL} ∷ hostEnded 1 ∷ []", "Outstanding .bits 0 (omega arith)", "1", "0"),
+    ("a cancelled call is an orphan", "status", [(*ABANDONED, "isAbandoned v = v .ended || v .canceling"), (CODE, "v.returned", "v.canceling")],
+     "Statuses", f"{CALL} ∷ on (wake 0 1 0 0 0) ∷ []", "Orphans .bits 0 (omega arith)", "1", "0"),
+    ("map requests are told as Placeholders", "status",
+     [("specs/Status.antt", "passes Placeholder v = eqb (v .state) 1", "passes Placeholder v = eqb (v .state) 4"),
+      (CODE, "Status::Placeholder => in_state(v, 1)", "Status::Placeholder => in_state(v, 4)")],
+     "Statuses", "on (reserve 1) ∷ []", "Placeholder .bits 0 (omega arith)", "0", "1"),
+]
+
 REFUTED = """-- {claim} does not hold of this layer.
 use Prim.Native.Nat.{{ℕ, _+_}}
 use mathlib.Core.Path.{{_≡_, refl, ap}}
@@ -87,6 +104,7 @@ use mathlib.Core.List.{{List, [], _∷_, _++_}}
 use native.Mathlib.Omega.{{arith}}
 use lib.ListN.{{length, getD, replicate, length-replicate}}
 use Rattle.slot.specs.Slots.{{vacantSlot}}
+use Rattle.status.specs.declared.Status.the-variants.{{Placeholder, Outstanding, Orphans}}
 use Rattle.wait_queue.specs.Queue.{{wordsFrom}}
 use Rattle.events.specs.World.{{freshWorld, unreadIn}}
 use Rattle.events.specs.Outcome.{{Response, success, error, descriptor, many, Answer, onAnswer, Outcome}}
@@ -123,24 +141,65 @@ refuted x =
 """
 
 
-def apply(edit, crate):
-    """The pairs of a must-fail edit, on a copy of the crate."""
-    file, old = None, None
+def pairs_of(edit):
+    """The pairs of a must-fail edit: file, old text, new text."""
+    pairs, file, old = [], None, None
     for line in edit.read_text().splitlines():
         if line.startswith("file: "):
-            file = crate / line[6:]
+            file = line[6:]
         elif line.startswith("old: "):
             old = line[5:]
         elif line.startswith("new: "):
-            text = file.read_text()
-            if text.count(old) != 1:
-                sys.exit(f"{edit.name}: stands {text.count(old)} times: {old}")
-            file.write_text(text.replace(old, line[5:]))
+            pairs.append((file, old, line[5:]))
+    return pairs
+
+
+def apply(name, pairs, crate):
+    for file, old, new in pairs:
+        text = (crate / file).read_text()
+        if text.count(old) != 1:
+            sys.exit(f"{name}: stands {text.count(old)} times: {old}")
+        (crate / file).write_text(text.replace(old, new))
+
+
+def is_false(copy, claim, before, said, measure, wrong, claimed):
+    """Is the claim proved false of the layer in this copy? And what the check says."""
+    events = copy / "crates/events"
+    shutil.rmtree(events / "proofs")
+    (events / "proofs").mkdir()
+    (events / "proofs/Lib.antt").write_text("pub mod Refuted\n")
+    # the examples cite the definitions as they should be, and no claim rests on them
+    lib = events / "specs/Lib.antt"
+    lib.write_text(lib.read_text().replace("pub mod Examples\n", ""))
+    (events / "specs/Examples.antt").unlink()
+    (events / "proofs/Refuted.antt").write_text(
+        REFUTED.format(claim=claim, before=before, wrong=wrong, claimed=claimed, measure=measure, clause=said))
+    run = subprocess.run(["rt", "check", "events"], cwd=copy, capture_output=True, text=True)
+    return run.returncode == 0, run.stdout + run.stderr
+
+
+# the claim of the run over the events before
+AT = "x (runFrom (begin 7 (replicate 1024 0)) before) s"
+
+
+def cases():
+    """Name, crate, pairs of its files, and what is_false takes."""
+    for name, claim, before, event, clause, measure, wrong, claimed in WRONG:
+        said = {
+            "Exactly": f"{AT} .rest ({event}) .effects" if clause == "effects" else f"{AT} .answer ({event})",
+            "Demand3": f"{AT} .turn ({event}) .{clause}",
+            "Spelled": f"x {event}",
+        }[claim]
+        pairs = pairs_of(TOP / f"crates/events/must-fail/{name}.edit")
+        yield name, "events", pairs, (claim, before, said, measure, wrong, claimed)
+    for name, crate, pairs, claim, before, clause, wrong, claimed in BELOW:
+        yield name, crate, pairs, (claim, before, f"{AT} {clause}", "(λ (n : ℕ). n)", wrong, claimed)
 
 
 def main():
     names = sys.argv[1:]
-    unknown = set(names) - {w[0] for w in WRONG}
+    all_cases = list(cases())
+    unknown = set(names) - {case[0] for case in all_cases}
     if unknown:
         sys.exit(f"no such wrong layer: {', '.join(sorted(unknown))}")
     below = "answer closes counts error fd_list flag handles holds host_ended host_holds host_put ids le opcode parse_cqe schemev2 slot state status table take_holds user_args wait_queue wait_queue_receive word_put"
@@ -152,36 +211,24 @@ def main():
             source = TOP / part
             shutil.copytree(source, copy / part) if source.is_dir() else shutil.copy(source, copy / part)
         subprocess.run(["git", "init", "-q"], cwd=copy, check=True)
-        events = copy / "crates/events"
-        for name, claim, before, event, clause, measure, wrong, claimed in WRONG:
+        for name, crate, pairs, case in all_cases:
             if names and name not in names:
                 continue
-            shutil.rmtree(events)
-            shutil.copytree(TOP / "crates/events", events)
-            apply(TOP / f"crates/events/must-fail/{name}.edit", events)
-            shutil.rmtree(events / "proofs")
-            (events / "proofs").mkdir()
-            (events / "proofs/Lib.antt").write_text("pub mod Refuted\n")
-            # the examples cite the definitions as they should be, and no claim rests on them
-            lib = events / "specs/Lib.antt"
-            lib.write_text(lib.read_text().replace("pub mod Examples\n", ""))
-            (events / "specs/Examples.antt").unlink()
-            at = "x (runFrom (begin 7 (replicate 1024 0)) before) s"
-            said = {
-                "Exactly": f"{at} .rest ({event}) .effects" if clause == "effects" else f"{at} .answer ({event})",
-                "Demand3": f"{at} .turn ({event}) .{clause}",
-                "Spelled": f"x {event}",
-            }[claim]
-            (events / "proofs/Refuted.antt").write_text(
-                REFUTED.format(claim=claim, before=before, wrong=wrong, claimed=claimed, measure=measure, clause=said))
-            run = subprocess.run(["rt", "check", "events"], cwd=copy, capture_output=True, text=True)
-            if run.returncode == 0:
-                print(f"{name}: {claim} is false of it ({clause}: {wrong}, where {claimed} is claimed)")
+            for part in {"events", crate}:
+                shutil.rmtree(copy / "crates" / part)
+                shutil.copytree(TOP / "crates" / part, copy / "crates" / part)
+            apply(name, pairs, copy / "crates" / crate)
+            claim, _, said, _, wrong, claimed = case
+            shown, log = is_false(copy, *case)
+            if shown:
+                print(f"{name}: {claim} is false of it ({said.removeprefix(AT).strip()}: {wrong}, where {claimed} is claimed)")
             else:
                 failed += 1
-                log = run.stdout + run.stderr
                 print(f"{name}: NOT shown false of {claim}")
                 print("\n".join(l for l in log.splitlines() if re.search(r"error|Refuted", l))[:3000])
+            if crate != "events":
+                shutil.rmtree(copy / "crates" / crate)
+                shutil.copytree(TOP / "crates" / crate, copy / "crates" / crate)
     print(f"{failed} not shown")
     sys.exit(failed != 0)
 

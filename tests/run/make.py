@@ -54,8 +54,9 @@ def main():
         (record("fdread", [9, 23, 0x4000, 30], first=[44], number=400, uid=1, gid=2), outcome((NO, 22))),
         (record("fdread", [9, 16, 0x4000, 30], first=[44, 45, 46], number=400, uid=1, gid=2), outcome((OK, 3), ROOT)),
         (record("read", [192]), outcome((OK, 192), read=struct.pack("<BB2xI6QQ", 28, 2, 2, 5, 10, 20, 8, 9, 6, 7) + struct.pack("<BB2xI6QQ", 12, 0, 2, 9, 1, 44, 1, 0, 1 + (2 << 32), 30) + struct.pack("<BB2xI6QQ", 31, 0, 3, 9, 2, 2, 44, 45, 1 + (2 << 32), 30))),
+        (record("ended", number=400), outcome((OK, 0))),
     ]
-    end = state(0, [0, 14, 1, 0], holds=[(3, 1)])
+    end = state(0, [0, 2, 1, 0, 12], holds=[(3, 1)])
     good = b"".join(data for data, _ in events)
     # a close with a caller, which it has no field for
     bad = record("close", [1], number=1)

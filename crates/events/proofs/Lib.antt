@@ -14,5 +14,6 @@ pub mod Steps
 pub mod Exact
 pub mod Refused
 pub mod Demanded
+pub mod Statuses
 pub mod Spelled
 pub mod Examples

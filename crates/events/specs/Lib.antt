@@ -17,5 +17,6 @@ pub mod Effects
 pub mod WellFormed
 pub mod Refusals
 pub mod Exactly
+pub mod Statuses
 pub mod Spelled
 pub mod Examples

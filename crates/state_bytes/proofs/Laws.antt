@@ -12,7 +12,7 @@ use Rattle.le.specs.Le.{bytesOf}
 use Rattle.slot.specs.declared.Slot.{Slot}
 use Rattle.slot.specs.Slots.{vacantSlot}
 use Rattle.status.specs.declared.Status.{Status}
-use Rattle.status.specs.declared.Status.the-variants.{Placeholder, Waiting, Responded, Fmap}
+use Rattle.status.specs.declared.Status.the-variants.{Placeholder, Outstanding, Responded, Fmap, Orphans}
 use Rattle.status.specs.Status.{isIn, wordOf}
 use Rattle.status.proofs.Words.{in-le, word-none, word-room, word-more}
 use Rattle.table.specs.declared.Table.{Table}
@@ -51,12 +51,12 @@ module _ (ws : List ℕ) (which : Status) where
     small x v e = omega (arith, e, in-le which v)
 
 -- the status words with their counts
-pub four :
-    (t : Table) (a a' b b' c c' d d' : ℕ) → a ≡ wordOf (isIn Placeholder) (t .slots) → a' ≡ ones a → b ≡ wordOf (isIn Waiting) (t .slots) → b' ≡ ones b
-    → c ≡ wordOf (isIn Responded) (t .slots) → c' ≡ ones c → d ≡ wordOf (isIn Fmap) (t .slots) → d' ≡ ones d
-    → (a ∷ a' ∷ b ∷ b' ∷ c ∷ c' ∷ d ∷ d' ∷ []) ≡ statusWords t
-four t a a' b b' c c' d d' ea oa eb ob ec oc ed od =
-    λ i. ea i ∷ (oa ∙ ap ones ea) i ∷ eb i ∷ (ob ∙ ap ones eb) i ∷ ec i ∷ (oc ∙ ap ones ec) i ∷ ed i ∷ (od ∙ ap ones ed) i ∷ []
+pub five :
+    (t : Table) (a a' b b' c c' d d' e e' : ℕ) → a ≡ wordOf (isIn Placeholder) (t .slots) → a' ≡ ones a → b ≡ wordOf (isIn Outstanding) (t .slots) → b' ≡ ones b
+    → c ≡ wordOf (isIn Responded) (t .slots) → c' ≡ ones c → d ≡ wordOf (isIn Fmap) (t .slots) → d' ≡ ones d → e ≡ wordOf (isIn Orphans) (t .slots) → e' ≡ ones e
+    → (a ∷ a' ∷ b ∷ b' ∷ c ∷ c' ∷ d ∷ d' ∷ e ∷ e' ∷ []) ≡ statusWords t
+five t a a' b b' c c' d d' e e' ea oa eb ob ec oc ed od ee oe =
+    λ i. ea i ∷ (oa ∙ ap ones ea) i ∷ eb i ∷ (ob ∙ ap ones eb) i ∷ ec i ∷ (oc ∙ ap ones ec) i ∷ ed i ∷ (od ∙ ap ones ed) i ∷ ee i ∷ (oe ∙ ap ones ee) i ∷ []
 
 -- runs of a known length, one behind the other
 next-run :
@@ -94,5 +94,5 @@ module _ (l l1 l2 l3 l4 l5 : List ℕ) (q : ℕ) (a b c st : List ℕ) (la : len
       long-front refl e4)
       (sixty-four front c 1032 long-front lc) refl e5
 
-  pub whole-size : length (bytesOf st) ≡ 64 → length (front ++ bytesOf c ++ bytesOf st) ≡ 1608
+  pub whole-size : length (bytesOf st) ≡ 80 → length (front ++ bytesOf c ++ bytesOf st) ≡ 1624
   whole-size es = omega (arith, es, sixty-four front c 1032 long-front lc, length-append (front ++ bytesOf c) (bytesOf st))

@@ -13,7 +13,7 @@ ghost use Rattle.layout.specs.Layout.{plainOf};
 ghost use Rattle.state_bytes.specs.StateBytes.{statusWords, stateBytes, stateSize};
 
 // How many bytes it takes.
-pub const STATE_SIZE: usize = 1608;
+pub const STATE_SIZE: usize = 1624;
 
 fn put_counts(out: &mut [u8], at: usize, a: &[u64])
     requires { ⌜ (at ≤ 0x4000_0000_0000_0000) × (length (now a) ≤ 64) ⌝ }
@@ -57,23 +57,26 @@ fn ones(word: u64) -> u32
     u64::count_ones(word)
 }
 
-// The four status words, each with its count of ones.
-pub fn statuses(s: &[u64; 2060]) -> [u64; 8]
+// The five status words, each with its count of ones.
+pub fn statuses(s: &[u64; 2060]) -> [u64; 10]
     ensures { λ r. ⌜ r ≡ statusWords (tableOf (plainOf (now (s .entry)))) ⌝ }
 {
     let placeholder = status_word(s, Status::Placeholder);
-    let waiting = status_word(s, Status::Waiting);
+    let outstanding = status_word(s, Status::Outstanding);
     let responded = status_word(s, Status::Responded);
     let fmap = status_word(s, Status::Fmap);
+    let orphans = status_word(s, Status::Orphans);
     [
         placeholder,
         ones(placeholder) as u64,
-        waiting,
-        ones(waiting) as u64,
+        outstanding,
+        ones(outstanding) as u64,
         responded,
         ones(responded) as u64,
         fmap,
         ones(fmap) as u64,
+        orphans,
+        ones(orphans) as u64,
     ]
 }
 

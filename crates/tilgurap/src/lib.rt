@@ -42,9 +42,9 @@ ghost use Rattle.state.specs.State.{freshState};
 // host can tell whether a library is the one that it was written for.
 #[no_mangle]
 pub extern "C" fn tilgurap_abi() -> u64
-    ensures { λ r. ⌜ r ≡ 2 ⌝ }
+    ensures { λ r. ⌜ r ≡ 3 ⌝ }
 {
-    2
+    3
 }
 
 #[no_mangle]
@@ -395,9 +395,9 @@ pub extern "C" fn tilgurap_packed(s: State, queue: &[u64; 1024], words: &mut [u6
     plain::packed(s, queue, words);
 }
 
-// The four status words, each with its count of ones: Placeholder, Waiting, Responded, Fmap.
+// The five status words, each with its count of ones: Placeholder, outstanding, Responded, Fmap, orphans.
 #[no_mangle]
-pub extern "C" fn tilgurap_status(words: &[u64; 2060], out: &mut [u64; 8])
+pub extern "C" fn tilgurap_status(words: &[u64; 2060], out: &mut [u64; 10])
     ensures { λ r. ⌜ now (out .exit) ≡ statusWords (tableOf (plainOf (now (words .entry)))) ⌝ }
 {
     let all = state_bytes::statuses(words);

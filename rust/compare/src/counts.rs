@@ -24,6 +24,9 @@ pub struct Counts {
     entries: BTreeMap<(u8, &'static str, String), u64>,
     most_slots: u64,
     most_queued: u64,
+    /// The events before which some call was an orphan, some other one outstanding.
+    orphans: u64,
+    parted: u64,
 }
 
 fn answer(answer: &Answer) -> String {
@@ -32,6 +35,7 @@ fn answer(answer: &Answer) -> String {
         Answer::No(number) => format!("no {number}"),
         Answer::Wait => "wait".to_owned(),
         Answer::Blocked => "blocked".to_owned(),
+        Answer::Status(_) => "status".to_owned(),
         Answer::Skip => "skip".to_owned(),
         Answer::Reply(reply) => match reply {
             Reply::Regular { result, notice, .. } => format!(
@@ -116,6 +120,9 @@ impl Counts {
         let occupied = state.slots.iter().filter(|p| **p != Phase::Vacant);
         self.most_slots = self.most_slots.max(occupied.count() as u64);
         self.most_queued = self.most_queued.max(state.queue);
+        let [_, outstanding, _, _, orphans] = state.status.map(|(word, _)| word != 0);
+        self.orphans += u64::from(orphans);
+        self.parted += u64::from(orphans && outstanding);
     }
 
     fn effects_of(&mut self, kind: &'static str, line: &Line) {
@@ -153,8 +160,8 @@ impl Display for Counts {
         )?;
         writeln!(
             f,
-            "at most {} slots and {} queued entries",
-            self.most_slots, self.most_queued
+            "at most {} slots and {} queued entries; orphans before {} events, beside outstanding calls before {}",
+            self.most_slots, self.most_queued, self.orphans, self.parted
         )?;
         writeln!(f, "\nreasons, and how often each showed and was confirmed")?;
         write!(f, "{}", self.shown.lines(reasons::ALL))?;

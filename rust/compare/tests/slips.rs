@@ -30,13 +30,15 @@ fn occupied(layer: &Layer) -> usize {
     slots.iter().filter(|p| **p != Phase::Vacant).count()
 }
 
-/// Events that show a slip; a list of 16 needs its holds, a limit what fills it.
+/// Events that show a slip; a list of 16 needs its holds, a limit what fills it. A mark that parts the Waiting slots shows
+/// in the status words at once.
+const AT_ONCE: usize = 3;
 const FEW: usize = 7;
 const A_LIST: usize = 24;
 const ALL_SLOTS: usize = 66;
 const ALL_QUEUE: usize = 140;
 
-const SLIPS: [Slip; 24] = [
+const SLIPS: [Slip; 26] = [
     Slip {
         name: "a killed wake vacates the slot",
         before: NOT_BEFORE,
@@ -349,6 +351,31 @@ const SLIPS: [Slip; 24] = [
             }
         },
         most: FEW,
+    },
+    Slip {
+        name: "a call that waits is not told that its caller has ended",
+        before: NOT_BEFORE,
+        after: |_, layer, event, _| {
+            if let Event::Ended { .. } = event {
+                layer.change_parts(|state| {
+                    let slots = state.table.slots.iter_mut();
+                    slots
+                        .filter(|slot| slot.state == 2)
+                        .for_each(|slot| slot.ended = false);
+                });
+            }
+        },
+        most: AT_ONCE,
+    },
+    Slip {
+        name: "a killed call is not marked as returned",
+        before: NOT_BEFORE,
+        after: |_, layer, event, line| {
+            if let (Event::Wake { tag, .. }, Answer::No(4)) = (event, &line.answer) {
+                change_slot(layer, *tag, |slot| slot.returned = false);
+            }
+        },
+        most: AT_ONCE,
     },
 ];
 

@@ -3,7 +3,7 @@
 use std::fmt::Display;
 use std::io::{self, Write};
 
-use script::{Answer, Effect, Event, Form, Line, Payload, Script, source_lines};
+use script::{Answer, Effect, Event, Form, Line, Payload, Script, StatusWords, source_lines};
 use tilgurap::numbers::Layer;
 use tilgurap::{CallFlags, Cqe, Opcode, Sqe};
 
@@ -231,6 +231,7 @@ fn asked(event: &Event) -> String {
         Event::Front { form, reply } => {
             format!("a call by {} reads its reply, {}", form.name(), told(reply))
         }
+        Event::Status => "the status words are asked for".to_owned(),
     }
 }
 
@@ -304,7 +305,21 @@ fn accepted(event: &Event, number: u64, line: &Line, before: &Layer) -> String {
         | Event::Close { .. }
         | Event::Detach { .. } => "accepted".to_owned(),
         Event::Wake { .. } => unreachable!("a wake hands a reply over, blocks or is refused"),
+        Event::Status => unreachable!("it is answered with the words"),
     }
+}
+
+/// The tags in each status word.
+fn tags(words: &StatusWords) -> String {
+    let told = table::words(words).map(|(name, word)| {
+        let tags: Vec<u64> = word.tags().map(|tag| tag.0).collect();
+        match &tags[..] {
+            [] => format!("{name} none"),
+            [one] => format!("{name} tag {one}"),
+            many => format!("{name} tags {}", list(many)),
+        }
+    });
+    told.join("; ")
 }
 
 /// What the answer means.
@@ -327,6 +342,7 @@ fn answered(event: &Event, line: &Line, before: &Layer) -> String {
         Answer::Blocked if line.effects.is_empty() => "no reply yet, it stays blocked".to_owned(),
         Answer::Blocked => "no reply yet, it stays blocked and a Cancel is queued".to_owned(),
         Answer::Reply(handed) => format!("it is handed its reply: {}", told(handed)),
+        Answer::Status(words) => tags(words),
         Answer::Skip => unreachable!("the layer answers every event"),
     }
 }
@@ -371,5 +387,5 @@ pub fn explain(out: &mut impl Write, script: &Script, text: &str) -> io::Result<
     writeln!(out)?;
     others.last().expect("those below").print_above(out)?;
     writeln!(out, "At the end:")?;
-    write!(out, "{}", table::table(layer.typed()))
+    write!(out, "{}", table::table(&layer))
 }

@@ -3,15 +3,15 @@
 use std::fmt::{self, Display, Formatter};
 use std::io::{self, Write};
 
-use script::{Answer, Effect, Event, Line, Reply, Script, Value, source_lines};
+use script::{Answer, Effect, Event, Line, Reply, Script, StatusWords, Value, source_lines};
 use tilgurap::numbers;
-use tilgurap::{Description, Handle, Holds, Layer, Slot, Sqe, StatusWord, Tag};
+use tilgurap::{Description, Handle, Holds, Slot, Sqe, StatusWord, Tag};
 
 use crate::reply;
 use crate::table;
 
 /// Rises with every change that a reader of the objects could stumble over.
-const FORMAT: u64 = 1;
+const FORMAT: u64 = 2;
 
 /// A value of JSON.
 enum Json<'a> {
@@ -143,6 +143,7 @@ fn answer(answer: &Answer) -> Json<'static> {
         Answer::Wait => vec![("kind", text("wait"))],
         Answer::Blocked => vec![("kind", text("blocked"))],
         Answer::Reply(reply) => vec![("kind", text("reply")), ("reply", handed_over(reply))],
+        Answer::Status(words) => vec![("kind", text("status")), ("status", status(words))],
         Answer::Skip => unreachable!("the layer answers every event"),
     })
 }
@@ -174,12 +175,13 @@ fn stepped(number: usize, line: usize, asked: &Event, answered: &Line) -> Json<'
     ])
 }
 
-/// A word's bits as hex: it often has more digits than a JSON reader keeps of a number.
-fn status_word(word: StatusWord) -> Json<'static> {
-    Object(vec![
-        ("bits", Text(table::bits(word))),
-        ("count", Number(word.count)),
-    ])
+/// The status words. A word's bits are hex: it often has more digits than a JSON reader keeps of a number.
+fn status(words: &StatusWords) -> Json<'static> {
+    let word = |(name, word): (&'static str, StatusWord)| {
+        let bits = ("bits", Text(table::bits(word)));
+        (name, Object(vec![bits, ("count", Number(word.count))]))
+    };
+    Object(table::words(words).map(word).into())
 }
 
 fn slot((tag, slot): &(Tag, Slot)) -> Json<'static> {
@@ -215,9 +217,9 @@ fn entry(entry: &Sqe) -> Json<'static> {
     ])
 }
 
-/// All that `status` shows.
-fn state(layer: &Layer) -> Json<'static> {
-    let words = table::words(layer).map(|(name, word)| (name, status_word(word)));
+/// All that the command `status` shows.
+fn state(of: &numbers::Layer) -> Json<'static> {
+    let layer = of.typed();
     let handle = |(Handle(handle), Description(description))| {
         Object(vec![
             ("handle", Number(handle)),
@@ -233,7 +235,7 @@ fn state(layer: &Layer) -> Json<'static> {
     };
     Object(vec![
         ("type", text("state")),
-        ("status", Object(words.into())),
+        ("status", status(&of.status())),
         ("slots", List(layer.occupied().iter().map(slot).collect())),
         ("queue", List(layer.unread().iter().map(entry).collect())),
         (
@@ -262,7 +264,7 @@ fn run(
         let line = layer.step(event);
         each(out, at, event, &line)?;
     }
-    writeln!(out, "{}", state(layer.typed()))
+    writeln!(out, "{}", state(&layer))
 }
 
 /// An object for each event, and the state at the end.
@@ -276,7 +278,7 @@ pub fn replay(out: &mut impl Write, script: &Script, text: &str) -> io::Result<(
 }
 
 /// The state at the end alone.
-pub fn status(out: &mut impl Write, script: &Script) -> io::Result<()> {
+pub fn state_alone(out: &mut impl Write, script: &Script) -> io::Result<()> {
     run(out, "status", script, |_, _, _, _| Ok(()))
 }
 

@@ -67,7 +67,7 @@ fn status(out: &mut impl Write, script: &Script) -> io::Result<()> {
     for event in &script.events {
         layer.step(event);
     }
-    write!(out, "{}", table::table(layer.typed()))
+    write!(out, "{}", table::table(&layer))
 }
 
 /// What to do with a script.
@@ -95,7 +95,7 @@ fn run(task: Task, file: &[&str]) -> Result<ExitCode, String> {
         Task::Explain => explain::explain(out, &script, &text),
         Task::Status => status(out, &script),
         Task::ReplayJson => json::replay(out, &script, &text),
-        Task::StatusJson => json::status(out, &script),
+        Task::StatusJson => json::state_alone(out, &script),
     }))
 }
 

@@ -1,26 +1,27 @@
 //! What a layer holds, as tables that a person can read.
 
+use std::array;
 use std::fmt::{self, Display, Formatter};
 
+use script::StatusWords;
+use tilgurap::numbers;
 use tilgurap::{Description, Handle, Holds, Layer, Slot, Sqe, StatusWord, Tag};
 
 use crate::reply;
 
-pub struct Table<'a>(&'a Layer);
+pub struct Table<'a>(&'a numbers::Layer);
 
-pub fn table(layer: &Layer) -> Table<'_> {
+pub fn table(layer: &numbers::Layer) -> Table<'_> {
     Table(layer)
 }
 
-/// The slots in each state but vacant.
-pub fn words(layer: &Layer) -> [(&'static str, StatusWord); 4] {
-    let status = layer.status();
-    [
-        ("Placeholder", status.placeholder),
-        ("Waiting", status.waiting),
-        ("Responded", status.responded),
-        ("Fmap", status.fmap),
-    ]
+/// The status words, each with its name.
+pub fn words(words: &StatusWords) -> [(&'static str, StatusWord); 5] {
+    let names = ["Placeholder", "Outstanding", "Responded", "Fmap", "Orphans"];
+    array::from_fn(|of| {
+        let (bits, count) = words[of];
+        (names[of], StatusWord { bits, count })
+    })
 }
 
 /// One bit a slot, as hex.
@@ -113,11 +114,11 @@ fn queue(f: &mut Formatter, unread: &[Sqe]) -> fmt::Result {
 
 impl Display for Table<'_> {
     fn fmt(&self, f: &mut Formatter) -> fmt::Result {
-        let layer = self.0;
         writeln!(f, "status        slots  word (bit N is tag N)")?;
-        for (name, word) in words(layer) {
+        for (name, word) in words(&self.0.status()) {
             writeln!(f, "  {name:<11} {:>5}  {}", word.count, bits(word))?;
         }
+        let layer = self.0.typed();
         slots(f, &layer.occupied())?;
         queue(f, &layer.unread())?;
 

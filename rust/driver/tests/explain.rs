@@ -109,6 +109,10 @@ fn events_that_are_accepted() {
             "front fdread many 2 3 4",
             "A call by fdread reads its reply, descriptions 3, 4; it returns 2, how many came.",
         ),
+        (
+            "call 9 6 0 0 0 0 0 0 0 0 0 0\ncall 9 6 0 0 0 0 0 0 0 0 0 0\ncall 8 6 0 0 0 0 0 0 0 0 0 0\nended 9\nstatus",
+            "The status words are asked for; Placeholder none; Outstanding tag 2; Responded none; Fmap none; Orphans tags 0, 1.",
+        ),
     ] {
         assert_eq!(sentence(events), wanted, "{events}");
     }
@@ -397,9 +401,10 @@ fn what_a_layer_holds() {
     let output = run(&["status"], HELD.as_bytes());
     let wanted = "status        slots  word (bit N is tag N)
   Placeholder     1  0x0000000000000001
-  Waiting         1  0x0000000000000002
+  Outstanding     0  0x0000000000000000
   Responded       1  0x0000000000000008
   Fmap            1  0x0000000000000004
+  Orphans         1  0x0000000000000002
 slots: 60 vacant, the others:
   tag  state            caller  notes
     0  Placeholder  4294967295

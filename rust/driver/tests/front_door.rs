@@ -243,7 +243,7 @@ fn help_is_whole() {
         }
     }
     let lines = said(&["help", "script"]);
-    let events = "open copy drop put ended reserve submit call generic stdfs fmap close detach wake read write move obtain supply fdwrite fdread front";
+    let events = "open copy drop put ended reserve submit call generic stdfs fmap close detach wake read write move obtain supply fdwrite fdread front status";
     for event in events.split(' ') {
         assert!(lines.contains(&format!("\n{event} ")), "{event}");
     }

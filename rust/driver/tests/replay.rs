@@ -26,7 +26,7 @@ ok 1 ; E 5 7 1
 ok 16 ; E 1 100 0
 no 201
 blocked ; E 5 7 1
-state slots rw{} queue 2 holds{zeros} outside{zeros} handles{} status 0 0 2 1 1 1 0 0
+state slots rw{} queue 2 holds{zeros} outside{zeros} handles{} status 0 0 2 1 1 1 0 0 0 0
 ",
         "v".repeat(62),
         " -".repeat(64)
@@ -112,6 +112,60 @@ fn a_mistake_on_each_kind_of_line() {
         }
         let output = run(&["replay"], format!("scheme 7\n{good}\n").as_bytes());
         assert_eq!(output.status.code(), Some(0), "{good}");
+    }
+}
+
+/// A caller that ends while its call waits, one that is killed while it waits, both, then the replies; and an ended
+/// Placeholder, which is in neither word. The question changes nothing.
+#[test]
+fn status_words() {
+    let script = "scheme 7
+status
+call 100 6 0 0 0 0 0 0 0 0 0 0
+call 101 6 0 0 0 0 0 0 0 0 0 0
+call 102 6 0 0 0 0 0 0 0 0 0 0
+reserve 103
+status
+ended 100
+status
+wake 1 101 1 0 0
+status
+wake 2 102 1 0 0
+ended 102
+status
+ended 103
+status
+write 162 000000000000000000000000000000000000000001000000000000000000000000000000020000000000000000000000
+status
+";
+    let wanted = [
+        "0 0 0 0 0 0 0 0 0 0",
+        "8 1 7 3 0 0 0 0 0 0",
+        "8 1 6 2 0 0 0 0 1 1",
+        "8 1 4 1 0 0 0 0 3 2",
+        "8 1 0 0 0 0 0 0 7 3",
+        "8 1 0 0 0 0 0 0 7 3",
+        "8 1 0 0 2 1 0 0 0 0",
+    ];
+    let output = run(&["replay"], script.as_bytes());
+    let lines = text(&output.stdout).lines();
+    let (asked, others): (Vec<_>, Vec<_>) = lines.partition(|line| line.starts_with("status "));
+    assert_eq!(asked, wanted.map(|words| format!("status {words}")));
+    let unasked = script.replace("status\n", "");
+    let output = run(&["replay"], unasked.as_bytes());
+    assert_eq!(others, text(&output.stdout).lines().collect::<Vec<_>>());
+    assert!(others[others.len() - 1].ends_with(&format!(" status {}", wanted[6])));
+
+    for (bad, what) in [
+        ("status 0", "spare field `0`"),
+        ("state", "unknown event `state`"),
+    ] {
+        let output = run(&["replay"], format!("scheme 7\n{bad}\n").as_bytes());
+        assert!(
+            text(&output.stderr).contains(&format!("line 2: {what}; ")),
+            "{bad}"
+        );
+        assert_eq!(output.status.code(), Some(2));
     }
 }
 

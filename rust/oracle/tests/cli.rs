@@ -27,7 +27,7 @@ fn a_script_from_standard_input() {
     let output = run(&[], b"scheme 7\nopen 1\nread 0 0\n");
     assert_eq!(output.status.code(), Some(0));
     assert!(text(&output.stdout).starts_with("ok 0\nwait\nstate slots vvv"));
-    assert!(text(&output.stdout).ends_with(" status 0 0 0 0 0 0 0 0\n"));
+    assert!(text(&output.stdout).ends_with(" status 0 0 0 0 0 0 0 0 0 0\n"));
     assert!(output.stderr.is_empty());
 }
 

@@ -1,14 +1,16 @@
 //! Each script in `scripts`, with what the kernel's code answers, as read from its source, behind
-//! `#= `. The state is short: what is not as in a fresh one, `D:N` for a number of a description.
+//! `#= `. The state is short: what is not as in a fresh one, `D:N` for a number of a description, the tags of orphans.
 
 use std::fs;
 use std::path::Path;
 
 use script::{OutputLine, Phase, Script, State};
 
+const SECTIONS: [&str; 6] = ["slots", "queue", "holds", "outside", "handles", "orphans"];
+
 /// The state that a short line says.
 fn state(text: &str) -> State {
-    let mut state = State::fresh();
+    let (mut state, mut abandoned) = (State::fresh(), 0);
     let mut section = "";
     for word in text.split(' ') {
         let pair = word.split_once(':').map(|(at, number)| {
@@ -17,22 +19,22 @@ fn state(text: &str) -> State {
             (at, number)
         });
         match (section, pair) {
-            (_, None) if ["slots", "queue", "holds", "outside", "handles"].contains(&word) => {
-                section = word;
-            }
+            (_, None) if SECTIONS.contains(&word) => section = word,
             ("slots", None) => {
                 for (slot, letter) in state.slots.iter_mut().zip(word.chars()) {
                     *slot = Phase::from_letter(letter).expect("a phase");
                 }
             }
             ("queue", None) => state.queue = word.parse().expect("a number"),
+            ("orphans", None) => abandoned |= 1 << word.parse::<u64>().expect("a tag"),
             ("holds", Some((d, n))) => state.holds[d] = n,
             ("outside", Some((d, n))) => state.outside[d] = n,
             ("handles", Some((h, d))) => state.handles[h] = Some(d),
             _ => panic!("`{word}` in a state"),
         }
     }
-    state.status = State::status_of(&state.slots);
+    state.status = State::status_of(&state.slots, abandoned);
+    assert_eq!(state.status[4].0, abandoned, "an orphan waits");
     state
 }
 

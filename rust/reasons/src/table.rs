@@ -166,7 +166,8 @@ impl Table {
             Event::Ended { .. }
             | Event::Read { .. }
             | Event::Obtain { .. }
-            | Event::Front { .. } => None,
+            | Event::Front { .. }
+            | Event::Status => None,
         }
     }
 }

@@ -163,6 +163,7 @@ fn answer(event: &Event, line: &Line) -> String {
             let notice = if *notice { ", notice" } else { "" };
             format!("regular {word}{notice}")
         }
+        (Answer::Status(_), _) => unreachable!("a question is not recorded"),
         (Answer::Skip, _) => "skip".to_owned(),
     }
 }

@@ -148,10 +148,10 @@ mod tests {
         let word = |at: usize| u64::from_le_bytes(bytes[at..at + 8].try_into().unwrap());
         assert_eq!(
             [word(0), word(8), word(16), word(24)],
-            [1, 7, 24, 32 + 1608]
+            [1, 7, 24, 32 + 1624]
         );
         assert_eq!(bytes[32..56], event.encode().unwrap());
-        assert_eq!(bytes.len(), 32 + 24 + 32 + 1608);
+        assert_eq!(bytes.len(), 32 + 24 + 32 + 1624);
     }
 
     #[test]

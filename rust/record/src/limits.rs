@@ -11,23 +11,27 @@ use crate::file::{File, Run};
 use crate::kernel::{Kernel, Taken};
 use crate::scripts::{parse, paths};
 
+const SECTIONS: [&str; 6] = ["slots", "queue", "holds", "outside", "handles", "orphans"];
+
 /// The state that a short line says: what is not as in a fresh one, `D:N` for a number of a
-/// description, `H:D` for a handle, and the first slots' letters.
+/// description, `H:D` for a handle, the first slots' letters, and behind them the tags of orphans.
 fn state(text: &str) -> Outcome<State> {
-    let mut state = State::fresh();
+    let (mut state, mut abandoned) = (State::fresh(), 0);
     let mut section = "";
     for word in text.split(' ') {
         let wrong = || format!("`{word}` in a state");
         match (section, word.split_once(':')) {
-            (_, None) if ["slots", "queue", "holds", "outside", "handles"].contains(&word) => {
-                section = word;
-            }
+            (_, None) if SECTIONS.contains(&word) => section = word,
             ("slots", None) if word.len() <= state.slots.len() => {
                 for (slot, letter) in state.slots.iter_mut().zip(word.chars()) {
                     *slot = Phase::from_letter(letter).ok_or_else(wrong)?;
                 }
             }
             ("queue", None) => state.queue = word.parse()?,
+            ("orphans", None) => match word.parse::<usize>()? {
+                tag if state.slots.get(tag) == Some(&Phase::Waiting) => abandoned |= 1 << tag,
+                _ => return Err(wrong().into()),
+            },
             (_, Some((at, number))) => {
                 let (at, number): (usize, u64) = (at.parse()?, number.parse()?);
                 match section {
@@ -40,7 +44,7 @@ fn state(text: &str) -> Outcome<State> {
             _ => return Err(wrong().into()),
         }
     }
-    state.status = State::status_of(&state.slots);
+    state.status = State::status_of(&state.slots, abandoned);
     Ok(state)
 }
 
@@ -108,17 +112,27 @@ mod tests {
         let wanted = {
             let mut state = State::fresh();
             state.slots[1] = Phase::Waiting;
-            state.status = State::status_of(&state.slots);
+            state.slots[2] = Phase::Waiting;
+            state.status = State::status_of(&state.slots, 1 << 2);
             state.queue = 2;
             state.holds[3] = 4;
             state.outside[3] = 1;
             state.handles[63] = Some(3);
             state
         };
-        let text = "slots vw queue 2 holds 3:4 outside 3:1 handles 63:3";
+        let text = "slots vww orphans 2 queue 2 holds 3:4 outside 3:1 handles 63:3";
         assert_eq!(state(text).unwrap(), wanted);
         assert_eq!(state("queue 0").unwrap(), State::fresh());
-        for wrong in ["", "slots x", "3:4", "holds 64:1", "holds 3", "queue x"] {
+        for wrong in [
+            "",
+            "slots x",
+            "3:4",
+            "holds 64:1",
+            "holds 3",
+            "queue x",
+            "slots vw orphans 0",
+            "orphans 64",
+        ] {
             assert!(state(wrong).is_err(), "{wrong}");
         }
     }

@@ -146,6 +146,8 @@ pub enum Event {
         form: Form,
         reply: Reply,
     },
+    /// The status words as they are: a question that leaves the state alone, and no event of a run.
+    Status,
 }
 
 fn form(f: &mut Fields) -> Result<Form, String> {
@@ -286,6 +288,7 @@ impl Event {
                 form: form(f)?,
                 reply: handed_over(f)?,
             },
+            "status" => Event::Status,
             other => return Err(format!("unknown event `{other}`")),
         };
         f.end()?;
@@ -319,6 +322,7 @@ impl Event {
             Event::Fdwrite { .. } => "fdwrite",
             Event::Fdread { .. } => "fdread",
             Event::Front { .. } => "front",
+            Event::Status => "status",
         }
     }
 
@@ -337,7 +341,7 @@ impl Event {
 
     /// Whether it is an event of a run, which has a record and may change the state.
     pub fn is_of_a_run(&self) -> bool {
-        !matches!(self, Event::Front { .. })
+        !matches!(self, Event::Front { .. } | Event::Status)
     }
 
     /// The fields of its line in order, each with the name that docs/JSON.md lists.
@@ -458,6 +462,7 @@ impl Event {
             Event::Front { form, reply } => {
                 vec![("form", Word(form.name())), ("reply", Value::Reply(reply))]
             }
+            Event::Status => Vec::new(),
         }
     }
 }

@@ -13,8 +13,8 @@ pub enum NoPlace {
     List(usize),
     /// A write of 2^32 bytes or more, and how many it has.
     Bytes(usize),
-    /// The line `front`, which is no event of a run.
-    Front,
+    /// A line that is no event of a run, or its answer: the word that it begins with.
+    Question(&'static str),
     /// The answer `skip`, which a run never gives.
     Skip,
     /// Status words that are not those of the slots: the slots' own states are not written.
@@ -28,7 +28,9 @@ impl Display for NoPlace {
         match self {
             NoPlace::List(len) => write!(f, "a list of {len} words, more than 255"),
             NoPlace::Bytes(len) => write!(f, "a write of {len} bytes, 2^32 or more"),
-            NoPlace::Front => write!(f, "the line `front`, which is no event of a run"),
+            NoPlace::Question(name) => {
+                write!(f, "the line `{name}`, which is no event of a run")
+            }
             NoPlace::Skip => write!(f, "the answer `skip`"),
             NoPlace::Status => write!(f, "status words that are not those of the slots"),
             NoPlace::Handle(h) => write!(f, "handle {h} holds description 2^64 - 1"),
@@ -214,7 +216,7 @@ impl Event {
                 words: vec![call.number, *len, call.flags, call.pid],
                 ..of_fd_call(21, call)
             },
-            Event::Front { .. } => return Err(NoPlace::Front),
+            Event::Front { .. } | Event::Status => return Err(NoPlace::Question(self.name())),
         };
         record.encode()
     }
@@ -245,6 +247,7 @@ impl Line {
                 words.extend(list);
                 words
             }
+            Answer::Status(_) => return Err(NoPlace::Question(Event::Status.name())),
             Answer::Skip => return Err(NoPlace::Skip),
         };
         words.push(3 * self.effects.len() as u64);
@@ -262,7 +265,7 @@ impl Line {
 impl State {
     /// What a run writes after its last event.
     pub fn encode(&self) -> Result<Vec<u8>, NoPlace> {
-        if self.status != State::status_of(&self.slots) {
+        if !self.has_its_status() {
             return Err(NoPlace::Status);
         }
         let mut words = vec![self.queue];
@@ -411,21 +414,22 @@ mod tests {
     #[test]
     fn the_state() {
         let fresh = State::fresh().encode().unwrap();
-        assert_eq!(fresh, [0; 1608]);
+        assert_eq!(fresh, [0; 1624]);
         let mut state = State::fresh();
         state.slots[0] = Phase::Responded;
         state.slots[1] = Phase::Waiting;
         state.slots[2] = Phase::Placeholder;
         state.slots[9] = Phase::Placeholder;
+        state.slots[10] = Phase::Waiting;
         state.slots[63] = Phase::Fmap;
-        state.status = State::status_of(&state.slots);
+        state.status = State::status_of(&state.slots, 1 << 10);
         state.queue = 128;
         state.holds[0] = 65_535;
         state.outside[63] = 2;
         state.handles[0] = Some(0);
         state.handles[63] = Some(63);
         let wanted = "80 7*00 ffff 6*00 504*00 504*00 02 7*00 01 7*00 496*00 40 7*00
-                      0402 6*00 02 7*00 02 7*00 01 7*00 01 7*00 01 7*00 7*00 80 01 7*00";
+                      0402 6*00 02 7*00 02 7*00 01 7*00 01 7*00 01 7*00 7*00 80 01 7*00 0004 6*00 01 7*00";
         assert_eq!(hex(&state.encode().unwrap()), bytes(wanted));
     }
 
@@ -441,9 +445,13 @@ mod tests {
             list: vec![0; 300],
         };
         assert_eq!(event.encode(), Err(NoPlace::List(300)));
-        event = Event::parse("front fdread many 0").unwrap();
-        assert_eq!(event.encode(), Err(NoPlace::Front));
-        assert!(!event.is_of_a_run());
+        for (line, name) in [("front fdread many 0", "front"), ("status", "status")] {
+            event = Event::parse(line).unwrap();
+            assert_eq!(event.encode(), Err(NoPlace::Question(name)));
+            assert!(!event.is_of_a_run());
+        }
+        let words = Line::answer(Answer::Status(State::fresh().status));
+        assert_eq!(words.encode(), Err(NoPlace::Question("status")));
         assert_eq!(Line::answer(Answer::Skip).encode(), Err(NoPlace::Skip));
         let mut state = State::fresh();
         state.handles[5] = Some(u64::MAX);

@@ -18,4 +18,4 @@ pub use lines::{SourceLine, source_lines};
 pub use output::{Answer, Effect, Line, OutputLine, Reply};
 pub use printed::{print_all, print_error, print_or_end};
 pub use script::{Mistake, Script};
-pub use state::{Phase, State};
+pub use state::{Phase, State, StatusWords};

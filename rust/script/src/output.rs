@@ -3,7 +3,7 @@
 use std::fmt::{self, Display, Formatter};
 
 use crate::fields::{Fields, hex};
-use crate::state::State;
+use crate::state::{State, StatusWords, print_status, status_words};
 
 /// A reply handed over by a wake.
 #[derive(Clone, Debug, PartialEq, Eq)]
@@ -25,6 +25,8 @@ pub enum Answer {
     Wait,
     Blocked,
     Reply(Reply),
+    /// To the line `status`.
+    Status(StatusWords),
     Skip,
 }
 
@@ -80,6 +82,7 @@ impl Display for Answer {
             Answer::Wait => write!(f, "wait"),
             Answer::Blocked => write!(f, "blocked"),
             Answer::Reply(reply) => write!(f, "reply {reply}"),
+            Answer::Status(words) => print_status(f, words),
             Answer::Skip => write!(f, "skip"),
         }
     }
@@ -144,6 +147,7 @@ impl Answer {
             "blocked" => Answer::Blocked,
             "skip" => Answer::Skip,
             "reply" => Answer::Reply(Reply::parse(f)?),
+            "status" => Answer::Status(status_words(f)?),
             other => return Err(format!("unknown answer `{other}`")),
         };
         f.end()?;
@@ -214,6 +218,7 @@ mod tests {
             "reply fd 63",
             "reply many 0",
             "reply many 3 1 2 1",
+            "status 4 1 2 1 1 1 9223372036854775808 1 24 2",
             "ok 16 ; E 1 100 0 ; E 2 5 1 ; E 3 7 0",
             "ok 3 ; B 00ff10",
             "ok 3 ; E 1 2 3 ; B 00ff10",
@@ -243,6 +248,9 @@ mod tests {
             ),
             ("reply regular ok 1 2 2", "field N: 2 is not 0 or 1"),
             ("reply regular may 1 2 2", "unknown result `may`"),
+            ("status 1 1 2 1 4 1 8 1", "field WORD is missing"),
+            ("status 1 1 2 1 4 1 8 1 16", "field ONES is missing"),
+            ("status 1 1 2 1 4 1 8 1 16 1 0", "spare field `0`"),
         ] {
             assert_eq!(Line::parse(text).unwrap_err(), what);
         }

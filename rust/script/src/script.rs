@@ -132,6 +132,7 @@ front fdread regular err 5 255 1
 front fdread fd 3
 front fdwrite many 0
 front fdread many 16 0 1 2 3 4 5 6 7 8 9 10 11 12 13 14 15
+status
 ";
 
     fn mistake(text: &str) -> String {
@@ -142,7 +143,7 @@ front fdread many 16 0 1 2 3 4 5 6 7 8 9 10 11 12 13 14 15
     fn each_event_prints_as_it_reads() {
         let script = Script::parse(EACH).unwrap();
         assert_eq!(script.to_string(), EACH);
-        assert_eq!(script.events.len(), 32);
+        assert_eq!(script.events.len(), 33);
     }
 
     #[test]
@@ -223,7 +224,7 @@ front fdread many 16 0 1 2 3 4 5 6 7 8 9 10 11 12 13 14 15
     }
 
     #[test]
-    fn mistakes_in_descriptors_and_fronts() {
+    fn mistakes_in_descriptors_fronts_and_status() {
         for (line, what) in [
             ("fdwrite 1 2 3", "field NM is missing"),
             ("fdwrite 1 2 3 2 4", "field M2 is missing"),
@@ -252,6 +253,7 @@ front fdread many 16 0 1 2 3 4 5 6 7 8 9 10 11 12 13 14 15
             ("front fdwrite regular no 1 0 0", "unknown result `no`"),
             ("front fdwrite regular ok 1 0", "field N is missing"),
             ("front fdwrite regular ok 1 0 2", "field N: 2 is not 0 or 1"),
+            ("status 1", "spare field `1`"),
         ] {
             assert_eq!(
                 mistake(&format!("scheme 1\n{line}")),

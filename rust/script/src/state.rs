@@ -41,9 +41,11 @@ pub struct State {
     pub outside: [u64; 64],
     /// The description in each handle.
     pub handles: [Option<u64>; 64],
-    /// Placeholder, Waiting, Responded and Fmap: one bit a slot, and the count of ones.
-    pub status: [(u64, u64); 4],
+    pub status: StatusWords,
 }
+
+/// Placeholder, outstanding, Responded, Fmap and orphans: one bit a slot, and the count of ones.
+pub type StatusWords = [(u64, u64); 5];
 
 impl State {
     /// Every slot vacant, all else empty.
@@ -54,26 +56,32 @@ impl State {
             holds: [0; 64],
             outside: [0; 64],
             handles: [None; 64],
-            status: [(0, 0); 4],
+            status: StatusWords::default(),
         }
     }
 
-    /// The status words that go with the slots.
-    pub fn status_of(slots: &[Phase; 64]) -> [(u64, u64); 4] {
+    /// The status words that go with the slots. Bit N of `abandoned` is set where the caller of slot N has ended or its
+    /// call has returned: where it waits, nobody will collect its reply.
+    pub fn status_of(slots: &[Phase; 64], abandoned: u64) -> StatusWords {
         let of = |phase| {
-            let word = slots
-                .iter()
-                .enumerate()
-                .filter(|(_, p)| **p == phase)
-                .fold(0u64, |word, (i, _)| word | 1 << i);
-            (word, u64::from(word.count_ones()))
+            let tags = (0..64).filter(|tag| slots[*tag] == phase);
+            tags.fold(0u64, |word, tag| word | 1 << tag)
         };
-        [
+        let waiting = of(Phase::Waiting);
+        let words = [
             of(Phase::Placeholder),
-            of(Phase::Waiting),
+            waiting & !abandoned,
             of(Phase::Responded),
             of(Phase::Fmap),
-        ]
+            waiting & abandoned,
+        ];
+        words.map(|word| (word, u64::from(word.count_ones())))
+    }
+
+    /// Are its status words some that go with its slots?
+    pub fn has_its_status(&self) -> bool {
+        let [.., (orphans, _)] = self.status;
+        self.status == State::status_of(&self.slots, orphans)
     }
 
     pub fn parse(text: &str) -> Result<State, String> {
@@ -105,13 +113,28 @@ impl State {
             };
         }
         f.expect("status")?;
-        for (word, count) in &mut state.status {
-            *word = f.u64("WORD")?;
-            *count = f.u64("ONES")?;
-        }
+        state.status = status_words(f)?;
         f.end()?;
         Ok(state)
     }
+}
+
+/// The ten numbers behind the word `status`.
+pub(crate) fn status_words(f: &mut Fields) -> Result<StatusWords, String> {
+    let mut words = StatusWords::default();
+    for (word, count) in &mut words {
+        *word = f.u64("WORD")?;
+        *count = f.u64("ONES")?;
+    }
+    Ok(words)
+}
+
+/// The word `status` and the ten numbers.
+pub(crate) fn print_status(f: &mut Formatter, words: &StatusWords) -> fmt::Result {
+    write!(f, "status")?;
+    words
+        .iter()
+        .try_for_each(|(word, ones)| write!(f, " {word} {ones}"))
 }
 
 impl Display for State {
@@ -128,10 +151,8 @@ impl Display for State {
                 None => write!(f, " -")?,
             }
         }
-        write!(f, " status")?;
-        self.status
-            .iter()
-            .try_for_each(|(word, ones)| write!(f, " {word} {ones}"))
+        write!(f, " ")?;
+        print_status(f, &self.status)
     }
 }
 
@@ -145,17 +166,50 @@ mod tests {
         state.slots[0] = Phase::Responded;
         state.slots[1] = Phase::Waiting;
         state.slots[2] = Phase::Placeholder;
+        state.slots[3] = Phase::Waiting;
         state.slots[63] = Phase::Fmap;
         state.queue = 128;
         state.holds[3] = 65535;
         state.outside[3] = 2;
         state.handles[63] = Some(3);
-        state.status = State::status_of(&state.slots);
+        state.status = State::status_of(&state.slots, 1 << 3);
         let text = state.to_string();
-        assert!(text.starts_with("state slots rwpv"));
+        assert!(text.starts_with("state slots rwpwv"));
         assert!(text.contains("vf queue 128 holds 0 0 0 65535 0"));
-        assert!(text.ends_with(" - 3 status 4 1 2 1 1 1 9223372036854775808 1"));
+        assert!(text.ends_with(" - 3 status 4 1 2 1 1 1 9223372036854775808 1 8 1"));
         assert_eq!(State::parse(&text), Ok(state));
+    }
+
+    /// The Waiting slots are parted by `abandoned`; no other slot is.
+    #[test]
+    fn status_words_go_with_the_slots() {
+        let mut state = State::fresh();
+        for (tag, letter) in "pwwrfvww".chars().enumerate() {
+            state.slots[tag] = Phase::from_letter(letter).unwrap();
+        }
+        let words = |abandoned| State::status_of(&state.slots, abandoned).map(|(word, _)| word);
+        assert_eq!(words(0), [1, 0b1100_0110, 8, 16, 0]);
+        assert_eq!(words(u64::MAX), [1, 0, 8, 16, 0b1100_0110]);
+        assert_eq!(words(0b1011_1011), [1, 0b0100_0100, 8, 16, 0b1000_0010]);
+
+        let mut state = state.clone();
+        assert!(!state.has_its_status());
+        for abandoned in [0, 0b1011_1011, u64::MAX] {
+            state.status = State::status_of(&state.slots, abandoned);
+            assert!(state.has_its_status());
+        }
+        let right = state.status;
+        for (of, wrong) in [
+            // a bit too many, one too few, an orphan that does not wait, a count of another word
+            (1, (2, 1)),
+            (4, (0b1000_0110, 3)),
+            (4, (0b1100_0111, 5)),
+            (4, (0b1100_0110, 1)),
+        ] {
+            state.status[of] = wrong;
+            assert!(!state.has_its_status(), "{wrong:?}");
+            state.status = right;
+        }
     }
 
     #[test]

@@ -7,7 +7,7 @@ use std::collections::VecDeque;
 
 use tilgurap::{
     Answer, Call, Caller, Completion, Driver, Effect, Errno, FileNumber, Identity, Killed, Layer,
-    Opcode, Pid, Refusal, Reply, SchemeNumber, Served, Span, Submitted, Tag, Wake,
+    Opcode, Pid, Refusal, Reply, SchemeNumber, Served, Span, StatusWord, Submitted, Tag, Wake,
 };
 
 /// The driver's files.
@@ -190,9 +190,11 @@ impl Scheduler {
 
     fn show_status(&mut self) {
         let status = self.layer.status();
-        let tags: Vec<u64> = status.waiting.tags().map(|tag| tag.0).collect();
-        let count = status.waiting.count;
-        (self.plant.story).push(format!("status:    waiting calls: {count}, tags {tags:?}"));
+        let tags = |word: StatusWord| word.tags().map(|tag| tag.0).collect::<Vec<u64>>();
+        let (outstanding, orphans) = (tags(status.outstanding), tags(status.orphans));
+        (self.plant.story).push(format!(
+            "status:    outstanding calls: tags {outstanding:?}, orphans: tags {orphans:?}"
+        ));
     }
 }
 

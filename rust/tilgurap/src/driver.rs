@@ -12,7 +12,7 @@ use crate::layer::{Layer, Written};
 use crate::limits::HANDLES;
 use crate::opcode::Opcode;
 use crate::refusal::Refusal;
-use crate::taken::{Call, Cancel, MapRequest, Outstanding, Serial, Supply, Taken};
+use crate::taken::{Call, Cancel, MapRequest, Serial, Serials, Supply, Taken};
 
 /// What a driver gives back.
 #[derive(Debug, PartialEq, Eq)]
@@ -338,8 +338,8 @@ impl Layer {
         self.put_answer(answer.into(), served);
         let first = served.refused.len();
         while let Some(refused) = served.refused.get_mut(looked_at) {
-            let outstanding = &self.outstanding;
-            let own = |call: &mut Call| is_own(outstanding, call.tag(), call.serial);
+            let taken = &self.taken;
+            let own = |call: &mut Call| is_own(taken, call.tag(), call.serial);
             if let Some(call) = refused.call.take_if(own) {
                 // asked once: a reply with an error is not refused
                 let again = if looked_at < first {
@@ -381,7 +381,7 @@ impl Layer {
     /// waits gets this error. A driver that takes its place begins with an empty queue and with the map requests that
     /// were unread; what the one before still has to say of its calls is refused, an event is not.
     pub fn driver_gone(&mut self, errno: Errno) -> Gone {
-        self.outstanding = Outstanding::none();
+        self.taken = Serials::none();
         let mut unread_maps = Vec::new();
         while let Some(taken) = self.next_entry() {
             if let Taken::MapRequest(request) = taken {
@@ -389,7 +389,7 @@ impl Layer {
             }
         }
         let mut effects = Vec::new();
-        for tag in self.status().waiting.tags() {
+        for tag in self.status().waiting() {
             let entry = Cqe::new(0, tag, mux(Err(errno)));
             let written = self.write(&entry.to_bytes());
             debug_assert_eq!(written.answer, Ok(Cqe::BYTES));
@@ -409,9 +409,9 @@ impl Layer {
         }
     }
 
-    /// What goes with a call or map request that is not outstanding here is not put to the layer.
+    /// What goes with a call or map request that was not taken here, or is done with, is not put to the layer.
     fn own(&self, tag: Tag, serial: Serial) -> Result<(), Refusal> {
-        match is_own(&self.outstanding, tag, serial) {
+        match is_own(&self.taken, tag, serial) {
             true => Ok(()),
             false => Err(Refusal::Einval),
         }
@@ -472,15 +472,14 @@ impl Layer {
         let Written { answer, effects } = self.write(&entry.to_bytes());
         if let Err(why) = answer {
             // by the status words, which take no copy of the state
-            let waiting = self.status().waiting;
-            let waits = |call: &Call| waiting.tags().any(|tag| tag == call.tag());
+            let waits = |call: &Call| self.status().waiting().any(|tag| tag == call.tag());
             refuse(why, call.filter(waits));
         }
         served.effects.extend(effects);
     }
 }
 
-/// May something that goes with this call be put to the layer where these are outstanding?
-fn is_own(outstanding: &Outstanding, tag: Tag, serial: Serial) -> bool {
-    serial == Serial::ELSEWHERE || outstanding.at(tag) == serial
+/// May something that goes with this call be put to the layer where these were taken?
+fn is_own(taken: &Serials, tag: Tag, serial: Serial) -> bool {
+    serial == Serial::ELSEWHERE || taken.at(tag) == serial
 }

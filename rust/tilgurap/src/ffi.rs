@@ -209,7 +209,7 @@ unsafe extern "C" {
     pub fn tilgurap_fresh(scheme: u64) -> State;
     pub fn tilgurap_plain(words: *const Words, queue: *mut QueueWords) -> State;
     pub fn tilgurap_packed(s: State, queue: *const QueueWords, words: *mut Words);
-    pub fn tilgurap_status(words: *const Words, out: *mut [u64; 8]);
+    pub fn tilgurap_status(words: *const Words, out: *mut [u64; 10]);
     pub fn tilgurap_open(words: *mut Words, description: u64) -> StepWords;
     pub fn tilgurap_copy(words: *mut Words, description: u64) -> StepWords;
     pub fn tilgurap_drop(words: *mut Words, description: u64) -> StepWords;

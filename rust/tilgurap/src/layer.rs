@@ -18,7 +18,7 @@ use crate::refusal::{Refusal, refusal};
 use crate::reply::Reply;
 use crate::status::{Holds, Slot, SlotState, Status, StatusWord};
 use crate::steps::{FdCall, GenericCall, Steps};
-use crate::taken::{Outstanding, Serial, Taken, Wants};
+use crate::taken::{Serial, Serials, Taken, Wants};
 
 const NONBLOCK: u32 = 0x0004_0000;
 
@@ -128,7 +128,7 @@ pub struct Written {
 /// ```
 pub struct Layer {
     pub(crate) steps: Steps,
-    pub(crate) outstanding: Outstanding,
+    pub(crate) taken: Serials,
 }
 
 /// A copy has the state, with the unread entries, and none of the calls that were taken: they are the first one's to answer. It is for
@@ -137,7 +137,7 @@ impl Clone for Layer {
     fn clone(&self) -> Layer {
         Layer {
             steps: self.steps.clone(),
-            outstanding: Outstanding::none(),
+            taken: Serials::none(),
         }
     }
 }
@@ -234,7 +234,7 @@ impl Layer {
     pub fn new(scheme: SchemeNumber) -> Layer {
         Layer {
             steps: Steps::new(scheme.0),
-            outstanding: Outstanding::none(),
+            taken: Serials::none(),
         }
     }
 
@@ -242,7 +242,7 @@ impl Layer {
     fn submitted(&mut self, step: ffi::StepWords) -> Result<Submitted, Refusal> {
         let (tag, effect) = queued(step)?;
         let tag = Tag(tag);
-        self.outstanding.set(tag, Serial::NONE);
+        self.taken.set(tag, Serial::NONE);
         Ok(Submitted { tag, effect })
     }
 
@@ -622,11 +622,11 @@ impl Layer {
         let serial = match entry.wants() {
             Wants::Reply | Wants::Supply => {
                 let serial = Serial::fresh();
-                self.outstanding.set(entry.tag, serial);
+                self.taken.set(entry.tag, serial);
                 serial
             }
             // a Cancel is of the call that has its tag now
-            Wants::Nothing => self.outstanding.at(entry.tag),
+            Wants::Nothing => self.taken.at(entry.tag),
         };
         Some(Taken::new(entry, serial))
     }
@@ -733,7 +733,7 @@ impl Layer {
         SchemeNumber(self.steps.state().driver.scheme)
     }
 
-    /// The four status words.
+    /// The five status words.
     ///
     /// ```
     /// use tilgurap::{Caller, Layer, SchemeNumber, SlotState, Tag};
@@ -747,12 +747,13 @@ impl Layer {
     /// ```
     pub fn status(&self) -> Status {
         let word = |(bits, count)| StatusWord { bits, count };
-        let [placeholder, waiting, responded, fmap] = self.steps.status().map(word);
+        let [placeholder, outstanding, responded, fmap, orphans] = self.steps.status().map(word);
         Status {
             placeholder,
-            waiting,
+            outstanding,
             responded,
             fmap,
+            orphans,
         }
     }
 

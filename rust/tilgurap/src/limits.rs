@@ -1,7 +1,7 @@
 //! The layer's limits, as the C header has them.
 
 /// The number of the interface that this crate is written for. The library answers its own.
-pub const ABI: u64 = 2;
+pub const ABI: u64 = 3;
 /// Slots: calls and map requests under way at a time.
 pub const SLOTS: usize = 64;
 /// Entries that a driver's queue holds.

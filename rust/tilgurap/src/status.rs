@@ -83,7 +83,7 @@ impl Slot {
     };
 }
 
-/// The slots in one state: bit N of the word stands for the slot with tag N.
+/// The slots that count in one status word: bit N of the word stands for the slot with tag N.
 #[derive(Clone, Copy, Debug, PartialEq, Eq)]
 pub struct StatusWord {
     /// One bit a slot.
@@ -100,18 +100,33 @@ impl StatusWord {
     }
 }
 
-/// The four status words. A slot in none of them is vacant; outstanding calls are the waiting ones.
+/// The five status words. No slot is in two of them, and one in none of them is vacant.
 #[derive(Clone, Copy, Debug, PartialEq, Eq)]
 #[non_exhaustive]
 pub struct Status {
     /// Given out, not submitted.
     pub placeholder: StatusWord,
-    /// Waiting for a reply.
-    pub waiting: StatusWord,
+    /// Waiting for a reply that somebody will fetch: the caller has not ended and the call has not returned.
+    pub outstanding: StatusWord,
     /// With a reply to be fetched.
     pub responded: StatusWord,
     /// Map requests.
     pub fmap: StatusWord,
+    /// Waiting for a reply that nobody will fetch any more: the caller has ended, or was killed and its call has
+    /// returned. The slot stays taken until the driver has replied.
+    pub orphans: StatusWord,
+}
+
+impl Status {
+    /// The tags of the calls that wait for their driver's reply ([`SlotState::Waiting`]), outstanding ones and orphans, rising: a
+    /// driver has to reply to both.
+    pub fn waiting(&self) -> impl Iterator<Item = Tag> {
+        let both = StatusWord {
+            bits: self.outstanding.bits | self.orphans.bits,
+            count: self.outstanding.count + self.orphans.count,
+        };
+        both.tags()
+    }
 }
 
 /// The holds of one description.

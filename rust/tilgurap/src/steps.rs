@@ -283,9 +283,9 @@ impl Steps {
         unsafe { ffi::tilgurap_provide_mmap(words, tag, offset, base, count) }
     }
 
-    /// Placeholder, Waiting, Responded and Fmap: one bit a slot, and the count of ones.
-    pub fn status(&self) -> [(u64, u64); 4] {
-        let mut out = [0; 8];
+    /// Placeholder, outstanding, Responded, Fmap and orphans: one bit a slot, and the count of ones.
+    pub fn status(&self) -> [(u64, u64); 5] {
+        let mut out = [0; 10];
         // SAFETY: the words are the layer's own, the others are there to be written.
         unsafe { ffi::tilgurap_status(&raw const *self.words, &raw mut out) };
         core::array::from_fn(|of| (out[2 * of], out[2 * of + 1]))

@@ -28,11 +28,11 @@ impl Serial {
 }
 
 /// The call or map request that a driver has taken at each slot, until the slot is another's.
-pub(crate) struct Outstanding([Serial; SLOTS]);
+pub(crate) struct Serials([Serial; SLOTS]);
 
-impl Outstanding {
-    pub fn none() -> Outstanding {
-        Outstanding([Serial::NONE; SLOTS])
+impl Serials {
+    pub fn none() -> Serials {
+        Serials([Serial::NONE; SLOTS])
     }
 
     pub fn at(&self, tag: Tag) -> Serial {

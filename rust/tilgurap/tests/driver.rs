@@ -618,6 +618,50 @@ fn a_driver_that_panics() {
     assert_eq!(layer.slot(bad).state, SlotState::Waiting);
 }
 
+/// Nobody will fetch their replies, and still a driver has to reply to them.
+#[test]
+fn orphans_are_replied_to() {
+    let mut layer = layer();
+    let killed = call(&mut layer, 100, Opcode::Write, DOSER);
+    let ended = call(&mut layer, 101, Opcode::Write, DOSER);
+    let refused = call(&mut layer, 102, Opcode::Write, DOSER);
+    let other = call(&mut layer, 103, Opcode::Write, DOSER);
+    let all = [killed, ended, refused, other];
+    let calls = all.map(|_| match layer.next_entry() {
+        Some(Taken::Call(call)) => call,
+        other => panic!("{other:?}"),
+    });
+    assert_eq!(
+        layer.wake_killed(killed, Caller(100), Span::NONE),
+        Ok(Killed::Returned)
+    );
+    layer.ended(Caller(101));
+    layer.ended(Caller(102));
+    let status = layer.status();
+    assert_eq!(status.orphans.tags().collect::<Vec<_>>(), all[..3]);
+    assert_eq!(status.outstanding.tags().collect::<Vec<_>>(), all[3..]);
+    assert_eq!((status.orphans.count, status.outstanding.count), (3, 1));
+    assert_eq!(status.waiting().collect::<Vec<_>>(), all);
+
+    // an orphan's refused entry comes back with its call: its driver owes it another
+    let [_, _, call, _] = calls;
+    let mut served = layer.answer(call.descriptor(Handle(5)));
+    let back = served.refused.pop().and_then(|refused| refused.call);
+    assert_eq!(back.map(|call| call.tag()), Some(refused));
+
+    // and where the driver is gone, each gets its error: the slots of ended callers are vacant
+    let gone = layer.driver_gone(Errno::EIO);
+    let wakes = [(100, killed), (103, other)].map(|(caller, tag)| Effect::Wake {
+        caller: Caller(caller),
+        tag,
+    });
+    assert_eq!(gone.effects, wakes);
+    let status = layer.status();
+    assert_eq!((status.orphans.bits, status.outstanding.bits), (0, 0));
+    assert_eq!(status.responded.tags().collect::<Vec<_>>(), [killed, other]);
+    assert_eq!(layer.slot(ended).state, SlotState::Vacant);
+}
+
 #[test]
 fn words_that_read_as_errors() {
     let (mut layer, mut plant) = (layer(), Plant::default());

@@ -210,7 +210,7 @@ fn timed(layer: &mut Layer, lent: &mut Lent, event: &Event) -> Duration {
         } => clocked!(layer.supply(*tag, *offset, *base, *count)),
         Event::Fdwrite { call, list } => clocked!(layer.fdwrite(call, list)),
         Event::Fdread { call, len } => clocked!(layer.fdread(call, *len)),
-        Event::Front { .. } => panic!("{event} is no event of a run"),
+        Event::Front { .. } | Event::Status => panic!("{event} is no event of a run"),
     }
 }
 

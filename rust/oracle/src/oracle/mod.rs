@@ -4,7 +4,7 @@ use std::array;
 use std::sync::{Arc, Weak};
 use std::time::Duration;
 
-use script::{Answer, Event, Line, OutputLine, Phase, Script, State};
+use script::{Answer, Event, Line, OutputLine, Phase, Script, State, StatusWords};
 use syscall::GlobalSchemes;
 
 use crate::context::file::{
@@ -185,6 +185,7 @@ impl Oracle {
             Event::Fdwrite { call, list } => self.fdwrite(call, list),
             Event::Fdread { call, len } => self.fdread(call, *len),
             Event::Front { form, reply } => reading::front(*form, reply),
+            Event::Status => Answer::Status(self.status(&self.slots())),
         };
         Line {
             answer,
@@ -202,7 +203,7 @@ impl Oracle {
 
     /// The state as the kernel's structures hold it.
     pub fn state(&self) -> State {
-        let slots = array::from_fn(|tag| self.inner.probe_phase(tag));
+        let slots = self.slots();
         let files = self.driver.read(clean().token()).files.clone();
         let mut state = State::fresh();
         state.slots = slots;
@@ -213,8 +214,28 @@ impl Oracle {
             let file = files.read(clean().token()).get_file(h.into()).cloned();
             file.map(|file| number(&file.description))
         });
-        state.status = State::status_of(&slots);
+        state.status = self.status(&slots);
         state
+    }
+
+    fn slots(&self) -> [Phase; 64] {
+        array::from_fn(|tag| self.inner.probe_phase(tag))
+    }
+
+    /// The status words. The kernel has no mark of a call that has returned, and of its caller a weak reference: both are
+    /// known here, where each slot was given out.
+    fn status(&self, slots: &[Phase; 64]) -> StatusWords {
+        let is_abandoned = |tag: &usize| {
+            let Some(given) = &self.given[*tag] else {
+                return false;
+            };
+            if let Some(gone) = self.inner.probe_caller_gone(*tag) {
+                assert_eq!(given.ended, gone, "tag {tag}: the kernel's own caller");
+            }
+            given.ended || given.returned
+        };
+        let abandoned = (0..slots.len()).filter(is_abandoned);
+        State::status_of(slots, abandoned.fold(0, |word, tag| word | 1 << tag))
     }
 
     fn phase(&self, tag: u64) -> Phase {

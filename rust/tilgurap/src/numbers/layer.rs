@@ -2,7 +2,7 @@
 
 use core::array;
 
-use script::{Answer, Effect, Payload, Phase, Reply, State};
+use script::{Answer, Effect, Payload, Phase, Reply, State, StatusWords};
 
 use crate::ffi;
 use crate::ids::SchemeNumber;
@@ -254,6 +254,11 @@ impl Layer {
         self.layer.steps.fdread(&fd_call(call), len).into()
     }
 
+    /// `status`
+    pub fn status(&self) -> StatusWords {
+        self.layer.steps.status()
+    }
+
     /// The state as a run's last line has it.
     pub fn state(&self) -> State {
         let state = self.layer.steps.state();
@@ -270,7 +275,7 @@ impl Layer {
             holds: state.table.holds.holds,
             outside: state.table.holds.outside,
             handles: (state.driver.handles.at).map(|held| held.checked_sub(1)),
-            status: self.layer.steps.status(),
+            status: self.status(),
         }
     }
 

@@ -106,6 +106,7 @@ impl Layer {
                 Ok(value) => Answer::Ok(value),
                 Err(errno) => Answer::No(errno),
             }),
+            Event::Status => Line::answer(Answer::Status(self.status())),
         }
     }
 

@@ -9,6 +9,7 @@ const FENCE: usize = 64;
 
 const WORDS: usize = 2_060;
 const QUEUE_WORDS: usize = 1_024;
+const STATUS_WORDS: usize = 10;
 /// Room for the longest that is drawn.
 const LIST: usize = 24;
 const BYTES: usize = 80;
@@ -93,7 +94,7 @@ impl Lent {
             bytes: Fenced::bytes(BYTES),
             effects: Fenced::words(EFFECT_WORDS),
             out: Fenced::bytes(OUT),
-            status: Fenced::words(8),
+            status: Fenced::words(STATUS_WORDS),
             queue: Fenced::words(QUEUE_WORDS),
         }
     }
@@ -287,6 +288,7 @@ impl Lent {
                     .answer
                 }
                 Event::Front { .. } => unreachable!("it is lent no words"),
+                Event::Status => unreachable!("it changes no words"),
             }
         };
         let around = self.words.keeps_beyond(WORDS);
@@ -302,24 +304,32 @@ impl Lent {
     /// The words looked at as a status and as a struct, and stored again from that.
     pub fn look(&mut self) -> Result<(), String> {
         let (words, queue) = (self.lent(), self.queue.pointer().cast::<QueueWords>());
-        let status = self.status.pointer().cast::<[u64; 8]>();
+        let status = self.status.pointer().cast::<[u64; STATUS_WORDS]>();
         // SAFETY: the arrays are there, those of the queue and the status to be written.
         let (state, status) = unsafe {
             ffi::tilgurap_status(words, status);
             (ffi::tilgurap_plain(words, queue), *status)
         };
         so(self.words.keeps_beyond(0), "the words are only looked at")?;
-        so(self.status.keeps_beyond(8), "stored around the status")?;
+        so(
+            self.status.keeps_beyond(STATUS_WORDS),
+            "stored around the status",
+        )?;
         let around = self.queue.keeps_beyond(QUEUE_WORDS);
         so(around, "stored around the queue's words")?;
-        for (place, wanted) in (1..=4).enumerate() {
-            let slots = (0..64).filter(|tag| state.table.slots[*tag].state == wanted);
+        let is_abandoned = |slot: &ffi::Slot| slot.ended || slot.returned;
+        let tests: [&dyn Fn(&ffi::Slot) -> bool; STATUS_WORDS / 2] = [
+            &|slot| slot.state == 1,
+            &|slot| slot.state == 2 && !is_abandoned(slot),
+            &|slot| slot.state == 3,
+            &|slot| slot.state == 4,
+            &|slot| slot.state == 2 && is_abandoned(slot),
+        ];
+        for (told, passes) in status.chunks_exact(2).zip(tests) {
+            let slots = (0..64).filter(|tag| passes(&state.table.slots[*tag]));
             let word = slots.fold(0_u64, |word, tag| word | 1 << tag);
             let counted = [word, u64::from(word.count_ones())];
-            so(
-                status[2 * place..][..2] == counted,
-                "the status is not the slots'",
-            )?;
+            so(told == counted, "the status is not the slots'")?;
         }
 
         // SAFETY: the words are there to be written, the queue's to be read and then to be written.
@@ -338,7 +348,7 @@ impl Lent {
         let around = self.words.keeps_beyond(WORDS);
         so(around, "stored around the state's words")?;
         self.restore();
-        self.status.mend(8);
+        self.status.mend(STATUS_WORDS);
         self.queue.mend(QUEUE_WORDS);
         Ok(())
     }

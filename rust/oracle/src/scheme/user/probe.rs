@@ -120,6 +120,14 @@ impl UserInner {
         })
     }
 
+    /// Is the caller of a waiting call gone?
+    pub fn probe_caller_gone(&self, tag: usize) -> Option<bool> {
+        self.look(|states| match states.get(tag) {
+            Some(State::Waiting { context, .. }) => Some(context.strong_count() == 0),
+            _ => None,
+        })
+    }
+
     /// How many descriptions a waiting call's list has.
     pub fn probe_listed(&self, tag: usize) -> usize {
         self.look(|states| match states.get(tag) {
