@@ -272,8 +272,8 @@ class Json(unittest.TestCase):
                 self.replayed(path)
             # each kind of event, answer and effect was seen
             _, [*events, state] = self.objects("replay", "--json", str(every))
-            self.assertEqual(len({told["event"]["name"] for told in events}), 22)
-            self.assertEqual({told["answer"]["kind"] for told in events}, {"ok", "no", "wait", "blocked", "reply"})
+            self.assertEqual(len({told["event"]["name"] for told in events}), 23)
+            self.assertEqual({told["answer"]["kind"] for told in events}, {"ok", "no", "wait", "blocked", "reply", "status"})
             self.assertEqual({effect["kind"] for told in events for effect in told["effects"]}, set(EFFECTS))
             self.assertIn(4, [slot["span"]["count"] for slot in state["slots"]])
 
