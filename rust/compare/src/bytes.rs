@@ -7,11 +7,6 @@ use script::{Event, Line, State};
 
 use crate::beside::Taken;
 
-/// What docs/FORMAT.md asks of an output's length.
-const LAST: usize = 1_624;
-const EACH: usize = 192;
-const READ_MOST: u64 = 8_192;
-const WRITTEN_BYTE: usize = 27;
 const UNTOUCHED: u8 = 0x5a;
 /// How many damaged inputs are tried after a run.
 const DAMAGED: u32 = 12;
@@ -56,12 +51,7 @@ impl Records {
         self.places.push(self.events.len());
         self.events.extend(record);
         self.output.extend(told);
-        self.room += EACH
-            + match event {
-                Event::Read { len, .. } => (*len).min(READ_MOST) as usize,
-                Event::Write { bytes, .. } => WRITTEN_BYTE * bytes.len(),
-                _ => 0,
-            };
+        self.room += event.room();
         if let Event::Write { bytes, .. } = event {
             self.words = self.words.max(EFFECT_WORDS * (bytes.len() / ENTRY));
         }
@@ -74,13 +64,13 @@ impl Records {
         let wanted = [&self.output[..], &last[..]].concat();
         let mut fx = vec![0; self.words];
 
-        let mut short = vec![UNTOUCHED; LAST + self.room - 1];
+        let mut short = vec![UNTOUCHED; State::BYTES + self.room - 1];
         let end = tilgurap::numbers::run(scheme, &self.events, &mut short, &mut fx);
         if (end.number, end.written) != (204, 0) || short.iter().any(|b| *b != UNTOUCHED) {
             return Err(format!("  run with a byte too little room: {end:?}"));
         }
 
-        let mut out = vec![UNTOUCHED; LAST + self.room];
+        let mut out = vec![UNTOUCHED; State::BYTES + self.room];
         let end = tilgurap::numbers::run(scheme, &self.events, &mut out, &mut fx);
         let whole = (0, self.events.len() as u64, wanted.len() as u64);
         if (end.number, end.place, end.written) != whole {
@@ -126,7 +116,7 @@ impl Records {
         }
         let (events, place) = self.damaged(draw);
         let start = self.places[place];
-        let room = draw.one_of(&[0, LAST + self.room]);
+        let room = draw.one_of(&[0, State::BYTES + self.room]);
         let mut out = vec![UNTOUCHED; room];
         let lent = vec![u64::from(UNTOUCHED); self.words];
         let mut fx = lent.clone();

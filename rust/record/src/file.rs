@@ -9,24 +9,8 @@ const RECORDED_BYTES: usize = 65_536;
 const ROOM: usize = 262_144;
 const LENT_WORDS: usize = 8_192;
 
-/// What docs/FORMAT.md asks of an output: for the state, for each event, for a read at most, and
-/// for each byte of a write.
-const STATE_ROOM: usize = 1_608;
-const EVENT_ROOM: usize = 192;
-const READ_ROOM: u64 = 8_192;
-const WRITTEN_ROOM: usize = 27;
-
 const ENTRY: usize = 16;
 const EFFECT_WORDS: usize = 54;
-
-fn room(event: &Event) -> usize {
-    EVENT_ROOM
-        + match event {
-            Event::Read { len, .. } => (*len).min(READ_ROOM) as usize,
-            Event::Write { bytes, .. } => WRITTEN_ROOM * bytes.len(),
-            _ => 0,
-        }
-}
 
 /// A run's events, and what is recorded of them.
 pub struct Run {
@@ -44,7 +28,7 @@ impl Run {
             count: 0,
             events: Vec::new(),
             recorded: Vec::new(),
-            room: STATE_ROOM,
+            room: State::BYTES,
         }
     }
 
@@ -59,17 +43,17 @@ impl Run {
 
     /// Has the program room for one more event, whatever is answered?
     pub fn has_room(&self, event: &Event) -> bool {
-        let most = room(event);
+        let most = event.room();
         let record = event.encode().map_or(0, |record| record.len());
         self.events.len() + record <= EVENT_BYTES
-            && self.recorded.len() + most + STATE_ROOM <= RECORDED_BYTES
+            && self.recorded.len() + most + State::BYTES <= RECORDED_BYTES
             && self.room + most <= ROOM
     }
 
     pub fn add(&mut self, event: &Event, line: &Line) -> Result<(), NoPlace> {
         self.events.extend(event.encode()?);
         self.recorded.extend(line.encode()?);
-        self.room += room(event);
+        self.room += event.room();
         self.count += 1;
         Ok(())
     }
@@ -148,10 +132,10 @@ mod tests {
         let word = |at: usize| u64::from_le_bytes(bytes[at..at + 8].try_into().unwrap());
         assert_eq!(
             [word(0), word(8), word(16), word(24)],
-            [1, 7, 24, 32 + 1624]
+            [1, 7, 24, 32 + State::BYTES as u64]
         );
         assert_eq!(bytes[32..56], event.encode().unwrap());
-        assert_eq!(bytes.len(), 32 + 24 + 32 + 1624);
+        assert_eq!(bytes.len(), 32 + 24 + 32 + State::BYTES);
     }
 
     #[test]

@@ -40,6 +40,9 @@ impl Display for NoPlace {
 
 impl std::error::Error for NoPlace {}
 
+/// The bytes of a full queue: no read stores more.
+const QUEUE_BYTES: u64 = 8_192;
+
 /// The parts of a record that are not 0 or empty for every event.
 #[derive(Default)]
 struct Record<'a> {
@@ -220,6 +223,16 @@ impl Event {
         };
         record.encode()
     }
+
+    /// How many bytes a run's output needs for it.
+    pub fn room(&self) -> usize {
+        let more = match self {
+            Event::Read { len, .. } => (*len).min(QUEUE_BYTES) as usize,
+            Event::Write { bytes, .. } => 27 * bytes.len(),
+            _ => 0,
+        };
+        192 + more
+    }
 }
 
 impl Line {
@@ -263,6 +276,9 @@ impl Line {
 }
 
 impl State {
+    /// How many bytes a run's output needs for it.
+    pub const BYTES: usize = 1_624;
+
     /// What a run writes after its last event.
     pub fn encode(&self) -> Result<Vec<u8>, NoPlace> {
         if !self.has_its_status() {
@@ -415,6 +431,7 @@ mod tests {
     fn the_state() {
         let fresh = State::fresh().encode().unwrap();
         assert_eq!(fresh, [0; 1624]);
+        assert_eq!(fresh.len(), State::BYTES);
         let mut state = State::fresh();
         state.slots[0] = Phase::Responded;
         state.slots[1] = Phase::Waiting;
@@ -431,6 +448,19 @@ mod tests {
         let wanted = "80 7*00 ffff 6*00 504*00 504*00 02 7*00 01 7*00 496*00 40 7*00
                       0402 6*00 02 7*00 02 7*00 01 7*00 01 7*00 01 7*00 7*00 80 01 7*00 0004 6*00 01 7*00";
         assert_eq!(hex(&state.encode().unwrap()), bytes(wanted));
+    }
+
+    #[test]
+    fn room() {
+        for (line, wanted) in [
+            ("open 1", 192),
+            ("read 100 0", 292),
+            ("read 18446744073709551615 0", 192 + 8_192),
+            ("write 0 -", 192),
+            ("write 54 00112233", 192 + 4 * 27),
+        ] {
+            assert_eq!(Event::parse(line).unwrap().room(), wanted, "{line}");
+        }
     }
 
     #[test]

@@ -5,7 +5,7 @@ use std::arch::asm;
 use std::ffi::c_void;
 use std::sync::atomic::{AtomicU64, Ordering};
 
-use script::Event;
+use script::{Event, State};
 use tilgurap::numbers::{self, Layer};
 
 const LARGE: usize = 1_024;
@@ -89,11 +89,11 @@ fn main() {
     }
     println!("\n| event in a run | copies |\n|---|---|");
     for line in RUNS {
-        let record = Event::parse(line).expect("an event").encode();
-        let record = record.expect("a record");
+        let event = Event::parse(line).expect("an event");
+        let record = event.encode().expect("a record");
         let ran = |times: u64| {
             let events = record.repeat(times as usize);
-            let mut out = vec![0; 1_608 + times as usize * (192 + 27 * 32)];
+            let mut out = vec![0; State::BYTES + times as usize * event.room()];
             copies(|| {
                 let end = numbers::run(7, &events, &mut out, &mut [0; 108]);
                 assert_eq!(end.number, 0, "{line}");

@@ -9,7 +9,7 @@ use std::time::{Duration, Instant};
 
 use oracle::Oracle;
 use oracle::count::{self, Side};
-use script::{Event, Payload, println};
+use script::{Event, Payload, State, println};
 use tilgurap::numbers::Layer;
 
 const ROUNDS: usize = 101;
@@ -567,13 +567,8 @@ fn run_once(events: &[Event]) {
 fn run_times(events: &[Event], times: usize) -> f64 {
     let records = events.iter().map(|event| event.encode().expect("a record"));
     let bytes = records.collect::<Vec<Vec<u8>>>().concat();
-    let room = |event: &Event| match event {
-        Event::Read { len, .. } => 192 + *len as usize,
-        Event::Write { bytes, .. } => 192 + 27 * bytes.len(),
-        _ => 192,
-    };
     // ones, so that its pages are there before the clock runs
-    let mut out = vec![1; 1_608 + events.iter().map(room).sum::<usize>()];
+    let mut out = vec![1; State::BYTES + events.iter().map(Event::room).sum::<usize>()];
     let mut fx = vec![0; 54 * 16];
     let mut run = || {
         let start = Instant::now();
