@@ -1,83 +1,60 @@
 -- The status words of every run are those that its history tells. Assumes nothing.
-use Prim.Native.Nat.{ℕ, zero, suc, _+_, _^_, _<_}
+use Prim.Native.Nat.{ℕ, suc, _+_, _^_, _<_}
 use mathlib.Core.Path.{_≡_, refl, sym, ap, ap₂, _∙_}
 use mathlib.Core.Bool.{Bool, true, false, not, cond, _||_, _&&_}
 use mathlib.Core.List.{List, [], _∷_}
 use native.Mathlib.Omega.{arith}
 use lib.Dec.{eqb}
 use lib.ListN.{length, getD}
-use borrow.Author.Tests.{ne-eqb, lt-ltb}
-use Rattle.slot.specs.declared.Phase.{Phase}
-use Rattle.slot.specs.declared.Phase.the-variants.{Vacant, Placeholder, Waiting, Responded, Fmap}
+use borrow.Author.Tests.{lt-ltb}
+use Rattle.slot.specs.declared.Phase.the-variants.{Waiting}
 use Rattle.slot.specs.declared.Slot.{Slot}
-use Rattle.slot.specs.Slots.{phaseOf, phaseNamed, vacantSlot}
+use Rattle.slot.specs.Slots.{vacantSlot}
 use Rattle.status.specs.declared.Status.{Status}
 use Rattle.status.specs.declared.Status.the-variants as status
 use Rattle.status.specs.Status.{bit, isAbandoned, passes, isIn, countOf}
 use Rattle.status.proofs.Words.{in-le, word-lt, word-bit, ones-count}
 use Rattle.table.specs.Table.{rising, noSlot}
-use Rattle.events.specs.World.{tableOf}
+use Rattle.events.specs.World.{World, tableOf, slotIn, phaseIn}
 use Rattle.events.specs.History.{Fact, Stage, free, reserved, waits, replied, mapping, book}
 use Rattle.events.specs.Run.{Run, Steps}
 use Rattle.events.specs.Exactly.{state, inState}
 use Rattle.events.specs.Statuses.{abandonedAt, countsIn, Shown, Statuses}
+use Rattle.events.proofs.Conditions.{slot-named}
 use Rattle.events.proofs.Demanded.{kept}
-use Rattle.events.proofs.Inv.{Inv, phase-is, in-phase}
-use Rattle.events.proofs.Stage.{clash, phaseAt, endedIs, returnedIs}
-use Rattle.events.proofs.Stored.{Shape}
+use Rattle.events.proofs.Entries.{InvOf, waiting-is}
+use Rattle.events.proofs.Inv.{phase-is, in-stage, in-phase}
+use Rattle.events.proofs.Stage.{phaseAt, endedIs, returnedIs}
+use Rattle.events.proofs.Stored.{shape, numberOf, number-is}
 
--- a slot's number names its phase
-abbrev numbered : Phase → ℕ
-numbered Vacant = 0
-numbered Placeholder = 1
-numbered Waiting = 2
-numbered Responded = 3
-numbered Fmap = 4
-
-named : (n k : ℕ) → k < 4 → eqb n (suc k) ≡ eqb (numbered (phaseNamed n)) (suc k)
-named zero k b = refl
-named (suc zero) k b = refl
-named (suc (suc zero)) k b = refl
-named (suc (suc (suc zero))) k b = refl
-named (suc (suc (suc (suc zero)))) k b = refl
-named (suc (suc (suc (suc (suc n))))) k b =
-    ne-eqb (suc (suc (suc (suc (suc n))))) (suc k) (λ e. omega (arith, b, e)) ∙ sym (ne-eqb 0 (suc k) (λ e. omega (arith, e)))
-
-state-is : (g : Stage) → numbered (phaseAt g) ≡ state g
+state-is : (g : Stage) → numberOf (phaseAt g) ≡ state g
 state-is free = refl
 state-is reserved = refl
 state-is waits = refl
 state-is (replied r) = refl
 state-is mapping = refl
 
-waits-at : (g : Stage) → eqb (state g) 2 ≡ true → g ≡ waits
-waits-at free e = clash false e refl
-waits-at reserved e = clash false e refl
-waits-at waits e = refl
-waits-at (replied r) e = clash false e refl
-waits-at mapping e = clash false e refl
-
 -- what tag n's slot counts in is what its history tells
-module _ (s : Shape) (h : List Fact) (i : Inv s h) (n : ℕ) where
-  in-state : (k : ℕ) → k < 4 → eqb (s .look n .state) (suc k) ≡ inState (suc k) h n
+module _ (w : World) (h : List Fact) (i : InvOf w h) (n : ℕ) where
+  in-state : (k : ℕ) → k < 4 → eqb (slotIn w n .state) (suc k) ≡ inState (suc k) h n
   in-state k b =
-      named (s .look n .state) k b ∙ ap (λ (p : Phase). eqb (numbered p) (suc k)) (phase-is s h i n) ∙ ap (λ (j : ℕ). eqb j (suc k)) (state-is (book h n .stage))
+      number-is (slotIn w n) (phaseAt (book h n .stage)) k b (phase-is (shape (tableOf w)) h i n) ∙ ap (λ (j : ℕ). eqb j (suc k)) (state-is (book h n .stage))
 
-  abandoned-is : inState 2 h n ≡ true → isAbandoned (s .look n) ≡ abandonedAt h n
+  abandoned-is : inState 2 h n ≡ true → isAbandoned (slotIn w n) ≡ abandonedAt h n
   abandoned-is e =
-      let g = waits-at (book h n .stage) e in
-      let d = in-phase s h i n Waiting waits (phase-is s h i n ∙ ap phaseAt g) g in
+      let p = waiting-is (phaseIn w n) (slot-named w h i n .waiting ∙ e) in
+      let d = in-phase (shape (tableOf w)) h i n Waiting waits p (in-stage (shape (tableOf w)) h i n Waiting p) in
       ap₂ _||_ (ap endedIs d) (ap returnedIs d)
 
   -- the marks decide only where it waits
-  by-marks : (f : Bool → Bool) → eqb (s .look n .state) 2 && f (isAbandoned (s .look n)) ≡ inState 2 h n && f (abandonedAt h n)
-  by-marks f = ap (λ (b : Bool). b && f (isAbandoned (s .look n))) (in-state 1 (omega arith)) ∙ go (inState 2 h n) refl
+  by-marks : (f : Bool → Bool) → eqb (slotIn w n .state) 2 && f (isAbandoned (slotIn w n)) ≡ inState 2 h n && f (abandonedAt h n)
+  by-marks f = ap (λ (b : Bool). b && f (isAbandoned (slotIn w n))) (in-state 1 (omega arith)) ∙ go (inState 2 h n) refl
     where
-      go : (b : Bool) → inState 2 h n ≡ b → b && f (isAbandoned (s .look n)) ≡ b && f (abandonedAt h n)
+      go : (b : Bool) → inState 2 h n ≡ b → b && f (isAbandoned (slotIn w n)) ≡ b && f (abandonedAt h n)
       go true e = ap f (abandoned-is e)
       go false e = refl
 
-  pub counted : (k : Status) → passes k (s .look n) ≡ countsIn k h n
+  pub counted : (k : Status) → passes k (slotIn w n) ≡ countsIn k h n
   counted status.Placeholder = in-state 0 (omega arith)
   counted status.Outstanding = by-marks not
   counted status.Responded = in-state 2 (omega arith)
@@ -108,7 +85,7 @@ module _ (r : Run) (steps : Steps r) (k : Status) where
   here : (n : ℕ) → n < 64 → isIn k (getD slots n noSlot) ≡ told n
   here n b =
       sym (ap (λ (x : Bool). isIn k (cond x (getD slots n noSlot) vacantSlot)) (lt-ltb n 64 b))
-      ∙ ap bit (counted _ (r .facts) (kept r steps .inv) n k)
+      ∙ ap bit (counted (r .world) (r .facts) (kept r steps .inv) n k)
       ∙ bit-is (countsIn k (r .facts) n)
 
   shown : Shown r k

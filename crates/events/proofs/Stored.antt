@@ -26,23 +26,31 @@ use Rattle.table.proofs.Chain.{linked-set}
 abbrev pub holding : Slot → ℕ
 holding v = isIn status.Responded v
 
-abbrev pub heldBy : Phase → ℕ
-heldBy Vacant = 0
-heldBy Placeholder = 0
-heldBy Waiting = 0
-heldBy Responded = 1
-heldBy Fmap = 0
+-- a slot's number, where it is not 0, is its phase's
+abbrev pub numberOf : Phase → ℕ
+numberOf Vacant = 0
+numberOf Placeholder = 1
+numberOf Waiting = 2
+numberOf Responded = 3
+numberOf Fmap = 4
 
-number-held : (n : ℕ) → bit (eqb n 3) ≡ heldBy (phaseNamed n)
-number-held zero = refl
-number-held (suc zero) = refl
-number-held (suc (suc zero)) = refl
-number-held (suc (suc (suc zero))) = refl
-number-held (suc (suc (suc (suc zero)))) = refl
-number-held (suc (suc (suc (suc (suc n))))) = ap bit (ne-eqb (suc (suc (suc (suc (suc n))))) 3 (λ e. omega arith))
+number-named : (n k : ℕ) → k < 4 → eqb n (suc k) ≡ eqb (numberOf (phaseNamed n)) (suc k)
+number-named zero k b = refl
+number-named (suc zero) k b = refl
+number-named (suc (suc zero)) k b = refl
+number-named (suc (suc (suc zero))) k b = refl
+number-named (suc (suc (suc (suc zero)))) k b = refl
+number-named (suc (suc (suc (suc (suc n))))) k b =
+    ne-eqb (suc (suc (suc (suc (suc n))))) (suc k) (λ e. omega (arith, b, e)) ∙ sym (ne-eqb 0 (suc k) (λ e. omega (arith, e)))
+
+pub number-is : (v : Slot) (p : Phase) (k : ℕ) → k < 4 → phaseOf v ≡ p → eqb (v .state) (suc k) ≡ eqb (numberOf p) (suc k)
+number-is v p k b e = number-named (v .state) k b ∙ ap (λ (q : Phase). eqb (numberOf q) (suc k)) e
+
+abbrev pub heldBy : Phase → ℕ
+heldBy p = bit (eqb (numberOf p) 3)
 
 pub held-is : (v : Slot) (p : Phase) → phaseOf v ≡ p → holding v ≡ heldBy p
-held-is v p e = number-held (v .state) ∙ ap heldBy e
+held-is v p e = ap bit (number-is v p 2 (omega arith) e)
 
 -- the slots by tag, how many hold a reply, and the chain of vacant ones
 pub record Shape : Type 0 where

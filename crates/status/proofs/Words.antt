@@ -78,8 +78,8 @@ module _ {A : Type 0} (f : A → ℕ) (small : (v : A) → f v ≤ 1) where
     pub word-none : i ≡ 64 → 0 ≡ wordOf f (drop i s)
     word-none e = ap (wordOf f) (sym (ap (λ (k : ℕ). drop k s) (e ∙ sym size) ∙ drop-length s))
 
--- two tests that no slot passes both, and one of which passes where a third does
-module _ {A : Type 0} (f g both : A → ℕ) (f-small : (v : A) → f v ≤ 1) (g-small : (v : A) → g v ≤ 1) (is : (v : A) → f v + g v ≡ both v) where
+-- two tests of which one passes, and not the other, where a third does
+module _ {A : Type 0} (f g both : A → ℕ) (is : (v : A) → f v + g v ≡ both v) where
   pub words-sum : (s : List A) → wordOf f s + wordOf g s ≡ wordOf both s
   words-sum [] = refl
   words-sum (v ∷ s) = omega (arith, words-sum s, is v)
@@ -93,10 +93,10 @@ module _ {A : Type 0} (f g both : A → ℕ) (f-small : (v : A) → f v ≤ 1) (
   words-apart one (v ∷ s) =
       let a = wordOf f s in
       let b = wordOf g s in
-      let ha : (a * 2 + f v) / 2 ≡ a = omega (arith, f-small v) in
-      let hb : (b * 2 + g v) / 2 ≡ b = omega (arith, g-small v) in
-      let la : (a * 2 + f v) % 2 ≡ f v = omega (arith, f-small v) in
-      let lb : (b * 2 + g v) % 2 ≡ g v = omega (arith, g-small v) in
+      let ha : (a * 2 + f v) / 2 ≡ a = omega (arith, is v, one v) in
+      let hb : (b * 2 + g v) / 2 ≡ b = omega (arith, is v, one v) in
+      let la : (a * 2 + f v) % 2 ≡ f v = omega (arith, is v, one v) in
+      let lb : (b * 2 + g v) % 2 ≡ g v = omega (arith, is v, one v) in
       let none : min (f v) (g v) ≡ 0 = omega (arith, is v, one v) in
       and-step (a * 2 + f v) (b * 2 + g v) ∙ (λ i. bitAnd (ha i) (hb i) * 2 + min (la i) (lb i)) ∙ omega (arith, words-apart one s, none)
 
@@ -115,7 +115,7 @@ parted s =
       apart = apart;
       together = or-disjoint (wordOf (isIn Outstanding) s) (wordOf (isIn Orphans) s) apart ∙ sum;
       sum = sum;
-      total = omega (arith, ones-count (isIn Outstanding) (in-le Outstanding) s, ones-count (isIn Orphans) (in-le Orphans) s, ones-count waits waits-le s, counts-sum (isIn Outstanding) (isIn Orphans) waits (in-le Outstanding) (in-le Orphans) is s);
+      total = omega (arith, ones-count (isIn Outstanding) (in-le Outstanding) s, ones-count (isIn Orphans) (in-le Orphans) s, ones-count waits waits-le s, counts-sum (isIn Outstanding) (isIn Orphans) waits is s);
     }
   where
     waits-le : (v : Slot) → waits v ≤ 1
@@ -125,7 +125,7 @@ parted s =
     is v = side (isWaiting v) (isAbandoned v)
 
     sum : wordOf (isIn Outstanding) s + wordOf (isIn Orphans) s ≡ waitingWord s
-    sum = words-sum (isIn Outstanding) (isIn Orphans) waits (in-le Outstanding) (in-le Orphans) is s
+    sum = words-sum (isIn Outstanding) (isIn Orphans) waits is s
 
     apart : bitAnd (wordOf (isIn Outstanding) s) (wordOf (isIn Orphans) s) ≡ 0
-    apart = words-apart (isIn Outstanding) (isIn Orphans) waits (in-le Outstanding) (in-le Orphans) is waits-le s
+    apart = words-apart (isIn Outstanding) (isIn Orphans) waits is waits-le s

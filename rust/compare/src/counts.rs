@@ -24,7 +24,7 @@ pub struct Counts {
     entries: BTreeMap<(u8, &'static str, String), u64>,
     most_slots: u64,
     most_queued: u64,
-    /// The events before which some call was an orphan, some other one outstanding.
+    /// The events before which some call was an orphan, and those of them before which another one was outstanding.
     orphans: u64,
     parted: u64,
 }

@@ -90,7 +90,7 @@ mod tests {
         assert_eq!(made.lines.last(), Some(&Line::answer(Answer::No(205))));
     }
 
-    /// Every event of a run; `front` is none.
+    /// Every event of a run; `front` and `status` are none.
     #[test]
     fn every_event_is_drawn() {
         let mut names: Vec<&str> = (0..20)

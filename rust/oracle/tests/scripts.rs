@@ -1,46 +1,14 @@
 //! Each script in `scripts`, with what the kernel's code answers, as read from its source, behind
-//! `#= `. The state is short: what is not as in a fresh one, `D:N` for a number of a description, the tags of orphans.
+//! `#= `. The state is short: what is not as in a fresh one.
 
 use std::fs;
 use std::path::Path;
 
-use script::{OutputLine, Phase, Script, State};
-
-const SECTIONS: [&str; 6] = ["slots", "queue", "holds", "outside", "handles", "orphans"];
-
-/// The state that a short line says.
-fn state(text: &str) -> State {
-    let (mut state, mut abandoned) = (State::fresh(), 0);
-    let mut section = "";
-    for word in text.split(' ') {
-        let pair = word.split_once(':').map(|(at, number)| {
-            let at: usize = at.parse().expect("a number");
-            let number: u64 = number.parse().expect("a number");
-            (at, number)
-        });
-        match (section, pair) {
-            (_, None) if SECTIONS.contains(&word) => section = word,
-            ("slots", None) => {
-                for (slot, letter) in state.slots.iter_mut().zip(word.chars()) {
-                    *slot = Phase::from_letter(letter).expect("a phase");
-                }
-            }
-            ("queue", None) => state.queue = word.parse().expect("a number"),
-            ("orphans", None) => abandoned |= 1 << word.parse::<u64>().expect("a tag"),
-            ("holds", Some((d, n))) => state.holds[d] = n,
-            ("outside", Some((d, n))) => state.outside[d] = n,
-            ("handles", Some((h, d))) => state.handles[h] = Some(d),
-            _ => panic!("`{word}` in a state"),
-        }
-    }
-    state.status = State::status_of(&state.slots, abandoned);
-    assert_eq!(state.status[4].0, abandoned, "an orphan waits");
-    state
-}
+use script::{OutputLine, Script, State};
 
 fn expected(text: &str) -> OutputLine {
     match text.strip_prefix("state ") {
-        Some(text) => OutputLine::State(Box::new(state(text))),
+        Some(text) => OutputLine::State(Box::new(State::parse_short(text).expect("a state"))),
         None => OutputLine::parse(text).expect("an output line"),
     }
 }

@@ -145,6 +145,19 @@ const LIMITS: [(&str, &[&str]); 6] = [
     ("no 206", &["submit", "call", "move", "fdwrite"]),
 ];
 
+/// The status words that are not 0 at the end of a run.
+const ENDS: [(&str, &[&str]); 1] = [(
+    "words at the end",
+    &[
+        "Placeholder",
+        "outstanding",
+        "Responded",
+        "Fmap",
+        "orphans",
+        "orphans beside outstanding",
+    ],
+)];
+
 /// The bits of an obtain entry's extra bytes that have a name (syscall/src/flag.rs).
 const OBTAIN_BITS: u32 = 15;
 
@@ -272,6 +285,7 @@ pub struct Cover {
     phases: Counts,
     replies: Counts,
     limits: Counts,
+    ends: Counts,
     /// The row of `REPLIED` of the call that each slot was given out for last.
     calls: BTreeMap<u64, &'static str>,
     /// By kind.
@@ -326,13 +340,35 @@ impl Cover {
         }
     }
 
-    fn tables(&self) -> [(&Counts, Table); 5] {
+    /// The state at the end of a run.
+    pub fn add_end(&mut self, state: &State) {
+        let [(row, names)] = ENDS;
+        let words = state.status.map(|(word, _)| word != 0);
+        let [_, outstanding, _, _, orphans] = words;
+        let shown = words.into_iter().chain([outstanding && orphans]);
+        for (name, _) in names.iter().zip(shown).filter(|(_, is_so)| *is_so) {
+            self.ends.add(row, name);
+        }
+    }
+
+    /// The ends of runs whose events are counted elsewhere.
+    pub fn add_ends(&mut self, of: &Cover) {
+        for (row, answers) in &of.ends.0 {
+            let row = self.ends.0.entry(row.clone()).or_default();
+            for (answer, count) in answers {
+                *row.entry(answer.clone()).or_default() += count;
+            }
+        }
+    }
+
+    fn tables(&self) -> [(&Counts, Table); 6] {
         [
             (&self.events, plain(&ANSWERS)),
             (&self.entries, plain(&ENTRY_ANSWERS)),
             (&self.phases, by_phase()),
             (&self.replies, plain(&REPLIED)),
             (&self.limits, plain(&LIMITS)),
+            (&self.ends, plain(&ENDS)),
         ]
     }
 

@@ -135,8 +135,10 @@ impl<'a> Kernel<'a> {
     }
 
     pub fn end(mut self) -> Outcome<Run> {
+        let state = self.oracle.state();
         self.cover.runs += 1;
-        self.run.end(&self.oracle.state())?;
+        self.cover.add_end(&state);
+        self.run.end(&state)?;
         Ok(self.run)
     }
 }

@@ -39,7 +39,9 @@ pub fn record(folder: &Path, file: &mut File, cover: &mut Cover) -> Outcome<()> 
             .map(|(place, _)| place);
         for end in asked {
             // their events are counted with the whole script
-            record_run(&path, &script, end, file, &mut Cover::default())?;
+            let mut beginning = Cover::default();
+            record_run(&path, &script, end, file, &mut beginning)?;
+            cover.add_ends(&beginning);
         }
         record_run(&path, &script, script.events.len(), file, cover)?;
     }

@@ -119,6 +119,44 @@ impl State {
     }
 }
 
+const SECTIONS: [&str; 6] = ["slots", "orphans", "queue", "holds", "outside", "handles"];
+
+impl State {
+    /// The state that a short line says behind `state `: what is not as in a fresh one. The first slots' letters; the tags of
+    /// orphans, behind them; of holds, outside holds and handles `AT:NUMBER`.
+    pub fn parse_short(text: &str) -> Result<State, String> {
+        let (mut state, mut abandoned) = (State::fresh(), 0);
+        let mut section = "";
+        for word in text.split(' ') {
+            let wrong = || format!("`{word}` in a state");
+            let number = |word: &str| Fields::new(word).u64("NUMBER").map_err(|_| wrong());
+            let place = |word: &str| match number(word)? {
+                at @ 0..64 => Ok(at as usize),
+                _ => Err(wrong()),
+            };
+            match (section, word.split_once(':')) {
+                (_, None) if SECTIONS.contains(&word) => section = word,
+                ("slots", None) if word.len() <= state.slots.len() => {
+                    for (slot, letter) in state.slots.iter_mut().zip(word.chars()) {
+                        *slot = Phase::from_letter(letter).ok_or_else(wrong)?;
+                    }
+                }
+                ("orphans", None) => match place(word)? {
+                    tag if state.slots[tag] == Phase::Waiting => abandoned |= 1 << tag,
+                    _ => return Err(wrong()),
+                },
+                ("queue", None) => state.queue = number(word)?,
+                ("holds", Some((d, n))) => state.holds[place(d)?] = number(n)?,
+                ("outside", Some((d, n))) => state.outside[place(d)?] = number(n)?,
+                ("handles", Some((h, d))) => state.handles[place(h)?] = Some(number(d)?),
+                _ => return Err(wrong()),
+            }
+        }
+        state.status = State::status_of(&state.slots, abandoned);
+        Ok(state)
+    }
+}
+
 /// The ten numbers behind the word `status`.
 pub(crate) fn status_words(f: &mut Fields) -> Result<StatusWords, String> {
     let mut words = StatusWords::default();
@@ -209,6 +247,38 @@ mod tests {
             state.status[of] = wrong;
             assert!(!state.has_its_status(), "{wrong:?}");
             state.status = right;
+        }
+    }
+
+    #[test]
+    fn short_states() {
+        let wanted = {
+            let mut state = State::fresh();
+            state.slots[1] = Phase::Waiting;
+            state.slots[2] = Phase::Waiting;
+            state.status = State::status_of(&state.slots, 1 << 2);
+            state.queue = 2;
+            state.holds[3] = 4;
+            state.outside[3] = 1;
+            state.handles[63] = Some(3);
+            state
+        };
+        let text = "slots vww orphans 2 queue 2 holds 3:4 outside 3:1 handles 63:3";
+        assert_eq!(State::parse_short(text), Ok(wanted));
+        assert_eq!(State::parse_short("queue 0"), Ok(State::fresh()));
+        for wrong in [
+            "",
+            "slots x",
+            "3:4",
+            "holds 64:1",
+            "holds 3",
+            "holds 3:x",
+            "handles x:3",
+            "queue x",
+            "slots vw orphans 0",
+            "orphans 64",
+        ] {
+            assert!(State::parse_short(wrong).is_err(), "{wrong}");
         }
     }
 
