@@ -49,8 +49,8 @@ LAYER_LIMITS = {
     "LIST": [("fd_list", r"pub at: \[Description; (\d+)\]")],
     "HOLDS": [("host", r"holds_of\(s, d\) == (\d+)"), ("counts", r"if (\d+) <= n")],
     "EFFECT_WORDS": [("write", r"fx\.len\(\) / (\d+) < n")],
-    "ERRNO_FIRST": [("error", r"if errno < (\d+)")],
-    "ERRNO_LAST": [("error", r"STR_ERROR_LEN: i32 = (\d+)")],
+    "ERRNO_FIRST": [("error", r"const ERROR_1: u64 = (\w+)")],
+    "ERRNO_LAST": [("error", r"const ERROR_132: u64 = (\w+)")],
     "PAGE_BYTES": [("provide_mmap", r"(?:offset|base) % (\d+) != 0")],
     "READ_NONBLOCK": [("wait_queue_receive", r"if flags / (\w+) % 2 == 0")],
 }
@@ -214,8 +214,10 @@ def layer_limits(texts):
         numbers = {number(one) for _, all_of in said for one in all_of}
         silent = [crate for crate, all_of in said if not all_of]
         found[limit] = f"nothing in {silent}" if silent else numbers.pop() if len(numbers) == 1 else f"several: {sorted(numbers)}"
-    if isinstance(found["ERRNO_LAST"], int):
-        found["ERRNO_LAST"] -= 1
+    # the layer tells an errno by its error word's low 32 bits, 2^32 less it
+    for errno in "ERRNO_FIRST", "ERRNO_LAST":
+        if isinstance(found[errno], int):
+            found[errno] = 2**32 - found[errno]
     if isinstance(found["EFFECT_WORDS"], int):
         found["EFFECTS"] = found["EFFECT_WORDS"] // len(layer_structs(texts).get("Effect", "?"))
     # the layer's stack need is read from its code by that script, which fails above these
@@ -412,6 +414,7 @@ EDITS = [
     ("changed limit", "crates/write/src/lib.rt", "fx.len() / 54", "fx.len() / 51", "limit EFFECTS"),
     ("changed limit", "crates/host/src/lib.rt", "== 65535", "== 65534", "limit HOLDS"),
     ("changed limit", HEADER, "#define TILGURAP_HOLDS 65535", "#define TILGURAP_HOLDS 65536", "limit HOLDS"),
+    ("changed limit", "crates/error/src/lib.rt", "ERROR_1: u64 = 0xffff_ffff", "ERROR_1: u64 = 0xffff_fffe", "limit ERRNO_FIRST"),
     ("changed limit", HEADER, "#define TILGURAP_ERRNO_LAST 132", "#define TILGURAP_ERRNO_LAST 133", "limit ERRNO_LAST"),
     ("changed limit", LIMITS, "LIST: usize = 16", "LIST: usize = 32", "limit in Rust LIST"),
     ("missing limit", HEADER, "#define TILGURAP_HANDLES 64 ", "#define HANDLES 64 ", "limit HANDLES"),

@@ -1,16 +1,15 @@
 -- Laws of a signed number of 32 bits: its reading, its negation and its extension to 64 bits. Assumes nothing.
 use mathlib.Core.Path.{_≡_, refl, sym, ap, _∙_, subst}
 use mathlib.Core.Bool.{Bool, true, false, not, cond}
-use Prim.Native.Nat.{ℕ, zero, suc, _-_, _<_, _≤_, zero-le}
+use Prim.Native.Nat.{ℕ, zero, suc, _-_, zero-le}
 use native.Mathlib.Omega.{arith}
-use native.Mathlib.Nat.{zero-add}
 use lib.IntN.{ℤ, pos, negsuc, negℤ, natAbs, _-ℤ_, +ℤ-comm, +ℤ-idl, -ℤ-one}
 use lib.Signed.{nonNeg, leZ}
 use lib.Dec.{T, leb, eqb}
 use borrow.Author.Tests.{le-leb, eq-eqb, ne-eqb, eqb-false}
 use mir.Syntax.{w32, w64}
 use mir.Val.{Fits, SFits, toZ, ofZ}
-use mir.Facts.{toZ-pos, toZ-neg, toZ-ofZ}
+use mir.Facts.{toZ-ofZ}
 use Rattle.error.specs.Reference.{negI32}
 
 -- what is to be shown of a signed number of 32 bits is shown of its reading from its bits, and back
@@ -19,25 +18,6 @@ back P f p = subst P (sym (toZ-ofZ f)) p
 
 pub forth : {e : ℤ} (P : ℤ → Type 0) → SFits w32 e → P (toZ w32 (ofZ w32 e)) → P e
 forth P f p = subst P (toZ-ofZ f) p
-
-minus-one : (k : ℕ) → negsuc 0 -ℤ pos k ≡ negsuc k
-minus-one zero = refl
-minus-one (suc n) = ap (λ (m : ℕ). negsuc (suc m)) (zero-add n)
-
--- the upper half of 32 bits is read as -1 less a small number
-down : (k : ℕ) → k < 2147483648 → negsuc 0 -ℤ toZ w32 k ≡ negsuc k
-down k h = ap (λ (z : ℤ). negsuc 0 -ℤ z) (toZ-pos w32 h) ∙ minus-one k
-
-pub down-fits : (k : ℕ) → k < 2147483648 → SFits w32 (negsuc 0 -ℤ toZ w32 k)
-down-fits k h = subst (SFits w32) (sym (down k h)) (record { sfits = h })
-
-pub high : (low : ℕ) → 2147483648 ≤ low → low < 4294967296 → toZ w32 (ofZ w32 (negsuc 0 -ℤ toZ w32 (4294967295 - low))) ≡ toZ w32 low
-high low l u =
-    toZ-ofZ (down-fits (4294967295 - low) (omega arith)) ∙ down (4294967295 - low) (omega arith)
-    ∙ sym (toZ-neg w32 (4294967295 - low) (omega arith)) ∙ ap (toZ w32) up
-  where
-    up : 4294967296 - suc (4294967295 - low) ≡ low
-    up = omega arith
 
 -- the negation, the lowest value apart
 pub lowest : (n : ℤ) → SFits w32 n → ofZ w32 n ≡ 2147483648 → n ≡ negI32 n

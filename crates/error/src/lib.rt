@@ -1,8 +1,7 @@
 // Error words: `Error::mux` and `Error::demux` (syscall/src/error.rs, lines 15 to 29).
 ghost use mathlib.Core.Path.{_≡_};
-ghost use Prim.Native.Nat.{_%_};
 ghost use Rattle.answer.specs.Numbered.{numberOf};
-ghost use Rattle.error.specs.Reference.{asI32, asUsize, negI32};
+ghost use Rattle.error.specs.Reference.{asUsize, negI32};
 ghost use Rattle.error.specs.Errors.{demuxOf, muxOf, resultAnswer};
 
 // Line 81.
@@ -18,20 +17,10 @@ pub enum Result {
     Err(Error),
 }
 
-// `STR_ERROR.len()`: line 193.
-const STR_ERROR_LEN: i32 = 133;
+// The low 32 bits of an error word are 2^32 less its errno. Errors are 1 to 132: `STR_ERROR.len()` is 133 (line 193).
+const ERROR_1: u64 = 0xffff_ffff;
 
-// `word as i32`.
-fn as_i32(word: u64) -> i32
-    ensures { λ r. ⌜ r ≡ asI32 word ⌝ }
-{
-    let low = (word % 0x1_0000_0000) as u32;
-    if low < 0x8000_0000 {
-        return low as i32;
-    }
-    let k = (0xffff_ffff - low) as i32;
-    -1 - k
-}
+const ERROR_132: u64 = 0xffff_ff7c;
 
 // `-n`, with the lowest value apart: it has no counterpart and stays what it is.
 fn negated(n: i32) -> i32
@@ -89,16 +78,18 @@ impl Error {
         }
     }
 
+    // By cases of the low 32 bits: the error words; the lowest value, whose negation overflows; all else.
     pub fn demux(value: u64) -> Result
         ensures { λ r. ⌜ r ≡ demuxOf value ⌝ }
     {
-        let errno = negated(as_i32(value));
-        if errno < 1 {
-            return Result::Ok(value);
+        let low = value % 0x1_0000_0000;
+        match low {
+            ERROR_132..=ERROR_1 => {
+                let errno = (0x1_0000_0000 - low) as i32;
+                Result::Err(Error { errno })
+            }
+            0x8000_0000 => Result::Ok(value),
+            _ => Result::Ok(value),
         }
-        if STR_ERROR_LEN <= errno {
-            return Result::Ok(value);
-        }
-        Result::Err(Error { errno })
     }
 }

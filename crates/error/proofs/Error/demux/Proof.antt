@@ -1,29 +1,31 @@
 -- `Error::demux` meets its contract. Assumes nothing.
+use mathlib.Core.Path.{sym}
+use Prim.Native.Nat.{_-_, _%_}
+use native.Mathlib.Omega.{arith}
 use borrow.Author.Needs.{needs}
-use Rattle.error.proofs.Words.{errno-is, under, over, between}
+use Rattle.error.proofs.Words.{success-word, error-made}
 use Rattle.error.proofs.Error.demux.Statement.{statement}
 use Rattle.error.proofs.Error.demux.Tie as tie
 
-as-i32-requires : tie.Need-as-i32-requires
-as-i32-requires c κs = search needs
+sub-errno : tie.Need-sub-errno
+sub-errno c = search needs
 
-negated-requires : tie.Need-negated-requires
-negated-requires c κs = search needs
+cast-errno : tie.Need-cast-errno
+cast-errno c = search needs
 
 returns : tie.Need-returns
-returns c =
-    under (c .before .before .before .args .value) _
-    (errno-is (c .before .before .before .args .value) _ _ (c .before .before .as-i32 .ensures) (c .before .negated .ensures)) (c .if1 .taken)
+returns c = sym (success-word (c .before .args .value) (omega arith))
 
 returns-2 : tie.Need-returns-2
 returns-2 c =
-    over (c .before .before .before .before .args .value) _
-    (errno-is (c .before .before .before .before .args .value) _ _ (c .before .before .before .as-i32 .ensures) (c .before .before .negated .ensures)) (c .before .if1 .left) (c .if2 .taken)
+    let low = c .before .before .before .args .value % 0x1_0000_0000 in
+    error-made (c .before .before .before .args .value) (0x1_0000_0000 - low) (omega arith) (omega arith) (omega arith)
 
 returns-3 : tie.Need-returns-3
-returns-3 c =
-    between (c .before .before .before .before .args .value) _
-    (errno-is (c .before .before .before .before .args .value) _ _ (c .before .before .before .as-i32 .ensures) (c .before .before .negated .ensures)) (c .before .if1 .left) (c .if2 .left)
+returns-3 c = sym (success-word (c .before .before .args .value) (omega arith))
+
+returns-4 : tie.Need-returns-4
+returns-4 c = sym (success-word (c .before .before .before .args .value) (omega arith))
 
 pub demux-spec : {M : Type 1} → statement M
-demux-spec = tie.close (tie.spec as-i32-requires negated-requires returns returns-2 returns-3)
+demux-spec = tie.close (tie.spec sub-errno cast-errno returns returns-2 returns-3 returns-4)
