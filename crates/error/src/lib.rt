@@ -18,9 +18,9 @@ pub enum Result {
 }
 
 // The low 32 bits of an error word are 2^32 less its errno. Errors are 1 to 132: `STR_ERROR.len()` is 133 (line 193).
-const ERROR_1: u64 = 0xffff_ffff;
+const ERROR_1: u32 = 0xffff_ffff;
 
-const ERROR_132: u64 = 0xffff_ff7c;
+const ERROR_132: u32 = 0xffff_ff7c;
 
 // `-n`, with the lowest value apart: it has no counterpart and stays what it is.
 fn negated(n: i32) -> i32
@@ -82,10 +82,10 @@ impl Error {
     pub fn demux(value: u64) -> Result
         ensures { λ r. ⌜ r ≡ demuxOf value ⌝ }
     {
-        let low = value % 0x1_0000_0000;
+        let low = (value % 0x1_0000_0000) as u32;
         match low {
             ERROR_132..=ERROR_1 => {
-                let errno = (0x1_0000_0000 - low) as i32;
+                let errno = (0x1_0000_0000 - (low as u64)) as i32;
                 Result::Err(Error { errno })
             }
             0x8000_0000 => Result::Ok(value),
