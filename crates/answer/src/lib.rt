@@ -1,8 +1,10 @@
 // What an event answers: one case for each outcome, for all events. Each case's number and value in 01 stand in one table, `said_with`
 // (events/specs/Outcome.antt).
+#![tactic(auto)]
+
 use ids::Tag;
 
-#[derive(Drop)]
+#[derive(Clone, Copy)]
 pub enum Answer {
     Done,
     // a slot was given out: reserve, `call`, map request

@@ -15,7 +15,7 @@ use step::Step;
 
 // `kind` 0 done, with a value; 1 refused, with its number; 2 would wait; 3 still blocked; 4 a reply, which stands beside it.
 #[repr(C)]
-#[derive(Drop)]
+#[derive(Clone, Copy)]
 pub struct AnswerWords {
     pub kind: u64,
     pub value: u64,
@@ -23,14 +23,14 @@ pub struct AnswerWords {
 
 // What an event answers, with at most one effect.
 #[repr(C)]
-#[derive(Drop)]
+#[derive(Clone, Copy)]
 pub struct StepWords {
     pub answer: AnswerWords,
     pub effect: Effect,
 }
 
 #[repr(C)]
-#[derive(Drop)]
+#[derive(Clone, Copy)]
 pub struct WakeWords {
     pub answer: AnswerWords,
     pub reply: Reply,

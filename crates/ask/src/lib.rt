@@ -9,7 +9,7 @@ use opcode::RawOpcode;
 use take_holds::TakeAnswer;
 
 // Opcode and list of a good one; else its refusal.
-#[derive(Drop)]
+#[derive(Clone, Copy)]
 pub struct Asked {
     pub good: bool,
     pub answer: Answer,

@@ -18,7 +18,7 @@ use wake_decision::Turn;
 
 // The reply in a tag's slot, with its list where it is one of many: what a wake hands over, to be looked at before it. The wake
 // does not hand it back itself, since a struct that is stored to be taken apart again costs as much as the wake.
-#[derive(Drop)]
+#[derive(Clone, Copy)]
 pub struct Stored {
     pub reply: Reply,
     pub fds: List,

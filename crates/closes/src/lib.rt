@@ -1,5 +1,7 @@
 // Holds of a list dropped, with the close effects that follow: three words each, lent to be stored.
 // Words past the end of those lent are not stored.
+#![tactic(auto)]
+
 ghost use Rattle.std.specs.Prelude.{◌≡◌, ◌∷◌, [], ◌+◌, ◌*◌, ◌<◌, ◌≤◌, length};
 ghost use Rattle.std.proofs.lemmas.List.Edits.{sets};
 ghost use Rattle.fd_list.specs.Lists.{numbers};
@@ -10,7 +12,7 @@ use fd_list::List;
 use ids::Description;
 
 // Why holds inside the layer are dropped.
-#[derive(Drop)]
+#[derive(Clone, Copy)]
 pub enum Reason {
     Replied,
     Ended,

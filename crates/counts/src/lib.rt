@@ -1,5 +1,7 @@
 // Hold counts of the descriptions, lent as a slice: one hold less or more, and for each entry of a list.
 // A description past the end has no holds.
+#![tactic(auto)]
+
 ghost use Rattle.std.specs.Prelude.{◌≡◌, get_or};
 ghost use Rattle.fd_list.specs.Lists.{numbers};
 ghost use Rattle.counts.specs.Counts.{less, more, less_all, more_all, last};

@@ -1,4 +1,6 @@
 // Entries from bytes. An entry stands at the start of the slice; a byte past its end reads as 0.
+#![tactic(auto)]
+
 ghost use Rattle.std.specs.Prelude.{◌≡◌};
 ghost use Rattle.schemev2.specs.Entry.{sqe_of, cqe_of};
 

@@ -8,7 +8,7 @@ ghost use Rattle.effect.specs.Effect.{effect_words};
 use slot::PageSpan;
 
 #[repr(C)]
-#[derive(Drop)]
+#[derive(Clone, Copy)]
 pub struct Effect {
     pub kind: u64,
     pub a: u64,

@@ -1,4 +1,6 @@
 // Entries to bytes.
+#![tactic(auto)]
+
 ghost use Rattle.std.specs.Prelude.{◌≡◌};
 ghost use Rattle.schemev2.specs.Entry.{cqe_bytes, sqe_bytes};
 ghost use Rattle.encode.specs.Stores.{stored_args};

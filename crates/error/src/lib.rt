@@ -1,4 +1,6 @@
 // Error words: `Error::mux` and `Error::demux` (syscall/src/error.rs, lines 15 to 29).
+#![tactic(auto)]
+
 ghost use Rattle.std.specs.Prelude.{◌≡◌};
 ghost use Rattle.answer.specs.Numbered.{number_of};
 ghost use Rattle.error.specs.Reference.{as_usize, neg_i32};
@@ -7,13 +9,13 @@ ghost use Rattle.error.specs.Errors.{demux_of, mux_of, result_answer};
 // Line 81.
 pub const EINVAL: u64 = 22;
 
-#[derive(Drop)]
+#[derive(Clone, Copy)]
 pub struct Error {
     pub errno: i32,
 }
 
 // The Rust's `Result<usize>`.
-#[derive(Drop)]
+#[derive(Clone, Copy)]
 pub enum Result {
     Ok(u64),
     Err(Error),

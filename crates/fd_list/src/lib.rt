@@ -1,4 +1,6 @@
 // A list of descriptions sent along with a call or a response: at most 16.
+#![tactic(auto)]
+
 ghost use Rattle.std.specs.Prelude.{◌≡◌, ◌∷◌, [], ◌≤◌, get_or, length};
 ghost use Rattle.fd_list.specs.Lists.{desc, named, numbers, list_of, with_of, without_of, rest_of};
 
@@ -6,7 +8,7 @@ use ids::Description;
 
 // The first `len` of `at`.
 #[repr(C)]
-#[derive(Drop)]
+#[derive(Clone, Copy)]
 pub struct List {
     pub at: [Description; 16],
     pub len: u8,

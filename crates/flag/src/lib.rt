@@ -1,4 +1,6 @@
 // Flag bits and masks of the commit. A set of bits is known where no bit lies outside its mask, as `from_bits` has it.
+#![tactic(auto)]
+
 ghost use Rattle.std.specs.Prelude.{◌≡◌};
 ghost use Rattle.flag.specs.Flags.{within, event_read, event_hup, event_flags, fobtain_fd_flags, new_fd_flags, send_fd_flags, recv_fd_flags, sqe_oneway, sqe_multiple_ids};
 

@@ -1,4 +1,6 @@
 // The hold counts of the 64 descriptions, and the description that a word names if it has an outside hold.
+#![tactic(auto)]
+
 ghost use Rattle.std.specs.Prelude.{◌≡◌};
 ghost use Rattle.holds.specs.Holds.{held_of};
 
@@ -6,7 +8,7 @@ use ids::DescriptionFound;
 
 // For each description all its holds, and how many of them are outside.
 #[repr(C)]
-#[derive(Drop)]
+#[derive(Clone, Copy)]
 pub struct Holds {
     pub holds: [u64; 64],
     pub outside: [u64; 64],

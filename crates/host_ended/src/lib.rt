@@ -1,1 +1,2 @@
 // An ended caller's slots: definitions alone.
+#![tactic(auto)]

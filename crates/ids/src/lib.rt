@@ -1,21 +1,23 @@
 // The four kinds of number that are never taken for one another (01, "What changes shape"), and the ways from a number to a slot
 // number, a description and a handle: no other crate makes one from a number (tests/only_ids.sh).
+#![tactic(auto)]
+
 ghost use Rattle.std.specs.Prelude.{◌≡◌};
 ghost use Rattle.ids.specs.Ids.{slot_of, description_of, descriptions_in, handle_of};
 
 // A place in the slot array; 64 is none.
 #[repr(C)]
-#[derive(Drop)]
+#[derive(Clone, Copy)]
 pub struct SlotNo(pub u8);
 
 // What callers and drivers name a call by. A request id, its widest form, has 64 bits.
 #[repr(C)]
-#[derive(Drop)]
+#[derive(Clone, Copy)]
 pub struct Tag(pub u64);
 
 // An open file description, the Rust's `Arc<LockedFileDescription>`.
 #[repr(C)]
-#[derive(Drop)]
+#[derive(Clone, Copy)]
 pub struct Description(pub u8);
 
 // What stands at a list's places that name nothing.
@@ -23,7 +25,7 @@ pub const BLANK: Description = Description(0);
 
 // The driver's name for a description, the Rust's `FileHandle`: any 64-bit word of an entry.
 #[repr(C)]
-#[derive(Drop)]
+#[derive(Clone, Copy)]
 pub struct Handle(pub u64);
 
 // One over 63 is no handle.
@@ -41,7 +43,7 @@ pub fn slot_of(tag: Tag) -> SlotNo
 }
 
 // The description that a word of the host names.
-#[derive(Drop)]
+#[derive(Clone, Copy)]
 pub enum DescriptionFound {
     At(Description),
     Outside,

@@ -1,4 +1,6 @@
 // Little-endian numbers read from bytes. A byte past the end of the slice reads as 0.
+#![tactic(auto)]
+
 ghost use Rattle.std.specs.Prelude.{◌≡◌, ◌+◌, ◌*◌};
 ghost use Rattle.le.specs.Le.{byte as byte_of, half as half_of, word as word_of};
 

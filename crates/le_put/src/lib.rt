@@ -1,4 +1,6 @@
 // Little-endian numbers stored into bytes. What lies past the end of the slice is not stored.
+#![tactic(auto)]
+
 ghost use Rattle.std.specs.Prelude.{◌≡◌, [], ◌∷◌, set};
 ghost use Rattle.std.proofs.lemmas.List.Edits.{sets};
 ghost use Rattle.le.specs.Le.{bytes4, bytes8, bytes_of};

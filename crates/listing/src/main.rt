@@ -1,4 +1,6 @@
 // The listing program: `target/bin/listing < FILE`.
+#![tactic(auto)]
+
 use libc::STDIN_FILENO;
 
 fn main() {

@@ -1,4 +1,6 @@
 // The listing on each file of data/, one after the other: tests/listing/make.py wrote them and what is to be printed.
+#![tactic(auto)]
+
 fn list(path: &[u8]) {
     let fd = os::open_read(path);
     if fd < 0 {

@@ -1,4 +1,6 @@
 // The fields of one line of the listing (01, "Marked values").
+#![tactic(auto)]
+
 ghost use Rattle.std.specs.Prelude.{◌≡◌};
 ghost use Rattle.listing_line.specs.Line.{line_of, shown_result, bad_of, num_of, shown_of};
 ghost use Rattle.schemev2.specs.Entry.{cqe_of};
@@ -6,7 +8,7 @@ ghost use Rattle.schemev2.specs.Entry.{cqe_of};
 use error::Result;
 use parse_cqe::ParsedCqe;
 
-#[derive(Drop)]
+#[derive(Clone, Copy)]
 pub enum Word {
     Ok,
     Err,
@@ -14,13 +16,13 @@ pub enum Word {
     Num,
 }
 
-#[derive(Drop)]
+#[derive(Clone, Copy)]
 pub struct Shown {
     pub word: Word,
     pub value: u64,
 }
 
-#[derive(Drop)]
+#[derive(Clone, Copy)]
 pub struct Line {
     pub kind: u8,
     pub tag: u32,

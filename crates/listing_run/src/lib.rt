@@ -1,4 +1,6 @@
 // The listing: completions from a file descriptor, at most 64 KiB, and a line for each on standard output.
+#![tactic(auto)]
+
 ghost use Rattle.std.specs.Prelude.{◌≡◌, ◌%◌, length};
 
 use libc::STDOUT_FILENO;

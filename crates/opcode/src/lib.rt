@@ -1,4 +1,6 @@
 // The opcodes of submission entries: `Opcode::try_from_raw` (syscall/src/schemev2.rs, lines 168 to 212).
+#![tactic(auto)]
+
 ghost use Rattle.std.specs.Prelude.{◌≡◌};
 ghost use Rattle.opcode.specs.Opcodes.{opcode_of, sendfd, request_mmap, cancel, close_msg, call, recvfd, std_fs_call, detach};
 
@@ -39,7 +41,7 @@ const OPCODES: [u8; 32] = [
 ];
 
 // What a number names.
-#[derive(Drop)]
+#[derive(Clone, Copy)]
 pub enum RawOpcode {
     Opcode(u8),
     Unknown,

@@ -1,4 +1,6 @@
 // A completion entry taken apart: `ParsedCqe::parse_cqe` (src/scheme/user.rs, lines 84 to 154).
+#![tactic(auto)]
+
 ghost use Rattle.std.specs.Prelude.{◌≡◌};
 ghost use Rattle.answer.specs.Numbered.{number_of};
 ghost use Rattle.parse_cqe.specs.Parsed.{parsed_of, event_of, obtain_of, parsed_answer};
@@ -8,7 +10,7 @@ use ids::{Handle, Tag};
 use schemev2::{Cqe, CqeOpcode};
 
 // What an entry asks for, or why it is refused. No completion kind leads to the Rust's `ProvideMmap`.
-#[derive(Drop)]
+#[derive(Clone, Copy)]
 pub enum ParsedCqe {
     TriggerFevent {
         number: u64,

@@ -18,7 +18,7 @@ use wish::Wish;
 // 0 or the refusal's number; what becomes of the slot, and the one to store; a wake or an event, or none; the span to unmap;
 // the list that is dropped, whose closes follow; the reply's own, dropped after it, and whether closes follow; the handle that
 // changes, if one does, and what it holds then.
-#[derive(Drop)]
+#[derive(Clone, Copy)]
 pub struct Plan {
     pub number: u64,
     pub act: Act,

@@ -15,7 +15,7 @@ use slot::Reply;
 
 // With the notice of a completion's kind 5.
 #[repr(C)]
-#[derive(Drop)]
+#[derive(Clone, Copy)]
 pub struct Regular {
     pub answer: AnswerWords,
     pub notice: bool,
@@ -23,7 +23,7 @@ pub struct Regular {
 
 // `kind` 0 a number of the scheme's own, with its flags; 1 a description; 2 refused, with its number.
 #[repr(C)]
-#[derive(Drop)]
+#[derive(Clone, Copy)]
 pub struct OpenedWords {
     pub kind: u64,
     pub value: u64,

@@ -3,7 +3,7 @@ ghost use Rattle.std.specs.Prelude.{◌≡◌, ◌≤◌};
 ghost use Rattle.std.proofs.lemmas.List.Edits.{sets};
 ghost use Rattle.record.specs.Record.{nine_of, record_of, tail_by, tail_of, first_by, first_at, second_at, tail_at, size_by, words_at};
 
-#[derive(Drop)]
+#[derive(Clone, Copy)]
 pub struct Nine(
     pub u64,
     pub u64,
@@ -16,7 +16,7 @@ pub struct Nine(
     pub u64,
 );
 
-#[derive(Drop)]
+#[derive(Clone, Copy)]
 pub struct Record {
     pub kind: u8,
     pub first: u8,

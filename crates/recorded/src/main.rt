@@ -9,7 +9,7 @@ use libc::STDOUT_FILENO;
 use state_bytes::STATE_SIZE;
 
 // A file's runs so far, and the check number of its bytes. `good` until something differs or is not as it should be.
-#[derive(Drop)]
+#[derive(Clone, Copy)]
 struct Tally {
     good: bool,
     runs: u64,
@@ -20,7 +20,7 @@ struct Tally {
 }
 
 // How a run ended, and how many of its bytes are as recorded, up to the first that is not.
-#[derive(Drop)]
+#[derive(Clone, Copy)]
 struct Compared {
     number: u64,
     place: u64,

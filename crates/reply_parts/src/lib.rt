@@ -10,7 +10,7 @@ use ids::DescriptionFound;
 use slot::{Reply, Slot};
 
 // What a reply entry brings: a result with extra0 and the notice, a description out of a handle, or the slot's own list.
-#[derive(Drop)]
+#[derive(Clone, Copy)]
 pub enum Offer {
     Regular(Result, u8, bool),
     Fd(u64),
@@ -18,7 +18,7 @@ pub enum Offer {
 }
 
 // The reply as it is stored, the list that it keeps, the list that is dropped, and its own holds.
-#[derive(Drop)]
+#[derive(Clone, Copy)]
 pub struct Parts {
     pub reply: Reply,
     pub kept: List,

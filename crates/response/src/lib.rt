@@ -10,7 +10,7 @@ use fd_list::List;
 use slot::Reply;
 
 // The Rust's `Response` by its stored number.
-#[derive(Drop)]
+#[derive(Clone, Copy)]
 enum Kind {
     Success,
     Error,
@@ -19,7 +19,7 @@ enum Kind {
 }
 
 // What a front returns, the Rust's `Result<usize>`: a number, or an errno.
-#[derive(Drop)]
+#[derive(Clone, Copy)]
 pub enum FrontAnswer {
     Value(u64),
     Failed(u64),
@@ -29,7 +29,7 @@ pub enum FrontAnswer {
 const EIO: u64 = 5;
 
 // With the notice of a completion's kind 5.
-#[derive(Drop)]
+#[derive(Clone, Copy)]
 pub struct CallGeneric {
     pub answer: FrontAnswer,
     pub notice: bool,
@@ -37,7 +37,7 @@ pub struct CallGeneric {
 
 // `OpenResult`: a number of the scheme's own with its flags, or a description; or the reply's errno, EINVAL for flags that
 // are unknown, EIO for many descriptors.
-#[derive(Drop)]
+#[derive(Clone, Copy)]
 pub enum OpenResult {
     SchemeLocal(u64, u8),
     External(u64),

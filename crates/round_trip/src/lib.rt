@@ -1,4 +1,6 @@
 // Entries there and back, on every value: decode of encode is the entry, encode of decode the same bytes.
+#![tactic(auto)]
+
 ghost use Rattle.std.specs.Prelude.{◌≡◌, length, set};
 
 use schemev2::{Cqe, Sqe};

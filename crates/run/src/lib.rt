@@ -15,7 +15,7 @@ use state_bytes::STATE_SIZE;
 
 // The run's own answer: 0, 204 or 205, where it ended or the record begins that is no event, and how many bytes were written.
 #[repr(C)]
-#[derive(Drop)]
+#[derive(Clone, Copy)]
 pub struct RunEnd {
     pub number: u64,
     pub place: u64,

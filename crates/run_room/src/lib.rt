@@ -36,7 +36,7 @@ fn room_at(s: &[u8]) -> usize
 }
 
 // Whether what a run writes has room, and where its events end.
-#[derive(Drop)]
+#[derive(Clone, Copy)]
 pub struct Walked {
     pub fits: bool,
     pub end: usize,

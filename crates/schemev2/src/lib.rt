@@ -1,14 +1,16 @@
 // Submission and completion entries and the completion kinds (syscall/src/schemev2.rs, lines 20 to 120).
+#![tactic(auto)]
+
 ghost use Rattle.std.specs.Prelude.{◌≡◌};
 ghost use Rattle.schemev2.specs.Entry.{kind_of, extra_of, cqe_opcode_of};
 
 // The Rust's `[u64; 6]`.
 #[repr(C)]
-#[derive(Drop)]
+#[derive(Clone, Copy)]
 pub struct Args(pub u64, pub u64, pub u64, pub u64, pub u64, pub u64);
 
 #[repr(C)]
-#[derive(Drop)]
+#[derive(Clone, Copy)]
 pub struct Sqe {
     pub opcode: u8,
     pub sqe_flags: u8,
@@ -19,11 +21,11 @@ pub struct Sqe {
 
 // The Rust's `[u8; 3]`.
 #[repr(C)]
-#[derive(Drop)]
+#[derive(Clone, Copy)]
 pub struct ExtraRaw(pub u8, pub u8, pub u8);
 
 #[repr(C)]
-#[derive(Drop)]
+#[derive(Clone, Copy)]
 pub struct Cqe {
     pub flags: u8,
     pub extra_raw: ExtraRaw,
@@ -49,7 +51,7 @@ impl Cqe {
 }
 
 // The completion kinds, 0 to 5 in this order.
-#[derive(Drop)]
+#[derive(Clone, Copy)]
 pub enum CqeOpcode {
     RespondRegular,
     RespondWithFd,

@@ -1,4 +1,6 @@
 // A slot and the few ways in which one is made: `State` and `Response` of src/scheme/user.rs, lines 51 to 68.
+#![tactic(auto)]
+
 ghost use Rattle.std.specs.Prelude.{◌≡◌};
 ghost use Rattle.slot.specs.Slots.{phase_of, made_of, vacant_slot, placeholder_of, waiting_of, canceled_of, interrupted_of, responded_of, map_request_of, ended_of, with_fds_of};
 
@@ -6,7 +8,7 @@ use fd_list::List;
 
 // Pages that whoever responds has to unmap: the first page and how many.
 #[repr(C)]
-#[derive(Drop)]
+#[derive(Clone, Copy)]
 pub struct PageSpan {
     pub base: u64,
     pub count: u64,
@@ -15,7 +17,7 @@ pub struct PageSpan {
 // A stored reply: kind 0 a success (its word), 1 an error (its errno), 2 one descriptor (the description), 3 many (they
 // stand in the slot's list). `notice` is set by kind 5 of a completion.
 #[repr(C)]
-#[derive(Drop)]
+#[derive(Clone, Copy)]
 pub struct Reply {
     pub kind: u8,
     pub extra0: u8,
@@ -26,7 +28,7 @@ pub struct Reply {
 // `state` is a phase's number. The marks: a Cancel was queued or its caller killed, the caller has ended, the call has
 // returned.
 #[repr(C)]
-#[derive(Drop)]
+#[derive(Clone, Copy)]
 pub struct Slot {
     pub state: u8,
     pub caller: u32,
@@ -38,7 +40,7 @@ pub struct Slot {
     pub fds: List,
 }
 
-#[derive(Drop)]
+#[derive(Clone, Copy)]
 pub enum Phase {
     Vacant,
     Placeholder,
@@ -48,7 +50,7 @@ pub enum Phase {
 }
 
 // What a completion entry decides to become of its slot.
-#[derive(Drop)]
+#[derive(Clone, Copy)]
 pub enum Act {
     Leave,
     Store,

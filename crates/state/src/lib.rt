@@ -1,5 +1,7 @@
 // The state of the layer: a driver's own part, and the table that drivers would share. The words of the driver's queue are
 // lent beside it (crate wait_queue) and belong to the state all the same.
+#![tactic(auto)]
+
 ghost use Rattle.std.specs.Prelude.{◌≡◌};
 ghost use Rattle.state.specs.State.{fresh_state};
 
@@ -9,7 +11,7 @@ use wait_queue::WaitQueue;
 
 // The scheme number, the handles and the queue.
 #[repr(C)]
-#[derive(Drop)]
+#[derive(Clone, Copy)]
 pub struct Driver {
     pub scheme: u64,
     pub handles: Handles,
@@ -17,7 +19,7 @@ pub struct Driver {
 }
 
 #[repr(C)]
-#[derive(Drop)]
+#[derive(Clone, Copy)]
 pub struct State {
     pub driver: Driver,
     pub table: Table,

@@ -1,11 +1,13 @@
 // The status words' names, and whether a slot counts in one.
+#![tactic(auto)]
+
 ghost use Rattle.std.specs.Prelude.{◌≡◌, eqb};
 ghost use Rattle.status.specs.Status.{is_abandoned, is_in, bit};
 
 use slot::Slot;
 
 // Outstanding: a call that somebody still waits for. Orphans: the other Waiting slots.
-#[derive(Drop)]
+#[derive(Clone, Copy)]
 pub enum Status {
     Placeholder,
     Outstanding,

@@ -13,7 +13,7 @@ use schemev2::Sqe;
 use slot::Slot;
 
 // What an event answers, with at most one effect.
-#[derive(Drop)]
+#[derive(Clone, Copy)]
 pub struct Step {
     pub answer: Answer,
     pub effect: Effect,

@@ -1,5 +1,7 @@
 // The slots with the chain of vacated ones, as the slab crate keeps them (last vacated first, unused slots rising from 0),
 // and the hold counts.
+#![tactic(auto)]
+
 ghost use Rattle.std.specs.Prelude.{◌≡◌};
 ghost use Rattle.table.specs.Table.{fresh_table};
 
@@ -8,7 +10,7 @@ use slot::Slot;
 
 // `head` is the first vacant slot, `next` the one after each; a number over 63 ends the chain.
 #[repr(C)]
-#[derive(Drop)]
+#[derive(Clone, Copy)]
 pub struct Table {
     pub slots: [Slot; 64],
     pub next: [u64; 64],

@@ -1,6 +1,6 @@
 -- Taking a list entry by entry is taking it as 205 and 206 say. Assumes nothing.
 use Prim.Native.Nat.{ℕ, suc, ◌+◌, ◌-◌, ◌≤◌, ◌<◌}
-use mathlib.Core.Path.{◌≡◌, refl, sym, ap, ◌∙◌}
+use mathlib.Core.Path.{◌≡◌, refl, sym, ap, subst, ◌∙◌}
 use mathlib.Core.Bool.{Bool, true, false, cond, ◌||◌}
 use mathlib.Core.List.{List, [], ◌∷◌, map}
 use native.Mathlib.Omega.{arith}
@@ -72,7 +72,8 @@ module _ (all left : List ℕ) (d : ℕ) (ds : List ℕ) where
     where
       go : Dec (e ≡ d) → ltb (get_or left e 0) (times e (d ∷ ds)) ≡ ltb (get_or (less left d) e 0) (times e ds)
       go (yes q) =
-          rw q (rw (eq-eqb d d refl) (rw (get_or-set_same left d (get_or left d 0 - 1) 0 (in_range left d b))
+          subst (λ (y : ℕ). ltb (get_or left y 0) (times y (d ∷ ds)) ≡ ltb (get_or (less left d) y 0) (times y ds)) (sym q)
+          (rw (eq-eqb d d refl) (rw (get_or-set_same left d (get_or left d 0 - 1) 0 (in_range left d b))
           (ltb_ext (get_or left d 0) (suc (times d ds)) (get_or left d 0 - 1) (times d ds) (λ p. omega arith) (λ p. omega arith))))
       go (no q) = rw (ne_eqb d e (λ y. q (sym y))) (rw (get_or-set_other left d e (get_or left d 0 - 1) 0 q) refl)
 

@@ -1,4 +1,6 @@
 // A list of holds taken from the host's: one for each entry, all or nothing.
+#![tactic(auto)]
+
 ghost use Rattle.std.specs.Prelude.{◌≡◌, cond, ◌||◌, ltb, eqb, get_or};
 ghost use Rattle.counts.specs.Counts.{times, less_all, any};
 ghost use Rattle.holds.specs.Holds.{holds_with, held_of};
@@ -9,7 +11,7 @@ use fd_list::List;
 use holds::Holds;
 use ids::DescriptionFound;
 
-#[derive(Drop)]
+#[derive(Clone, Copy)]
 pub enum TakeAnswer {
     Taken,
     BadArgument,
@@ -17,7 +19,7 @@ pub enum TakeAnswer {
 }
 
 // A list taken. A refusal's list is empty.
-#[derive(Drop)]
+#[derive(Clone, Copy)]
 pub struct Taken {
     pub answer: TakeAnswer,
     pub list: List,
@@ -25,7 +27,7 @@ pub struct Taken {
 }
 
 // What a list is refused for, or the list.
-#[derive(Drop)]
+#[derive(Clone, Copy)]
 pub struct Looked {
     pub answer: TakeAnswer,
     pub list: List,

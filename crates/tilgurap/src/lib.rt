@@ -251,7 +251,7 @@ pub extern "C" fn tilgurap_read(words: &mut [u64; 2060], out: &mut [u8], flags: 
 
 // So many of the lent words hold effects, three to each.
 #[repr(C)]
-#[derive(Drop)]
+#[derive(Clone, Copy)]
 pub struct Completed {
     pub answer: AnswerWords,
     pub words: usize,

@@ -1,4 +1,6 @@
 // What the layer itself puts into an entry's arguments (src/scheme/user.rs).
+#![tactic(auto)]
+
 ghost use Rattle.std.specs.Prelude.{◌≡◌};
 ghost use Rattle.user_args.specs.Args.{merge_of};
 

@@ -1,17 +1,19 @@
 // The queue of submission entries (src/sync/wait_queue.rs): 128 entries, first in, first out, in a ring of words that
 // the caller lends, eight words to an entry.
+#![tactic(auto)]
+
 use answer::Answer;
 
 // The place of the oldest entry and how many are unread.
 #[repr(C)]
-#[derive(Drop)]
+#[derive(Clone, Copy)]
 pub struct WaitQueue {
     pub first: u64,
     pub len: u64,
 }
 
 // What a send answers and leaves, for the definitions.
-#[derive(Drop)]
+#[derive(Clone, Copy)]
 pub struct Sent {
     pub answer: Answer,
     pub queue: WaitQueue,

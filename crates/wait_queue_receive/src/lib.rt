@@ -1,12 +1,14 @@
 // Reading the queue of submission entries: what `receive_into_user` (src/sync/wait_queue.rs, lines 28 to 73) answers and
 // leaves. The bytes are copied where the words stand, in crate queue_words.
+#![tactic(auto)]
+
 ghost use Rattle.std.specs.Prelude.{◌≡◌, min, ◌*◌};
 ghost use Rattle.wait_queue_receive.specs.Receive.{empty_of, received_of};
 
 use answer::Answer;
 use wait_queue::WaitQueue;
 
-#[derive(Drop)]
+#[derive(Clone, Copy)]
 pub struct Received {
     pub answer: Answer,
     pub queue: WaitQueue,

@@ -14,7 +14,7 @@ use schemev2::{Args, Sqe};
 use slot::{Phase, Reply, Slot};
 
 // What a wake does: nothing, marks the call killed, queues a Cancel, hands the reply over.
-#[derive(Drop)]
+#[derive(Clone, Copy)]
 pub enum Turn {
     Stay,
     Interrupt,
@@ -22,7 +22,7 @@ pub enum Turn {
     HandOver,
 }
 
-#[derive(Drop)]
+#[derive(Clone, Copy)]
 pub struct Decided {
     pub answer: Answer,
     pub turn: Turn,

@@ -8,7 +8,7 @@ use reply_parts::Offer;
 
 // What an entry wishes of its slot: an event of its own, a reply with its tag, a description into a handle, or nothing that can be
 // had. One place then responds, whatever kind the reply has.
-#[derive(Drop)]
+#[derive(Clone, Copy)]
 pub enum Wish {
     Event(u64, u64),
     Reply(u64, Offer),

@@ -26,7 +26,7 @@ fn cqe_at(s: &[u8]) -> Cqe
 }
 
 // 0 for an accepted entry, else the refusal's number; so many words of effects.
-#[derive(Drop)]
+#[derive(Clone, Copy)]
 struct Entered {
     number: u64,
     words: usize,
@@ -77,7 +77,7 @@ fn stop(done: usize, number: u64) -> Answer
 }
 
 // So many of the lent words hold effects, three to each.
-#[derive(Drop)]
+#[derive(Clone, Copy)]
 pub struct Written {
     pub answer: Answer,
     pub words: usize,

@@ -1,0 +1,32 @@
+-- What `counts::raise_all` leaves open. Assumes nothing.
+use borrow.Author.Rules.{rules}
+use Prim.Native.Nat.{◌-◌}
+use mathlib.Core.Path.{refl}
+use native.Mathlib.Omega.{arith}
+use Rattle.counts.specs.Counts.{more, more_all}
+use Rattle.counts.proofs.Laws.{more_length}
+use Rattle.counts.proofs.Loop.{Going, turn, ended}
+use Rattle.counts.proofs.raise_all.Goals as goal
+
+pub loop-i-init : goal.loop-i-init
+loop-i-init c = (omega arith, refl, refl)
+
+pub overflow_add-i : goal.overflow_add-i
+overflow_add-i c = omega (arith, c.loop-i-test.true, c.size-n.ensures.upper_bound)
+
+pub loop-i-smaller : goal.loop-i-smaller
+loop-i-smaller c = omega (arith, c.loop-i-test.true)
+
+pub loop-i-preserved : goal.loop-i-preserved
+loop-i-preserved c = let l = c.loop-i in
+    let a = c.args in
+    let p = c.pick-d in
+    turn more more_all a.l _ c.size-n.ensures.value _ l.a l.i l.invariant (λ es d. refl) (more_length l.a) c.loop-i-test.true p.result p.ensures _ c.higher.ensures
+
+pub shape_of-a : goal.shape_of-a
+shape_of-a c = c.loop-i.invariant.1
+
+pub returns : goal.returns
+returns c = let l = c.loop-i in
+    let a = c.args in
+    ended more more_all a.l _ c.size-n.ensures.value _ l.a l.i l.invariant refl c.loop-i-test.false

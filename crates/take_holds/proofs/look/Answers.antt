@@ -1,0 +1,24 @@
+-- What `take_holds::look` leaves open. Assumes nothing.
+use Prim.Native.Nat.{◌-◌, ◌≤◌}
+use mathlib.Core.Path.{◌≡◌, sym}
+use native.Mathlib.Omega.{arith}
+use lib.Seq.{length-take-le}
+use lib.ListN.{length, drop, get_or, length-set}
+use borrow.Author.Rules.{rules}
+use Rattle.holds.proofs.Laws.{held_not, held_is}
+use Rattle.holds.specs.Holds.{holds_with}
+use Rattle.take_holds.specs.Take.{take_of}
+use Rattle.take_holds.proofs.Walk.{take_on, left_of, take_is, take_long, take_bad, take_more, take_end, told, told_none}
+use Rattle.take_holds.proofs.look.Goals as goal
+
+pub loop-i-init : goal.loop-i-init
+loop-i-init c = let a = c.args in (omega arith, search rules, take_is (holds_with a.all.now a.outside.now) a.words.now c.if-words-gt16.false)
+
+pub loop-i-preserved : goal.loop-i-preserved
+loop-i-preserved c = let a = c.args in
+    let h = holds_with a.all.now a.outside.now in
+    let l = c.loop-i in
+    let x = get_or a.words.now l.i 0 in
+    let b = c.loop-i-test.true in
+    let p = held_is a.all.now (left_of h a.words.now l.i) x _ c.held_after-next.ensures _ c.in-At.is in
+    (omega (arith, b), simp length-set l.invariant.1, take_more h l.at l.i a.words.now _ l.invariant.2 b _ p)
