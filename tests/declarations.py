@@ -33,7 +33,7 @@ C_ARGUMENTS = {"error_number": "errno"}
 
 # Where the crates say each limit: every number found has to be the same.
 LAYER_LIMITS = {
-    "ABI": [("tilgurap", r"fn tilgurap_abi\(\) -> u64\s+ensures \{ λ r\. ⌜ r ≡ (\d+) ⌝ \}"),
+    "ABI": [("tilgurap", r"fn tilgurap_abi\(\) -> u64\s+ensures \{ result ≡ (\d+) \}"),
             ("tilgurap", r"fn tilgurap_abi\(\) -> u64\s[^{]*\{[^}]*\}\s*\{\s*(\d+)\s*\}")],
     "STATE_WORDS": [("tilgurap", r"words: &(?:mut )?\[u64; (\d+)\]")],
     "QUEUE_WORDS": [("tilgurap", r"queue: &(?:mut )?\[u64; (\d+)\]")],
@@ -152,7 +152,7 @@ def c_functions(texts):
 
 
 def written_structs(text):
-    head = r"#\[repr\(C\)\]\n(?:#\[.*\]\n)*pub struct (\w+)"
+    head = r"#\[repr\(C\)\]\n(?:#\[[^\]]*\]\n)*pub struct (\w+)"
     tuples = {}
     for name, inside in re.findall(head + r"\((.*?)\);", text):
         kinds = [kind.strip().removeprefix("pub ") for kind in re.split(r",(?![^\[]*\])", inside)]
@@ -275,7 +275,7 @@ def tables(texts):
         "flag of descriptions asked for": {"the layer": layer_flags("RECV_FD_"), "tilgurap.h": c("RECV_FD_"),
                                            "entry.rs": rust_flags("entry.rs", "RecvFdFlags")},
         "flag of a new file": {"the layer": layer_flags("NEW_FD_"), "tilgurap.h": c("NEW_FD_")},
-        "answer's kind": {"the layer": {**listed(answers, r"pub fn (done|refused)\([^⌜]*⌜ r ≡ record \{ kind = (\d)"),
+        "answer's kind": {"the layer": {**listed(answers, r"pub fn (done|refused)\([^{]*\{ result ≡ record \{ kind = (\d)"),
                                         **listed(answers, r"Answer::(\w+) => AnswerWords \{ kind: (\d)")},
                           "tilgurap.h": c("ANSWER_")},
         "completion's kind": {"the layer": listed("crates/schemev2/src/lib.rt", r"(\d) => CqeOpcode::(\w+)"),
@@ -404,7 +404,7 @@ EDITS = [
     ("changed field", "crates/schemev2/src/lib.rt", "ExtraRaw(pub u8, pub u8, pub u8)", "ExtraRaw(pub u8, pub u8)", "struct Cqe"),
     ("changed field", HEADER, "uint64_t at[6];", "uint64_t at[5];", "struct Args"),
     ("changed field", FFI, "pub struct Tag(pub u64);", "pub struct Tag(pub u32);", "struct Tag"),
-    ("changed interface", EXPORTS, "⌜ r ≡ 3 ⌝ }\n{\n    3\n}", "⌜ r ≡ 4 ⌝ }\n{\n    4\n}", "limit ABI"),
+    ("changed interface", EXPORTS, "{ result ≡ 3 }\n{\n    3\n}", "{ result ≡ 4 }\n{\n    4\n}", "limit ABI"),
     ("changed interface", HEADER, "#define TILGURAP_ABI 3", "#define TILGURAP_ABI 4", "limit ABI"),
     ("changed interface", LIMITS, "ABI: u64 = 3;", "ABI: u64 = 4;", "limit in Rust ABI"),
     ("changed limit", EXPORTS, "tilgurap_open(words: &mut [u64; 2060]", "tilgurap_open(words: &mut [u64; 2061]",

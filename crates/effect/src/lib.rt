@@ -1,4 +1,6 @@
 // An effect: three 64-bit words that the host acts on (01, "What changes shape"). Kind 0 is none.
+#![tactic(auto)]
+
 ghost use Rattle.std.specs.Prelude.{◌≡◌, [], ◌≤◌, eqb, length};
 ghost use Rattle.std.proofs.lemmas.List.Edits.{sets};
 ghost use Rattle.events.specs.Outcome.{root_words};

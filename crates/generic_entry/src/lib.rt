@@ -1,5 +1,7 @@
 // The entry of `call_generic` and of `translate_std_fs_call` (src/scheme/user.rs, lines 1384 to 1429 and 2048), and the kinds of
 // file system call that are none.
+#![tactic(auto)]
+
 ghost use Rattle.std.specs.Prelude.{◌≡◌, get_or};
 ghost use Rattle.events.specs.Submit.{generic_entry, wrong_kind};
 

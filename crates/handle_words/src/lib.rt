@@ -1,4 +1,6 @@
 // The driver's handles among the words.
+#![tactic(auto)]
+
 ghost use Rattle.std.specs.Prelude.{◌≡◌, set};
 ghost use Rattle.handles.specs.Handles.{held_at, into};
 ghost use Rattle.events.specs.World.{handles_of};

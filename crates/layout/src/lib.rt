@@ -1,5 +1,7 @@
 // Where each thing stands in the state's 2,060 words (specs/Layout.antt has the definitions): no other crate names a place, and
 // only those that read and store the words use one.
+#![tactic(auto)]
+
 ghost use Rattle.std.specs.Prelude.{◌≡◌, length};
 
 // So many words to a slot, from 0 on; then the chain of vacated slots, with one for each.

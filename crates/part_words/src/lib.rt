@@ -1,4 +1,6 @@
 // Whole parts of the words, read and stored: chain, counts, handles, the queue's words (for the way between the two layouts).
+#![tactic(auto)]
+
 ghost use Rattle.std.specs.Prelude.{◌≡◌, [], ◌∷◌, ◌≤◌, ◌+◌, length, replicate};
 ghost use Rattle.std.proofs.lemmas.List.Edits.{sets};
 ghost use Rattle.events.specs.World.{table_of, holds_of, handles_of};

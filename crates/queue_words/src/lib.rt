@@ -1,4 +1,6 @@
 // The driver's scheme number and its queue among the words: one entry more, and the oldest bytes read where they stand.
+#![tactic(auto)]
+
 ghost use Rattle.std.specs.Prelude.{◌≡◌, min, ◌+◌, ◌*◌, ◌%◌, ◌≤◌, length, take};
 ghost use Rattle.std.proofs.lemmas.List.Edits.{sets};
 ghost use Rattle.schemev2.specs.Entry.{sqe_words};

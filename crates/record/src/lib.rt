@@ -1,4 +1,6 @@
 // One event as bytes: the record at the start of a slice, and its lists. What lies past the end of the slice reads as 0.
+#![tactic(auto)]
+
 ghost use Rattle.std.specs.Prelude.{◌≡◌, ◌≤◌};
 ghost use Rattle.std.proofs.lemmas.List.Edits.{sets};
 ghost use Rattle.record.specs.Record.{nine_of, record_of, tail_by, tail_of, first_by, first_at, second_at, tail_at, size_by, words_at};

@@ -1,5 +1,7 @@
 // What a reply entry brings, taken apart at its slot: the reply as it is stored (`respond`, src/scheme/user.rs, lines 926 to
 // 1008), the list that is kept and the one that goes.
+#![tactic(auto)]
+
 ghost use Rattle.std.specs.Prelude.{◌≡◌};
 ghost use Rattle.events.specs.Entry.{stored_errno, stored_result, stored_as, named_of};
 ghost use Rattle.reply_parts.specs.Parts.{offered, parts_of};

@@ -1,4 +1,6 @@
 // Slots read from the words, and the first of the chain of vacated ones. No slot reads as vacant.
+#![tactic(auto)]
+
 ghost use Rattle.std.specs.Prelude.{◌≡◌, min, ◌≤◌, ◌+◌};
 ghost use Rattle.events.specs.World.{table_of, slot_in};
 ghost use Rattle.events.specs.Submit.{table_full};

@@ -1,4 +1,6 @@
 // Slots stored in the words, given out and vacated. A store to no slot is nothing.
+#![tactic(auto)]
+
 ghost use Rattle.std.specs.Prelude.{◌≡◌, ◌<◌, ◌≤◌, ◌+◌, ◌*◌};
 ghost use Rattle.layout.specs.Layout.{one as one_of, marks_word, reply_word, low_word, high_word};
 ghost use Rattle.layout.specs.Store.{stored, put as putStore, give as giveStore, vacate as vacateStore};

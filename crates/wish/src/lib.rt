@@ -1,4 +1,6 @@
 // What a completion entry wishes, told apart once by its kind; and the handle that it names.
+#![tactic(auto)]
+
 ghost use Rattle.std.specs.Prelude.{◌≡◌};
 ghost use Rattle.wish.specs.Wishes.{handle_in, wish_of};
 

@@ -1,0 +1,17 @@
+-- The loops of `queue_words::copy`.
+use borrow.Author.Rules.{rules}
+use mathlib.Core.Path.{◌≡◌, refl}
+use Prim.Native.Nat.{◌-◌, ◌*◌, ◌/◌, ◌≤◌}
+use native.Mathlib.Omega.{arith}
+use native.Mathlib.Nat.{le_antisymm}
+use lib.ListN.{length, take}
+use lib.Seq.{sets}
+use Rattle.wait_queue.specs.Queue.{unread}
+use Rattle.queue_words.proofs.Copying.{left, words_start, again, finish}
+use Rattle.queue_words.proofs.copy.Given as goal
+
+abbrev pub invariant-loop-i : goal.invariant-loop-i
+invariant-loop-i l = (l.i ≤ l.n / 8) × (length l.out ≡ length l.initial.out) × (sets l.out (l.i * 8) (left l.q l.ring (l.q.len * 8) l.n l.i) ≡ sets l.initial.out 0 (take l.n (unread l.q l.ring)))
+
+abbrev pub decreases-loop-i : goal.decreases-loop-i
+decreases-loop-i l = l.n / 8 - l.i

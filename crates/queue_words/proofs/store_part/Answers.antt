@@ -1,0 +1,19 @@
+-- What `queue_words::store_part` leaves open. Assumes nothing.
+use mathlib.Core.Path.{◌≡◌, refl, sym, ap, ◌∙◌}
+use mathlib.Core.List.{List}
+use Prim.Native.Nat.{ℕ, ◌+◌, ◌-◌, ◌≤◌}
+use native.Mathlib.Omega.{arith}
+use native.Mathlib.Nat.{le_antisymm}
+use lib.ListN.{length, get_or, take, drop, length-set}
+use lib.Seq.{sets}
+use borrow.Author.Rules.{rules}
+use Rattle.queue_words.proofs.Copying.{part_start, part_more, part_end}
+use Rattle.queue_words.proofs.store_part.Goals as goal
+
+pub loop-k-preserved : goal.loop-k-preserved
+loop-k-preserved c = (
+  search rules,
+  length-set c.loop-k.out (c.args.at + c.loop-k.k) (get_or c.word_Bytes.result c.loop-k.k 0) ∙ c.loop-k.invariant.1,
+  part_more c.loop-k.out c.word_Bytes.result c.args.at c.args.n c.loop-k.k c.loop-k-test.true
+      (omega (arith, ap length c.word_Bytes.ensures, c.requires.0)) ∙ c.loop-k.invariant.2,
+)

@@ -1,0 +1,14 @@
+-- What `record::words_at` leaves open. Assumes nothing.
+use borrow.Author.Rules.{rules}
+use Prim.Native.Nat.{ℕ, ◌+◌, ◌-◌, ◌*◌, ◌≤◌}
+use mathlib.Core.Path.{◌≡◌, refl, subst, ap, ◌∙◌}
+use native.Mathlib.Omega.{arith}
+use lib.ListN.{length}
+use lib.Seq.{sets, length-sets}
+use Rattle.le.specs.Le.{word}
+use Rattle.record.specs.Record.{words_at}
+use Rattle.record.proofs.Laws.{grown}
+use Rattle.record.proofs.words_at.Goals as goal
+
+pub loop-i-preserved : goal.loop-i-preserved
+loop-i-preserved c = (omega (arith, c.loop-i-test.true), c.put.ensures ∙ grown c.args.out.now c.loop-i.out (λ (j : ℕ). word c.args.s.now (c.args.at + 8 * j)) c.loop-i.i c.word.result c.loop-i.invariant.1 c.word.ensures)

@@ -1,0 +1,17 @@
+-- The loops of `record::words_at`.
+use borrow.Author.Rules.{rules}
+use Prim.Native.Nat.{ℕ, ◌+◌, ◌-◌, ◌*◌, ◌≤◌}
+use mathlib.Core.Path.{◌≡◌, refl, subst, ap, ◌∙◌}
+use native.Mathlib.Omega.{arith}
+use lib.ListN.{length}
+use lib.Seq.{sets, length-sets}
+use Rattle.le.specs.Le.{word}
+use Rattle.record.specs.Record.{words_at}
+use Rattle.record.proofs.Laws.{grown}
+use Rattle.record.proofs.words_at.Given as goal
+
+abbrev pub invariant-loop-i : goal.invariant-loop-i
+invariant-loop-i l = (l.i ≤ l.m) × (l.out ≡ sets l.initial.out 0 (words_at l.s l.at l.i))
+
+abbrev pub decreases-loop-i : goal.decreases-loop-i
+decreases-loop-i l = l.m - l.i
