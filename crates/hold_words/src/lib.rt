@@ -1,4 +1,6 @@
 // Hold counts among the words: all holds of a description and the outside ones; a list looked at, taken, given back, dropped.
+#![tactic(auto)]
+
 ghost use Rattle.std.specs.Prelude.{◌≡◌, cond, ◌≤◌, length, get_or};
 ghost use Rattle.std.proofs.lemmas.List.Edits.{sets};
 ghost use Rattle.closes.specs.Closes.{only, closes};

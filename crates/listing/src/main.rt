@@ -1,8 +1,8 @@
 // The listing program: `target/bin/listing < FILE`.
 #![tactic(auto)]
 
-use libc::STDIN_FILENO;
+use std::io;
 
-fn main() {
-    listing_run::run(STDIN_FILENO);
+fn main(rt: HostRuntime) -> io::Result<()> {
+    listing_run::run(&rt, &mut rt.stdin())
 }

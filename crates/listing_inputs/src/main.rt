@@ -1,21 +1,23 @@
 // The listing on each file of data/, one after the other: tests/listing/make.py wrote them and what is to be printed.
 #![tactic(auto)]
 
-fn list(path: &[u8]) {
-    let fd = os::open_read(path);
-    if fd < 0 {
-        os::fail(path);
-        return;
+use std::fs::File;
+use std::io;
+use std::rt::Files;
+
+// A file that can't be opened is told on standard error, and the next one is taken.
+fn list(rt: &(impl Files + Print + Eprint + AllocGlobal), path: &str) -> io::Result<()> {
+    match File::open(rt, path) {
+        Ok(mut file) => listing_run::run(rt, &mut file),
+        Err(e) => eprintln!(rt; "{path}: {e}"),
     }
-    listing_run::run(fd);
-    libc::close(fd);
 }
 
-fn main() {
-    list(b"empty");
-    list(b"short");
-    list(b"kinds");
-    list(b"flags");
-    list(b"full");
-    list(b"over");
+fn main(rt: HostRuntime) -> io::Result<()> {
+    list(&rt, "empty")?;
+    list(&rt, "short")?;
+    list(&rt, "kinds")?;
+    list(&rt, "flags")?;
+    list(&rt, "full")?;
+    list(&rt, "over")
 }

@@ -1,65 +1,54 @@
-// The listing: completions from a file descriptor, at most 64 KiB, and a line for each on standard output.
+// The listing: completions from a reader, at most 64 KiB, and a line for each on standard output.
 #![tactic(auto)]
 
-ghost use Rattle.std.specs.Prelude.{◌≡◌, ◌%◌, length};
+ghost use Rattle.std.specs.Prelude.{◌≡◌, ◌%◌, length, IfOk};
 
-use libc::STDOUT_FILENO;
 use listing_line::Word;
+use std::io;
+use std::io::Read;
 
-fn field(n: u64) {
-    io::write_all(STDOUT_FILENO, b" ");
-    io::print_decimal(STDOUT_FILENO, n);
+// How many bytes are read at most.
+const MOST: u64 = 65_536;
+
+fn field(rt: &impl Print, n: u64) -> io::Result<()> {
+    print!(rt; " {n}")
 }
 
-fn print_word(word: Word) {
+fn print_word(rt: &impl Print, word: Word) -> io::Result<()> {
     match word {
-        Word::Ok => {
-            io::write_all(STDOUT_FILENO, b" ok");
-        }
-        Word::Err => {
-            io::write_all(STDOUT_FILENO, b" err");
-        }
-        Word::Bad => {
-            io::write_all(STDOUT_FILENO, b" bad");
-        }
-        Word::Num => {
-            io::write_all(STDOUT_FILENO, b" num");
-        }
+        Word::Ok => print!(rt; " ok"),
+        Word::Err => print!(rt; " err"),
+        Word::Bad => print!(rt; " bad"),
+        Word::Num => print!(rt; " num"),
     }
 }
 
-fn print_line(index: usize, s: &[u8]) {
+fn print_line(rt: &impl Print, index: usize, s: &[u8]) -> io::Result<()> {
     let line = listing_line::line_of(s);
     let shown = line.shown;
-    let word = shown.word;
-    io::print_decimal(STDOUT_FILENO, index as u64);
-    field(line.kind as u64);
-    field(line.tag as u64);
-    print_word(word);
-    field(shown.value);
-    field(line.extra as u64);
-    io::write_all(STDOUT_FILENO, b"\n");
+    print!(rt; "{index}")?;
+    field(rt, u64::from(line.kind))?;
+    field(rt, u64::from(line.tag))?;
+    print_word(rt, shown.word)?;
+    field(rt, shown.value)?;
+    field(rt, u64::from(line.extra))?;
+    println!(rt)
 }
 
 // A line for each whole entry. The bytes left over, 0 to 15, are unread and counted.
-fn print_lines(s: &[u8]) -> usize
-    ensures { result ≡ length s.now % 16 }
+fn print_lines(rt: &impl Print, s: &[u8]) -> io::Result<usize>
+    ensures { IfOk result (λ n. n ≡ length s.now % 16) }
 {
-    let n = s.len();
-    let mut at = 0;
-    while 16 <= n - at {
-        print_line(at / 16, &s[at..]);
-        at += 16;
+    for (index, entry) in s.chunks_exact(16).enumerate() {
+        print_line(rt, index, entry)?;
     }
-    n - at
+    Ok(s.len() % 16)
 }
 
-pub fn run(fd: i32) {
-    let mut buffer = io::large_buffer();
-    let n = io::read_full(fd, &mut buffer);
-    io::write_all(STDOUT_FILENO, b"entry kind tag word value extra\n");
-    let left = print_lines(&buffer[..n]);
-    io::write_all(STDOUT_FILENO, b"left");
-    field(left as u64);
-    io::write_all(STDOUT_FILENO, b"\n");
+pub fn run(rt: &(impl Print + AllocGlobal), input: &mut impl Read) -> io::Result<()> {
+    let mut bytes = Vec::new(rt.alloc());
+    input.by_ref().take(MOST).read_to_end(&mut bytes)?;
+    println!(rt; "entry kind tag word value extra")?;
+    let left = print_lines(rt, &bytes)?;
+    println!(rt; "left {left}")
 }

@@ -1,5 +1,7 @@
 // A completion entry as a plan on the slot that its tag names and on what its handle holds (`handle_parsed` and `respond`,
 // src/scheme/user.rs, lines 792 to 848 and 920 to 1008): nothing is done yet.
+#![tactic(auto)]
+
 ghost use Rattle.std.specs.Prelude.{◌≡◌, ℕ, suc, ◌&&◌, leb, eqb};
 ghost use Rattle.events.specs.Entry.{refused_of, one, respond_of, by_descriptor, obtain_entry_of, decision_of};
 ghost use Rattle.reply_parts.specs.Parts.{offered};

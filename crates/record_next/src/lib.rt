@@ -1,4 +1,6 @@
 // Whether the record at the start of a slice is an event, and its size.
+#![tactic(auto)]
+
 ghost use Rattle.std.specs.Prelude.{◌≡◌, get_or};
 ghost use Rattle.record.specs.declared.Nine.{Nine};
 ghost use Rattle.record.specs.Record.{first_table, second_table, flag_table, number_table, user_table, is_event, next_of};

@@ -1,6 +1,8 @@
 // How a reply that was handed over is read by whoever made the call (01, "Reading replies"; src/scheme/user.rs:
 // `into_regular` 71, `call_generic` 1431 to 1445, `kopenat` 1472, `kdup` 1705, `kfdwrite` 1990, `kfdread` 2027 to 2045). A reply is
 // the slot's, and its list beside it.
+#![tactic(auto)]
+
 ghost use Rattle.std.specs.Prelude.{◌≡◌};
 ghost use Rattle.events.specs.Replies.{into_regular_of, call_generic_of, notice_of, kfdwrite_of, kfdread_of, kopenat_of, kdup_of};
 ghost use Rattle.events.specs.Wake.{response_from};

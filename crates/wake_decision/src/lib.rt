@@ -1,4 +1,6 @@
 // What a wake answers and does, decided on the tag's slot (`call_inner`, src/scheme/user.rs, lines 256 to 392).
+#![tactic(auto)]
+
 ghost use Rattle.std.specs.Prelude.{◌≡◌, eqb, leb, length};
 ghost use Rattle.fd_list.specs.Lists.{numbers};
 ghost use Rattle.holds.specs.declared.Holds.{Holds};

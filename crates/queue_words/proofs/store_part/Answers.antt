@@ -13,7 +13,7 @@ use Rattle.queue_words.proofs.store_part.Goals as goal
 pub loop-k-preserved : goal.loop-k-preserved
 loop-k-preserved c = (
   search rules,
-  length-set c.loop-k.out (c.args.at + c.loop-k.k) (get_or c.word_Bytes.result c.loop-k.k 0) ∙ c.loop-k.invariant.1,
-  part_more c.loop-k.out c.word_Bytes.result c.args.at c.args.n c.loop-k.k c.loop-k-test.true
-      (omega (arith, ap length c.word_Bytes.ensures, c.requires.0)) ∙ c.loop-k.invariant.2,
+  length-set c.loop-k.out (c.args.at + c.loop-k.k) (get_or c.word_bytes-bytes.result c.loop-k.k 0) ∙ c.loop-k.invariant.1,
+  part_more c.loop-k.out c.word_bytes-bytes.result c.args.at c.args.n c.loop-k.k c.loop-k-test.true
+      (omega (arith, ap length c.word_bytes-bytes.ensures, c.requires.0)) ∙ c.loop-k.invariant.2,
 )

@@ -1,0 +1,13 @@
+-- What `hold_words::lower_in` leaves open. Assumes nothing.
+use borrow.Author.Rules.{rules}
+use Prim.Native.Nat.{ℕ}
+use mathlib.Core.List.{List}
+use Rattle.counts.specs.Counts.{less}
+use Rattle.counts.proofs.Laws.{less_length}
+use Rattle.hold_words.proofs.Parts.{counts_back}
+use Rattle.hold_words.proofs.lower_in.Goals as goal
+
+pub returns : goal.returns
+returns c = let a = c.args in
+    let p = c.counts_at-at in
+    counts_back a.s.now c.requires a.outer p.result p.ensures.value (λ (l : List ℕ). less l a.d.0) (λ (l : List ℕ). less_length l a.d.0) _ c.lower.ensures.a_after
