@@ -1,4 +1,6 @@
 // An answer's words, for hosts in other languages and for the run: an enum cannot cross to them. What an answer does not use is 0.
+#![tactic(auto)]
+
 ghost use Rattle.std.specs.Prelude.{◌≡◌, false, List as Words, ℕ};
 ghost use Rattle.effect.specs.Effect.{effect_words};
 ghost use Rattle.events.specs.Outcome.{Response, reply as replied, said_with, said};

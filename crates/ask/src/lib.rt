@@ -1,4 +1,6 @@
 // What a caller asks for: its opcode, and a list of descriptions with outside holds, which are not taken yet.
+#![tactic(auto)]
+
 ghost use Rattle.std.specs.Prelude.{◌≡◌};
 ghost use Rattle.layout.specs.Layout.{plain_of};
 ghost use Rattle.ask.specs.Asked.{refused_as, asked_of};

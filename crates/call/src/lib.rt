@@ -1,5 +1,7 @@
 // `UserInner::call` (src/scheme/user.rs, lines 195 to 254): a slot is given out and its entry queued; argument 5 is
 // overwritten with uid and gid.
+#![tactic(auto)]
+
 ghost use Rattle.effect.specs.Effect.{effect_words};
 ghost use Rattle.events.specs.Outcome.{said};
 ghost use Rattle.step.specs.Does.{Does};

@@ -53,16 +53,12 @@ module _ (verb : ℕ) (ms : List ℕ) where
   named q r = rw (q, r) refl
 
 -- the arm of neither a vacant nor a waiting slot
-pub other_phase : (p : Phase) → OneOf (1 ∷ 3 ∷ 4 ∷ []) (tag_of the_type p) → (is_vacant p ≡ false) × (is_waiting p ≡ false)
-other_phase Vacant (inl e) = absurd (omega arith)
-other_phase Vacant (inr (inl e)) = absurd (omega arith)
-other_phase Vacant (inr (inr e)) = absurd (omega arith)
-other_phase Waiting (inl e) = absurd (omega arith)
-other_phase Waiting (inr (inl e)) = absurd (omega arith)
-other_phase Waiting (inr (inr e)) = absurd (omega arith)
-other_phase Placeholder h = (refl, refl)
-other_phase Responded h = (refl, refl)
-other_phase Fmap h = (refl, refl)
+pub other_phase : (p : Phase) → (p ≡ Vacant → ⊥) → (p ≡ Waiting → ⊥) → (is_vacant p ≡ false) × (is_waiting p ≡ false)
+other_phase Vacant v w = absurd (v refl)
+other_phase Waiting v w = absurd (w refl)
+other_phase Placeholder v w = (refl, refl)
+other_phase Responded v w = (refl, refl)
+other_phase Fmap v w = (refl, refl)
 
 -- only a waiting slot passes
 record Found (w : World) (verb : ℕ) (ms : List ℕ) (k : ℕ) (v : Slot) : Type 0 where

@@ -1,5 +1,7 @@
 // The driver's descriptor calls (01, "Descriptor calls"; src/scheme/user.rs, lines 1153 to 1265): a list moved into a
 // waiting call, and its list obtained.
+#![tactic(auto)]
+
 ghost use Rattle.std.specs.Prelude.{◌≡◌, List as Words, ℕ, length};
 ghost use Rattle.effect.specs.Effect.{effect_words};
 ghost use Rattle.events.specs.Outcome.{said};

@@ -1,5 +1,7 @@
 // `call_generic` (src/scheme/user.rs, lines 1384 to 1429) with opcode Call, and `translate_std_fs_call` (line 2048), which
 // comes to it with opcode StdFsCall.
+#![tactic(auto)]
+
 ghost use Rattle.effect.specs.Effect.{effect_words};
 ghost use Rattle.events.specs.Outcome.{said};
 ghost use Rattle.step.specs.Does.{Does};

@@ -1,4 +1,6 @@
 // An entry's plan carried out on the words: its effects, the holds that it drops, its handle; and its slot.
+#![tactic(auto)]
+
 ghost use Rattle.std.specs.Prelude.{◌≡◌, ◌≤◌, min, length};
 ghost use Rattle.std.proofs.lemmas.List.Edits.{sets};
 ghost use Rattle.events.specs.World.{holds_of, handles_of};

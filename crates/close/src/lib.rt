@@ -1,4 +1,6 @@
 // `close` and `detach` (src/scheme/user.rs, lines 1641 and 1663): an entry of its own in the queue, with tag 0 and no slot.
+#![tactic(auto)]
+
 ghost use Rattle.effect.specs.Effect.{effect_words};
 ghost use Rattle.events.specs.Outcome.{said};
 ghost use Rattle.step.specs.Does.{Does};

@@ -1,4 +1,6 @@
 // The host's five events (01, "Slots and holds"): open, copy, drop, put, ended. A refusal stores nothing.
+#![tactic(auto)]
+
 ghost use Rattle.std.specs.Prelude.{◌≡◌};
 ghost use Rattle.effect.specs.Effect.{effect_words};
 ghost use Rattle.events.specs.Outcome.{said};

@@ -1,5 +1,7 @@
 // `kfdwrite` and `kfdread` (src/scheme/user.rs, lines 1958 to 2046): descriptions that are sent with a call, and a call that asks for
 // some. Each is a `call` with an opcode and arguments of its own.
+#![tactic(auto)]
+
 ghost use Rattle.std.specs.Prelude.{◌≡◌, length};
 ghost use Rattle.effect.specs.Effect.{effect_words};
 ghost use Rattle.events.specs.Outcome.{said};

@@ -1,4 +1,6 @@
 // The state as a struct, read from its words, and the words of such a state; the one is the inverse of the other (specs, Inverse).
+#![tactic(auto)]
+
 ghost use Rattle.std.specs.Prelude.{◌≡◌, length, replicate};
 ghost use Rattle.std.proofs.lemmas.List.Edits.{sets};
 ghost use Rattle.events.specs.World.{world, table_of};

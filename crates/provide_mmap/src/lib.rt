@@ -1,5 +1,7 @@
 // Map supply (01, "Map supply"; `ProvideMmap` in `handle_parsed`, src/scheme/user.rs, lines 849 to 919): it alone vacates a
 // map request's slot. It has no effects.
+#![tactic(auto)]
+
 ghost use Rattle.effect.specs.Effect.{effect_words};
 ghost use Rattle.events.specs.Outcome.{said};
 ghost use Rattle.step.specs.Does.{Does};

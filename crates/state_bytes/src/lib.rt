@@ -1,4 +1,6 @@
 // What a run writes of the state at its end, into bytes that are lent. What lies past the end is not stored.
+#![tactic(auto)]
+
 ghost use Rattle.std.specs.Prelude.{◌≡◌, ◌≤◌, length};
 ghost use Rattle.std.specs.Int.Count.{ones as ones_in};
 ghost use Rattle.std.proofs.lemmas.List.Edits.{sets};

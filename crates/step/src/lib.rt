@@ -1,4 +1,6 @@
 // The ends that events share: an answer with no effect; an entry of its own queued; a slot given out, or changed, and its entry queued.
+#![tactic(auto)]
+
 ghost use Rattle.std.specs.Prelude.{◌≡◌, [], ◌∷◌, min};
 ghost use Rattle.effect.specs.Effect.{effect_words};
 ghost use Rattle.events.specs.World.{table_of};

@@ -1,61 +1,58 @@
 // 01's values for a read: one entry queued, length 100; two queued, length 100; and what an empty queue answers.
-use libc::STDOUT_FILENO;
+#![tactic(auto)]
+
 use schemev2::{Args, Sqe};
+use std::io;
 use wait_queue_receive::Received;
 
-fn number(n: u64) {
-    io::print_decimal(STDOUT_FILENO, n);
+fn number(rt: &impl Print, n: u64) -> io::Result<()> {
+    print!(rt; "{n}")
 }
 
 // The answer, and how many entries are left.
-fn show(received: Received) {
-    let answer = received.answer;
-    let queue = received.queue;
-    let words = answer_words::words(answer);
-    let kind = words.kind;
-    match kind {
+fn show(rt: &impl Print, received: Received) -> io::Result<()> {
+    let words = answer_words::words(received.answer);
+    match words.kind {
         0 => {
-            io::write_all(STDOUT_FILENO, b"bytes ");
-            number(words.value);
+            print!(rt; "bytes ")?;
+            number(rt, words.value)?;
         }
         1 => {
-            io::write_all(STDOUT_FILENO, b"refused ");
-            number(words.value);
+            print!(rt; "refused ")?;
+            number(rt, words.value)?;
         }
-        _ => {
-            io::write_all(STDOUT_FILENO, b"would wait");
-        }
+        _ => print!(rt; "would wait")?,
     }
-    io::write_all(STDOUT_FILENO, b", left ");
-    number(queue.len);
-    io::write_all(STDOUT_FILENO, b"\n");
+    print!(rt; ", left ")?;
+    number(rt, received.queue.len)?;
+    println!(rt)
 }
 
 fn wide(b: u8) -> u64 {
-    b as u64
+    u64::from(b)
 }
 
 // The last byte of the first entry and the one after it.
-fn around(out: &[u8]) {
+fn around(rt: &impl Print, out: &[u8]) -> io::Result<()> {
     if out.len() < 65 {
-        return;
+        return Ok(());
     }
-    io::write_all(STDOUT_FILENO, b"  bytes ");
-    number(wide(out[63]));
-    io::write_all(STDOUT_FILENO, b" and ");
-    number(wide(out[64]));
-    io::write_all(STDOUT_FILENO, b"\n");
+    print!(rt; "  bytes ")?;
+    number(rt, wide(out[63]))?;
+    print!(rt; " and ")?;
+    number(rt, wide(out[64]))?;
+    println!(rt)
 }
 
-fn shown(s: &[u64; 2060]) {
+fn shown(rt: &impl Print, s: &[u64; 2060]) -> io::Result<()> {
     let mut out = [255; 100];
-    show(queue_words::receive(s, &mut out, 0));
-    around(&out);
+    show(rt, queue_words::receive(s, &mut out, 0))?;
+    around(rt, &out)
 }
 
 // A non-blocking read.
-fn none(s: &[u64; 2060], out: &mut [u8]) {
-    show(queue_words::receive(s, out, 0x0004_0000));
+fn none(rt: &impl Print, s: &[u64; 2060], out: &mut [u8]) -> io::Result<()> {
+    show(rt, queue_words::receive(s, out, 0x0004_0000))
 }
 
 fn queued(s: &mut [u64; 2060], pid: u64) {
@@ -70,20 +67,20 @@ fn queued(s: &mut [u64; 2060], pid: u64) {
 }
 
 // A state's words that are all 0 have an empty queue.
-fn main() {
+fn main(rt: HostRuntime) -> io::Result<()> {
     let mut s = [0; 2060];
     queued(&mut s, 0x1111_1111_1111_1111);
-    shown(&s);
+    shown(&rt, &s)?;
     queued(&mut s, 0x2222_2222_2222_2222);
-    shown(&s);
+    shown(&rt, &s)?;
     let empty = [0; 2060];
-    shown(&empty);
-    let mut nothing = [0; 1];
-    none(&empty, &mut nothing[..0]);
+    shown(&rt, &empty)?;
+    let mut nothing = [0; 0];
+    none(&rt, &empty, &mut nothing)?;
     let mut short = [0; 1];
-    none(&empty, &mut short);
+    none(&rt, &empty, &mut short)?;
     let mut less = [0; 63];
-    none(&empty, &mut less);
+    none(&rt, &empty, &mut less)?;
     let mut whole = [0; 64];
-    none(&empty, &mut whole);
+    none(&rt, &empty, &mut whole)
 }

@@ -1,0 +1,10 @@
+-- What `call_generic::translate_std_fs_call` leaves open. Assumes nothing.
+use borrow.Author.Rules.{rules}
+use Rattle.call_generic.proofs.Cases.{few_words, no_kind, translated}
+use Rattle.step.proofs.Tests.{is}
+use Rattle.events.specs.Outcome.{said}
+use mathlib.Core.Path.{ap}
+use Rattle.call_generic.proofs.translate_std_fs_call.Goals as goal
+
+pub returns : goal.returns
+returns c = let a = c.args in translated a.s.now _ a.caller a.pid a.fds.now a.base a.len a.metadata.now _ _ _ c.std_fs_call.ensures c.if-metadata-lt3.false (is c.is_wrong_kind.ensures c.if-is_wrong_kind.false) c.call_with.ensures
