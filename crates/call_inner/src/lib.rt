@@ -1,4 +1,6 @@
 // One turn of `call_inner`'s loop, a wake (src/scheme/user.rs, lines 256 to 392).
+#![tactic(auto)]
+
 ghost use Rattle.std.specs.Prelude.{◌≡◌};
 ghost use Rattle.effect.specs.Effect.{effect_words};
 ghost use Rattle.events.specs.Outcome.{said_with};

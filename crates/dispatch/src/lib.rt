@@ -1,4 +1,6 @@
 // The dispatch by kind: the function of the event that a record holds.
+#![tactic(auto)]
+
 ghost use Rattle.std.specs.Prelude.{List, ℕ};
 ghost use Rattle.effect.specs.Effect.{effect_words};
 ghost use Rattle.events.specs.Outcome.{said};

@@ -1,5 +1,7 @@
 // What a run writes of a read before the bytes that it stored, and of a write, with the words of its effects, into bytes that are
 // lent. What lies past the end is not stored.
+#![tactic(auto)]
+
 ghost use Rattle.std.specs.Prelude.{◌≡◌, [], ◌∷◌, ◌≤◌, ◌+◌, ◌*◌, length};
 ghost use Rattle.std.proofs.lemmas.List.Edits.{sets};
 ghost use Rattle.le.specs.Le.{bytes_of};

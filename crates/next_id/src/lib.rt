@@ -1,4 +1,6 @@
 // `next_id` (src/scheme/user.rs, line 185): a reserve, a Placeholder of the caller's.
+#![tactic(auto)]
+
 ghost use Rattle.effect.specs.Effect.{effect_words};
 ghost use Rattle.events.specs.Outcome.{said};
 ghost use Rattle.step.specs.Does.{Does};

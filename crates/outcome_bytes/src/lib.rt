@@ -1,5 +1,7 @@
 // What a run writes of an event with at most one effect, a wake among them: its answer and effect, into bytes that are lent.
 // What lies past the end is not stored.
+#![tactic(auto)]
+
 ghost use Rattle.std.specs.Prelude.{◌≡◌, [], ◌∷◌, ◌++◌, ◌≤◌, ◌+◌, ◌*◌, length};
 ghost use Rattle.std.proofs.lemmas.List.Edits.{sets};
 ghost use Rattle.fd_list.specs.Lists.{numbers};

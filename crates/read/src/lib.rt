@@ -1,4 +1,6 @@
 // `read` (src/scheme/user.rs, lines 727 to 741; 01, "Queue"): the driver reads its queue's unread bytes. It has no effects.
+#![tactic(auto)]
+
 ghost use Rattle.std.specs.Prelude.{◌≡◌, [], length};
 ghost use Rattle.std.proofs.lemmas.List.Edits.{sets};
 ghost use Rattle.events.specs.Outcome.{said};

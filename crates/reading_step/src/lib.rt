@@ -1,4 +1,6 @@
 // The readings of a reply and of an error word, told in words.
+#![tactic(auto)]
+
 ghost use Rattle.std.specs.Prelude.{◌≡◌};
 ghost use Rattle.answer_words.specs.Words.{words_of};
 ghost use Rattle.error.specs.Errors.{demux_of, result_answer};

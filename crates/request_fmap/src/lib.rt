@@ -1,4 +1,6 @@
 // `request_fmap` (src/scheme/user.rs, lines 756 to 791): a map request. It is no call, and its offset stays out of the entry.
+#![tactic(auto)]
+
 ghost use Rattle.effect.specs.Effect.{effect_words};
 ghost use Rattle.events.specs.Outcome.{said};
 ghost use Rattle.step.specs.Does.{Does};

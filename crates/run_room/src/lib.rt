@@ -1,5 +1,7 @@
 // Whether the output that a run is given has room for all that it may write, and where its events end: told from the records alone,
 // before the first event.
+#![tactic(auto)]
+
 ghost use Rattle.std.specs.Prelude.{◌≡◌, ◌-◌, ◌≤◌, min, length, drop};
 ghost use Rattle.record.specs.Record.{record_of};
 ghost use Rattle.run_room.specs.Room.{room_by, room_of, left_of, walked_of};

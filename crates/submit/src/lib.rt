@@ -1,5 +1,7 @@
 // A reserved call is submitted: the start of `call_inner` (src/scheme/user.rs, lines 233 to 254). Opcode, flags, arguments
 // and pid are taken as given.
+#![tactic(auto)]
+
 ghost use Rattle.std.specs.Prelude.{◌≡◌};
 ghost use Rattle.effect.specs.Effect.{effect_words};
 ghost use Rattle.events.specs.Outcome.{said};

@@ -1,4 +1,6 @@
 // `write` (src/scheme/user.rs, lines 743 to 755): completions, entry after entry up to the first refusal.
+#![tactic(auto)]
+
 ghost use Rattle.std.specs.Prelude.{◌≡◌, true, ◌<◌, ◌≤◌, length};
 ghost use Rattle.schemev2.specs.Entry.{cqe_of};
 ghost use Rattle.events.specs.Outcome.{said};

@@ -1,0 +1,18 @@
+-- What `lent_bytes::put_words` leaves open. Assumes nothing.
+use borrow.Author.Rules.{rules}
+use Prim.Native.Nat.{ℕ, ◌-◌, ◌≤◌}
+use mathlib.Core.Path.{◌≡◌, refl, ap, ◌∙◌}
+use mathlib.Core.List.{List}
+use native.Mathlib.Omega.{arith}
+use lib.ListN.{get_or, length}
+use lib.Seq.{sets, length-sets}
+use Rattle.record.specs.Record.{each}
+use Rattle.le.specs.Le.{bytes_of}
+use Rattle.record.proofs.Each.{word_more, each_all}
+use Rattle.lent_bytes.proofs.put_words.Goals as goal
+
+pub loop-i-preserved : goal.loop-i-preserved
+loop-i-preserved c = (omega (arith, c.loop-i-test.true), word_more c.args.out.now c.loop-i.out _ (λ (j : ℕ). get_or c.args.ws.now j 0) c.loop-i.i _ c.args.at _ c.loop-i.invariant.1 refl refl c.put8.ensures)
+
+pub returns : goal.returns
+returns c = c.loop-i.invariant.1 ∙ ap (λ (b : List ℕ). sets c.args.out.now c.args.at (bytes_of (b))) (ap (each (λ (j : ℕ). get_or c.args.ws.now j 0)) (let z : c.loop-i.i ≡ length c.args.ws.now = omega (arith, c.loop-i-test.false, c.loop-i.invariant.0) in z) ∙ each_all c.args.ws.now)

@@ -1,0 +1,7 @@
+-- What `outcome_bytes::put_effect` leaves open. Assumes nothing.
+use borrow.Author.Rules.{rules}
+use Rattle.outcome_bytes.proofs.Laws.{no_effect, one_effect}
+use Rattle.outcome_bytes.proofs.put_effect.Goals as goal
+
+pub returns-clause-out_after : goal.returns-clause-out_after
+returns-clause-out_after c = (one_effect c.args.e c.args.out.now _ _ c.args.at c.if-kind-eq0.false c.put_two.ensures c.put_two-2.ensures).0
