@@ -1,5 +1,7 @@
 // A run as one function: events as bytes in, what each answered and the state at the end as bytes out. Its state is one array of
 // words, which each event changes in place.
+#![tactic(auto)]
+
 ghost use Rattle.std.specs.Prelude.{◌≡◌, false, List, ℕ, ◌+◌, ◌-◌, ◌*◌, ◌≤◌, ◌<◌, min, length};
 ghost use Rattle.std.proofs.lemmas.List.Edits.{sets};
 ghost use Rattle.record.specs.Record.{record_of, first_at, second_at, tail_at, tail_of, words_at, next_of, event_named};
