@@ -3,7 +3,6 @@ use Rattle.std.specs.Prelude.{Bool, true, false, ◌&&◌, [], ◌∷◌, ℕ, �
 use Rattle.std.specs.Int.Signed.{le_z, lt_z}
 use Rattle.answer.specs.Numbered.{Numbered, success, refused}
 use Rattle.error.specs.Reference.{as_i32, as_usize, neg_i32}
-use Rattle.error.specs.declared.Error.{Error}
 use Rattle.error.specs.declared.Result.{Result}
 use Rattle.error.specs.declared.Result.TheVariants.{Ok, Err}
 

@@ -42,7 +42,7 @@ use Rattle.events.specs.Complete.{write_rows, write_on, entries_of}
 use Rattle.events.specs.Descriptors.{request_of, request_rows, list_rows, brought_back, moved, given_up}
 use Rattle.events.specs.Supply.{wrong_pages, supplied_as, supplied_by}
 use Rattle.events.specs.Event.{DriverEvent, host_put, reserve, submit, call, fdwrite, fdread, generic, stdfs, fmap, close, detach, wake, read, write, move, obtain, supply, Event, host_open, host_copy, host_drop, host_ended, on, step}
-use Rattle.events.specs.History.{Fact, to, end, gave, took, filled, Stage, free, reserved as held_back, waits, replied, mapping, Call, book, View, tells, sends, wakes, reads, writes, moves, supplies, begins, view_of, poured, news}
+use Rattle.events.specs.History.{Fact, to, end, gave, took, filled, Stage, free, reserved as held_back, waits, replied, mapping, Call, book, View, tells, sends, reads, writes, moves, supplies, begins, view_of, poured, news}
 use Rattle.events.specs.Demand3.{Right, owes, due, cancel_bytes}
 use Rattle.events.specs.Effects.{Rest, wakes_for}
 use Rattle.events.specs.Run.{Run}

@@ -7,7 +7,7 @@ use native.Mathlib.Nat.{not-suc-le-zero, le_of_suc-le-suc}
 use lib.ListN.{get_or, set, length}
 use lib.Seq.{sets}
 use Rattle.slot.specs.declared.Slot.{Slot}
-use Rattle.wait_queue.proofs.Unread.{get_d_sets_before, get_or_sets_after, get_or_sets_in}
+use Rattle.wait_queue.proofs.Unread.{get_or_sets_before, get_or_sets_after, get_or_sets_in}
 use Rattle.layout.specs.Layout.{slot_from, slot_of, slots_from, slot_words}
 use Rattle.layout.specs.Fits.{SlotFits}
 use Rattle.layout.proofs.Back.{slot_back}
@@ -60,7 +60,7 @@ slots_store (suc k) zero at ws v r a b =
 slots_store (suc k) (suc n) at ws v r a b =
     ap (λ (j : ℕ). slots_from (suc k) at (sets ws j (slot_words v))) (next at n)
     ∙ ap₂ {C = List Slot} (λ (x : Slot) (l : List Slot). x ∷ l)
-    (slot_same ws (sets ws (12 + at + 12 * n) (slot_words v)) at (λ j p q. get_d_sets_before (slot_words v) ws (12 + at + 12 * n) j (omega (arith, q))))
+    (slot_same ws (sets ws (12 + at + 12 * n) (slot_words v)) at (λ j p q. get_or_sets_before (slot_words v) ws (12 + at + 12 * n) j (omega (arith, q))))
     (slots_store k n (12 + at) ws v r (le_of_suc-le-suc a) (omega (arith, b)))
   where
     next : (x m : ℕ) → x + 12 * suc m ≡ 12 + x + 12 * m

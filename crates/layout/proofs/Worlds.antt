@@ -14,7 +14,7 @@ use Rattle.slot.specs.declared.Slot.{Slot}
 use Rattle.slot.specs.Slots.{vacant_slot}
 use Rattle.table.specs.Table.{no_slot, stored as storedIn, given_out, vacated}
 use Rattle.wait_queue.specs.Queue.{place_of}
-use Rattle.wait_queue.proofs.Unread.{get_d_sets_before, get_or_sets_after}
+use Rattle.wait_queue.proofs.Unread.{get_or_sets_before, get_or_sets_after}
 use Rattle.events.specs.World.{World, table_of, holds_of, queue_of, handles_of, scheme_of, with_table, with_queue, queued}
 use Rattle.layout.specs.Layout.{slot_place, chain_place, head_place, all_place, outside_place, scheme_place, first_place, unread_place, handle_place, queue_place, slot_of, slot_words, slots_from, part, built, plain_of}
 use Rattle.layout.specs.Fits.{SlotFits, SlotsFit, Fits}
@@ -106,10 +106,10 @@ module _ (ws : List ℕ) where
     -- words stored from k on, behind the slots: what is before and behind them stays
     module _ (k : ℕ) (vs : List ℕ) (behind : 768 ≤ k) where
       slots_stay : slots_from 64 0 (sets ws k vs) ≡ slots_from 64 0 ws
-      slots_stay = slots_same ws (sets ws k vs) 64 0 (λ j p q. get_d_sets_before vs ws k j (omega (arith, q, behind)))
+      slots_stay = slots_same ws (sets ws k vs) 64 0 (λ j p q. get_or_sets_before vs ws k j (omega (arith, q, behind)))
 
       bef : (j : ℕ) → j < k → get_or (sets ws k vs) j 0 ≡ get_or ws j 0
-      bef j h = get_d_sets_before vs ws k j h
+      bef j h = get_or_sets_before vs ws k j h
 
       aft : (j : ℕ) → k + length vs ≤ j → get_or (sets ws k vs) j 0 ≡ get_or ws j 0
       aft j h = get_or_sets_after vs ws k j h

@@ -6,7 +6,6 @@ use Rattle.flag.specs.Flags.{within, event_flags, fobtain_fd_flags}
 use Rattle.schemev2.specs.declared.Cqe.{Cqe}
 use Rattle.schemev2.specs.declared.CqeOpcode.{CqeOpcode}
 use Rattle.schemev2.specs.Entry.{kind_of, extra_of, cqe_opcode_of}
-use Rattle.parse_cqe.specs.declared.ParsedCqe.{ParsedCqe}
 use Rattle.parse_cqe.specs.declared.ParsedCqe.TheVariants as parsed
 use Rattle.parse_cqe.specs.Parsed.{tag_of, handle_of, event_if, event_of, obtain_if, obtain_of, parsed_by, parsed_of}
 

@@ -1,12 +1,27 @@
 // The recorded runs in data/, each run again and compared byte for byte with what was recorded: docs/RECORDED.md.
-ghost use Rattle.std.specs.Prelude.{◌≡◌, ℕ, ◌%◌, ◌≤◌, true, false, length};
+#![tactic(auto)]
+
+ghost use Rattle.std.specs.Prelude.{◌≡◌, ℕ, ◌%◌, ◌≤◌, true, false, length, IfOk};
 ghost use Rattle.le.specs.Le.{word as word_of};
 ghost use Rattle.record.specs.Record.{decoded};
 ghost use Rattle.recorded.specs.Recorded.{check_of, same_of, compared_of, as_recorded_of, Recorded};
 
 use answer_words::AnswerWords;
-use libc::STDOUT_FILENO;
 use state_bytes::STATE_SIZE;
+use std::alloc::{AllocError, Global};
+use std::fs::File;
+use std::io;
+use std::io::Read;
+use std::rt::Files;
+
+// How many bytes a run's events have at most, and how many are recorded of it at most.
+const MOST: u64 = 65_536;
+
+// How many bytes a run may write.
+const OUT_SIZE: usize = 262_144;
+
+// How many words its writes are lent.
+const LENT: usize = 8192;
 
 // A file's runs so far, and the check number of its bytes. `good` until something differs or is not as it should be.
 #[derive(Clone, Copy)]
@@ -28,10 +43,32 @@ struct Compared {
     same: u64,
 }
 
+// What a run is read into, and what it writes.
+#[derive(Drop)]
+struct Buffers {
+    head: Vec<u8>,
+    events: Vec<u8>,
+    recorded: Vec<u8>,
+    out: Vec<u8>,
+    fx: Vec<u64>,
+}
+
+impl Buffers {
+    fn new(alloc: Global) -> Result<Buffers, AllocError> {
+        Ok(Buffers {
+            head: Vec::new(alloc),
+            events: Vec::new(alloc),
+            recorded: Vec::new(alloc),
+            out: vec![in alloc; 0; OUT_SIZE]?,
+            fx: vec![in alloc; 0; LENT]?,
+        })
+    }
+}
+
 fn wide(b: u8) -> u64
     ensures { (result ≡ b) × (result ≤ 255) }
 {
-    b as u64
+    u64::from(b)
 }
 
 // The bytes as the digits of one number to the base 256, modulo a prime: a single changed byte always changes it.
@@ -39,10 +76,8 @@ fn check_number(before: u64, bytes: &[u8]) -> u64
     ensures { result ≡ check_of (before % 4_294_967_291) bytes.now }
 {
     let mut check = before % 4_294_967_291;
-    let mut i = 0;
-    while i < bytes.len() {
-        check = (check * 256 + wide(bytes[i])) % 4_294_967_291;
-        i += 1;
+    for b in bytes {
+        check = (check * 256 + wide(*b)) % 4_294_967_291;
     }
     check
 }
@@ -51,17 +86,13 @@ fn check_number(before: u64, bytes: &[u8]) -> u64
 fn same(a: &[u8], b: &[u8]) -> usize
     ensures { result ≡ same_of a.now b.now }
 {
-    let mut i = 0;
-    while i < a.len() {
-        if b.len() <= i {
-            return i;
-        }
+    let n = a.len().min(b.len());
+    for i in 0..n {
         if a[i] != b[i] {
             return i;
         }
-        i += 1;
     }
-    i
+    n
 }
 
 // How many events the bytes hold, up to the first record that is none.
@@ -108,19 +139,18 @@ fn as_recorded(c: Compared, events: usize, recorded: usize) -> bool
     c.same == recorded as u64
 }
 
-fn print_field(name: &[u8], n: u64) {
-    io::write_all(STDOUT_FILENO, name);
-    io::print_decimal(STDOUT_FILENO, n);
+fn print_field(rt: &impl Print, name: &str, n: u64) -> io::Result<()> {
+    print!(rt; "{name}{n}")
 }
 
-fn print_difference(run: u64, c: Compared, recorded: usize) {
-    print_field(b" run ", run);
-    print_field(b" differs: number ", c.number);
-    print_field(b", place ", c.place);
-    print_field(b", bytes written ", c.written);
-    print_field(b", recorded ", recorded as u64);
-    print_field(b", the same up to byte ", c.same);
-    io::write_all(STDOUT_FILENO, b"\n");
+fn print_difference(rt: &impl Print, run: u64, c: Compared, recorded: usize) -> io::Result<()> {
+    print_field(rt, " run ", run)?;
+    print_field(rt, " differs: number ", c.number)?;
+    print_field(rt, ", place ", c.place)?;
+    print_field(rt, ", bytes written ", c.written)?;
+    print_field(rt, ", recorded ", recorded as u64)?;
+    print_field(rt, ", the same up to byte ", c.same)?;
+    println!(rt)
 }
 
 fn bad(t: Tally) -> Tally
@@ -131,107 +161,117 @@ fn bad(t: Tally) -> Tally
     u
 }
 
-fn cut_off(t: Tally) -> Tally {
-    print_field(b" run ", t.runs);
-    io::write_all(STDOUT_FILENO, b" is cut off or too long\n");
-    bad(t)
+fn cut_off(rt: &impl Print, t: Tally) -> io::Result<Tally> {
+    print_field(rt, " run ", t.runs)?;
+    println!(rt; " is cut off or too long")?;
+    Ok(bad(t))
 }
 
 // One run more, its bytes already read.
 fn replay(
+    rt: &impl Print,
     t: Tally,
     head: &[u8],
     events: &[u8],
     recorded: &[u8],
     out: &mut [u8],
     fx: &mut [u64],
-) -> Tally
-    ensures { result.good ≡ true → Recorded (word_of head.now 0) (length fx.old) events.now recorded.now }
+) -> io::Result<Tally>
+    ensures { IfOk result (λ u. u.good ≡ true → Recorded (word_of head.now 0) (length fx.old) events.now recorded.now) }
 {
     let c = compare(le::word(head, 0), events, recorded, out, fx);
     if !as_recorded(c, events.len(), recorded.len()) {
-        print_difference(t.runs, c, recorded.len());
-        return bad(t);
+        print_difference(rt, t.runs, c, recorded.len())?;
+        return Ok(bad(t));
     }
-    Tally {
+    Ok(Tally {
         good: true,
-        runs: std::num::wrapping_add_u64(t.runs, 1),
-        events: std::num::wrapping_add_u64(t.events, count_events(events) as u64),
-        event_bytes: std::num::wrapping_add_u64(t.event_bytes, events.len() as u64),
-        answer_bytes: std::num::wrapping_add_u64(t.answer_bytes, recorded.len() as u64),
+        runs: t.runs.wrapping_add(1),
+        events: t.events.wrapping_add(count_events(events) as u64),
+        event_bytes: t.event_bytes.wrapping_add(events.len() as u64),
+        answer_bytes: t.answer_bytes.wrapping_add(recorded.len() as u64),
         check: check_number(check_number(check_number(t.check, head), events), recorded),
-    }
+    })
+}
+
+// The next bytes of the file, fewer where it ends before.
+fn read_next(file: &mut impl Read, size: u64, into: &mut Vec<u8>) -> io::Result<()> {
+    into.clear();
+    file.by_ref().take(size).read_to_end(into)?;
+    Ok(())
 }
 
 // One run: scheme number and the two lengths, the events, what was recorded.
 fn read_run(
+    rt: &impl Print,
     t: Tally,
-    fd: i32,
-    head: &mut [u8],
-    events: &mut [u8],
-    recorded: &mut [u8],
+    file: &mut impl Read,
+    head: &mut Vec<u8>,
+    events: &mut Vec<u8>,
+    recorded: &mut Vec<u8>,
     out: &mut [u8],
     fx: &mut [u64],
-) -> Tally {
-    let got = io::read_full(fd, head);
+) -> io::Result<Tally> {
+    read_next(file, 24, head)?;
+    if head.len() < 24 {
+        return cut_off(rt, t);
+    }
     let n = le::word(head, 8);
     let m = le::word(head, 16);
-    if got < 24 {
-        return cut_off(t);
+    if n > MOST {
+        return cut_off(rt, t);
     }
-    if n > events.len() as u64 {
-        return cut_off(t);
+    if m > MOST {
+        return cut_off(rt, t);
     }
-    if m > recorded.len() as u64 {
-        return cut_off(t);
+    read_next(file, n, events)?;
+    if events.len() as u64 != n {
+        return cut_off(rt, t);
     }
-    let e = n as usize;
-    let r = m as usize;
-    if io::read_full(fd, &mut events[..e]) != e {
-        return cut_off(t);
+    read_next(file, m, recorded)?;
+    if recorded.len() as u64 != m {
+        return cut_off(rt, t);
     }
-    if io::read_full(fd, &mut recorded[..r]) != r {
-        return cut_off(t);
-    }
-    replay(t, head, &events[..e], &recorded[..r], out, fx)
+    replay(rt, t, head, events, recorded, out, fx)
 }
 
-// The same with arrays, whose lengths no loop changes.
+// The same with the buffers of a file's runs.
 fn next_run(
+    rt: &impl Print,
     t: Tally,
-    fd: i32,
-    head: &mut [u8; 24],
-    events: &mut [u8; 65536],
-    recorded: &mut [u8; 65536],
-    out: &mut [u8; 262144],
-    fx: &mut [u64; 8192],
-) -> Tally {
-    read_run(t, fd, head, events, recorded, out, fx)
+    file: &mut impl Read,
+    buffers: &mut Buffers,
+) -> io::Result<Tally> {
+    read_run(
+        rt,
+        t,
+        file,
+        &mut buffers.head,
+        &mut buffers.events,
+        &mut buffers.recorded,
+        &mut buffers.out,
+        &mut buffers.fx,
+    )
 }
 
-fn print_tally(t: Tally) {
-    print_field(b" runs ", t.runs);
-    print_field(b", events ", t.events);
-    print_field(b", bytes of events ", t.event_bytes);
-    print_field(b", bytes of answers ", t.answer_bytes);
-    print_field(b", all as recorded; check ", t.check);
-    io::write_all(STDOUT_FILENO, b"\n");
+fn print_tally(rt: &impl Print, t: Tally) -> io::Result<()> {
+    print_field(rt, " runs ", t.runs)?;
+    print_field(rt, ", events ", t.events)?;
+    print_field(rt, ", bytes of events ", t.event_bytes)?;
+    print_field(rt, ", bytes of answers ", t.answer_bytes)?;
+    print_field(rt, ", all as recorded; check ", t.check)?;
+    println!(rt)
 }
 
 // A file: how many runs, then these, and nothing behind them.
-fn replay_file(fd: i32) {
-    let mut count = [0; 8];
-    let got = io::read_full(fd, &mut count);
-    if got < 8 {
-        io::write_all(STDOUT_FILENO, b" has no count of runs\n");
-        return;
+fn replay_file(rt: &(impl Print + AllocGlobal), file: &mut impl Read) -> io::Result<()> {
+    let mut count = Vec::new(rt.alloc());
+    read_next(file, 8, &mut count)?;
+    if count.len() < 8 {
+        return println!(rt; " has no count of runs");
     }
     let runs = le::word(&count, 0);
-    let mut head = [0; 24];
-    let mut events = io::large_buffer();
-    let mut recorded = io::large_buffer();
-    let mut out = [0; 262144];
-    let mut fx = [0; 8192];
+    let mut buffers = Buffers::new(rt.alloc())?;
     let mut t = Tally {
         good: true,
         runs: 0,
@@ -240,74 +280,60 @@ fn replay_file(fd: i32) {
         answer_bytes: 0,
         check: check_number(0, &count),
     };
-    let mut i = 0;
-    while i < runs {
-        t = next_run(
-            t,
-            fd,
-            &mut head,
-            &mut events,
-            &mut recorded,
-            &mut out,
-            &mut fx,
-        );
+    for _ in 0..runs {
+        t = next_run(rt, t, file, &mut buffers)?;
         if !t.good {
-            return;
+            return Ok(());
         }
-        i += 1;
     }
-    let mut more = [0; 1];
-    if io::read_full(fd, &mut more) != 0 {
-        io::write_all(STDOUT_FILENO, b" has bytes behind its last run\n");
-        return;
+    let mut more = Vec::new(rt.alloc());
+    read_next(file, 1, &mut more)?;
+    if !more.is_empty() {
+        return println!(rt; " has bytes behind its last run");
     }
-    print_tally(t);
+    print_tally(rt, t)
 }
 
-fn replay_named(name: &[u8]) {
-    let fd = os::open_read(name);
-    if fd < 0 {
-        os::fail(name);
-        return;
+// A file that can't be opened is told on standard error, and the next one is taken.
+fn replay_named(rt: &(impl Files + Print + Eprint + AllocGlobal), name: &str) -> io::Result<()> {
+    match File::open(rt, name) {
+        Ok(mut file) => {
+            print!(rt; "{name}:")?;
+            replay_file(rt, &mut file)
+        }
+        Err(e) => eprintln!(rt; "{name}: {e}"),
     }
-    io::write_all(STDOUT_FILENO, name);
-    io::write_all(STDOUT_FILENO, b":");
-    replay_file(fd);
-    libc::close(fd);
 }
 
 fn copied(s: &mut [u64; 2060]) -> AnswerWords {
     let done = host::copy(s, 5);
-    let answer = done.answer;
-    answer_words::words(answer)
+    answer_words::words(done.answer)
 }
 
 // Copies until one is refused, no more than 65,536.
 fn copied_on(s: &mut [u64; 2060]) -> AnswerWords {
     let mut said = copied(s);
-    let mut i: u64 = 0;
-    while i < 65536 {
+    for _ in 0..65_536u64 {
         if said.kind != 0 {
             return said;
         }
         said = copied(s);
-        i += 1;
     }
     said
 }
 
-fn print_limit(kind: u64, value: u64, told: &[u8]) {
-    print_field(b"207: kind ", kind);
-    print_field(b" number ", value);
-    print_field(b", holds ", le::word(told, 48));
-    print_field(b", outside ", le::word(told, 560));
-    print_field(b", handle 0 ", le::word(told, 1032));
-    io::write_all(STDOUT_FILENO, b"\n");
+fn print_limit(rt: &impl Print, kind: u64, value: u64, told: &[u8]) -> io::Result<()> {
+    print_field(rt, "207: kind ", kind)?;
+    print_field(rt, " number ", value)?;
+    print_field(rt, ", holds ", le::word(told, 48))?;
+    print_field(rt, ", outside ", le::word(told, 560))?;
+    print_field(rt, ", handle 0 ", le::word(told, 1032))?;
+    println!(rt)
 }
 
 // 01's 207, which no file has, since a run to it has 65,536 events: description 5 is opened, copied, put into handle 0 and copied on
 // until that is refused.
-fn hold_limit() {
+fn hold_limit(rt: &impl Print) -> io::Result<()> {
     let mut s = [0; 2060];
     plain::fresh_words(7, &mut s);
     host::open(&mut s, 5);
@@ -316,12 +342,12 @@ fn hold_limit() {
     let answer = copied_on(&mut s);
     let mut told = [0; STATE_SIZE];
     state_bytes::put_state(&mut told, &s);
-    print_limit(answer.kind, answer.value, &told);
+    print_limit(rt, answer.kind, answer.value, &told)
 }
 
-fn main() {
-    replay_named(b"rust_scripts");
-    replay_named(b"rust_drawn");
-    replay_named(b"limits_of_01");
-    hold_limit();
+fn main(rt: HostRuntime) -> io::Result<()> {
+    replay_named(&rt, "rust_scripts")?;
+    replay_named(&rt, "rust_drawn")?;
+    replay_named(&rt, "limits_of_01")?;
+    hold_limit(&rt)
 }

@@ -1,52 +1,57 @@
 // 01's "15 bytes written: 0", and the run of the records on standard input: its own answer as a line, then what it wrote.
-use libc::STDOUT_FILENO;
+#![tactic(auto)]
 
-fn number(n: u64) {
-    io::print_decimal(STDOUT_FILENO, n);
+use std::io;
+use std::io::Read;
+
+// How many bytes of records are read at most, and how many a run may write.
+const MOST: usize = 65_536;
+
+fn number(rt: &impl Print, n: u64) -> io::Result<()> {
+    print!(rt; "{n}")
 }
 
-fn fifteen() {
+fn fifteen(rt: &impl Print) -> io::Result<()> {
     let mut s = [0; 2060];
     plain::fresh_words(7, &mut s);
     let bytes = [9; 15];
     let mut fx = [0; 54];
     let r = write::write(&mut s, &mut fx, &bytes);
-    let said = r.answer;
-    let answer = answer_words::words(said);
-    io::write_all(STDOUT_FILENO, b"15 bytes written: ");
-    number(answer.value);
-    io::write_all(STDOUT_FILENO, b", kind ");
-    number(answer.kind);
-    io::write_all(STDOUT_FILENO, b"\n");
+    let answer = answer_words::words(r.answer);
+    print!(rt; "15 bytes written: ")?;
+    number(rt, answer.value)?;
+    print!(rt; ", kind ")?;
+    number(rt, answer.kind)?;
+    println!(rt)
 }
 
-fn show(events: &[u8], out: &mut [u8], fx: &mut [u64]) -> usize {
+fn show(rt: &impl Print, events: &[u8], out: &mut [u8], fx: &mut [u64]) -> io::Result<usize> {
     let end = run::run(7, events, out, fx);
-    io::write_all(STDOUT_FILENO, b"number ");
-    number(end.number);
-    io::write_all(STDOUT_FILENO, b", place ");
-    number(end.place);
-    io::write_all(STDOUT_FILENO, b", written ");
-    number(end.written);
-    io::write_all(STDOUT_FILENO, b"\n");
-    let n = end.written as usize;
-    io::write_all(STDOUT_FILENO, &out[..n]);
-    end.place as usize
+    print!(rt; "number ")?;
+    number(rt, end.number)?;
+    print!(rt; ", place ")?;
+    number(rt, end.place)?;
+    print!(rt; ", written ")?;
+    number(rt, end.written)?;
+    println!(rt)?;
+    rt.write_all(&out[..end.written as usize])?;
+    Ok(end.place as usize)
 }
 
 // Where a record is no event, those before it by themselves.
-fn show_events(events: &[u8], out: &mut [u8], fx: &mut [u64]) {
-    let place = show(events, out, fx);
+fn show_events(rt: &impl Print, events: &[u8], out: &mut [u8], fx: &mut [u64]) -> io::Result<()> {
+    let place = show(rt, events, out, fx)?;
     if place < events.len() {
-        show(&events[..place], out, fx);
+        show(rt, &events[..place], out, fx)?;
     }
+    Ok(())
 }
 
-fn main() {
-    fifteen();
-    let mut input = io::large_buffer();
-    let n = io::read_full(0, &mut input);
-    let mut out = io::large_buffer();
-    let mut fx = [0; 1024];
-    show_events(&input[..n], &mut out, &mut fx);
+fn main(rt: HostRuntime) -> io::Result<()> {
+    fifteen(&rt)?;
+    let mut input = Vec::new(rt.alloc());
+    rt.stdin().take(MOST as u64).read_to_end(&mut input)?;
+    let mut out = vec![in rt.alloc(); 0; MOST]?;
+    let mut fx = vec![in rt.alloc(); 0; 1024]?;
+    show_events(&rt, &input, &mut out, &mut fx)
 }

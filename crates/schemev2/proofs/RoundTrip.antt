@@ -1,15 +1,14 @@
 -- Decode of encode is the entry, and encode of decode is the same bytes, the reserved ones zero. Assumes nothing.
-use mathlib.Core.Path.{◌≡◌, refl, sym, ap, ap₂, ◌∙◌}
+use mathlib.Core.Path.{◌≡◌, sym, ap, ap₂, ◌∙◌}
 use mathlib.Core.List.{List, [], ◌∷◌, ◌++◌}
 use Prim.Native.Nat.{ℕ, zero, suc, ◌+◌, ◌*◌, ◌/◌, ◌<◌}
-use native.Mathlib.Nat.{add-zero, add-suc, le_of_eq}
+use native.Mathlib.Nat.{add-zero, le_of_eq}
 use native.Mathlib.Omega.{arith}
-use lib.ListN.{length, drop, get_or, set, drop_of_length-le}
+use lib.ListN.{length, drop, set, drop_of_length-le}
 use lib.Seq.{drop-cons}
 use Rattle.le.specs.Le.{byte, bytes4, bytes8, bytes_of}
 use Rattle.le.proofs.Digits.{half_bytes4, word_bytes8, bytes4_half, bytes8_word, four, above}
 use Rattle.schemev2.specs.Entry.{sqe_of, sqe_bytes, sqe_words, cqe_of, cqe_bytes}
-use Rattle.schemev2.specs.declared.Args.{Args}
 use Rattle.schemev2.specs.declared.Sqe.{Sqe}
 use Rattle.schemev2.specs.declared.Cqe.{Cqe}
 

@@ -1,5 +1,5 @@
 -- A slot and the few ways in which one is made (01, "Slots and holds"; src/scheme/user.rs, lines 51 to 68).
-use Rattle.std.specs.Prelude.{Bool, true, false, List, [], ◌∷◌, ℕ, get_or}
+use Rattle.std.specs.Prelude.{true, false, [], ◌∷◌, ℕ, get_or}
 use Rattle.fd_list.specs.declared.List.{List as Fds}
 use Rattle.fd_list.specs.Lists.{list_of}
 use Rattle.slot.specs.declared.PageSpan.{PageSpan}

@@ -1,9 +1,6 @@
 -- The fresh state (01, "What changes shape"): every slot vacant, queue and handles empty, no description open, and the
 -- scheme number as given.
 use Rattle.std.specs.Prelude.{ℕ, replicate}
-use Rattle.handles.specs.declared.Handles.{Handles}
-use Rattle.wait_queue.specs.declared.WaitQueue.{WaitQueue}
-use Rattle.table.specs.declared.Table.{Table}
 use Rattle.table.specs.Table.{fresh_table}
 use Rattle.state.specs.declared.Driver.{Driver}
 use Rattle.state.specs.declared.State.{State}

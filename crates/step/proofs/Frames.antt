@@ -5,7 +5,7 @@ use mathlib.Core.List.{List}
 use native.Mathlib.Omega.{arith}
 use lib.ListN.{take, drop, length, length-take}
 use lib.Seq.{sets}
-use Rattle.wait_queue.proofs.Unread.{get_d_sets_before, get_or_sets_after}
+use Rattle.wait_queue.proofs.Unread.{get_or_sets_before, get_or_sets_after}
 use Rattle.events.specs.World.{table_of, holds_of, handles_of, scheme_of}
 use Rattle.events.specs.Outcome.{root_words, readable}
 use Rattle.flag.specs.Flags.{event_read}
@@ -28,7 +28,7 @@ module _ (ws : List ℕ) where
   -- behind a store of the outside counts
   module _ (o : List ℕ) where
     pub head_outside : (table_of (plain_of (stored ws (outside o)))).head ≡ (table_of (plain_of ws)).head
-    head_outside = sym (head_is (sets ws 904 o)) ∙ get_d_sets_before o ws 904 832 (omega arith) ∙ head_is ws
+    head_outside = sym (head_is (sets ws 904 o)) ∙ get_or_sets_before o ws 904 832 (omega arith) ∙ head_is ws
 
     pub all_outside : (holds_of (plain_of (stored ws (outside o)))).holds ≡ (holds_of (plain_of ws)).holds
     all_outside = sym (all_is (sets ws 904 o)) ∙ part_before 840 64 ws 904 o (omega arith) ∙ all_is ws

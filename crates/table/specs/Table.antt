@@ -1,7 +1,7 @@
 -- The slots with the chain of vacated ones (01, "What changes shape"): last vacated first, unused slots rising from 0;
 -- and the hold counts, which nothing here touches.
 -- `head` is the first vacant slot, `next` the one after each; a number over 63 ends the chain.
-use Rattle.std.specs.Prelude.{Bool, true, false, cond, List, [], ◌∷◌, ℕ, zero, suc, ltb, get_or, set, replicate}
+use Rattle.std.specs.Prelude.{false, cond, List, [], ◌∷◌, ℕ, zero, suc, ltb, get_or, set, replicate}
 use Rattle.holds.specs.declared.Holds.{Holds}
 use Rattle.slot.specs.declared.Slot.{Slot}
 use Rattle.slot.specs.Slots.{vacant_slot, no_span, no_reply}

@@ -2,6 +2,8 @@
 // which are changed in place; the run; the readings; the plain state; error words and entries. A host may lend any words: what is
 // promised of a step is the equation alone, and demand 3 holds of words that came from a fresh state. What is lent comes first among
 // the arguments, so that a pointer and its length cross in registers.
+#![tactic(auto)]
+
 ghost use Rattle.std.specs.Prelude.{◌≡◌, ◌≤◌, length};
 ghost use Rattle.std.proofs.lemmas.List.Edits.{sets};
 ghost use Rattle.answer.specs.Numbered.{number_of};

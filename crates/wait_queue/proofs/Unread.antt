@@ -9,7 +9,7 @@ use native.Mathlib.Nat.{le_of_suc-le-suc, div-add-mod'}
 use lib.Dec.{ltb}
 use borrow.Author.Tests.{ltb-true, ltb-false}
 use lib.ListN.{length, get_or, set, drop, length-set, length-append}
-use lib.Seq.{sets, length-sets, get_or-set_same, get_or-set_other, drop_at}
+use lib.Seq.{sets, get_or-set_same, get_or-set_other, drop_at}
 use Rattle.le.specs.Le.{bytes8, bytes_of}
 use Rattle.schemev2.specs.declared.Sqe.{Sqe}
 use Rattle.schemev2.specs.Entry.{sqe_words, sqe_bytes}
@@ -18,10 +18,10 @@ use Rattle.wait_queue.specs.declared.WaitQueue.{WaitQueue}
 use Rattle.wait_queue.specs.Queue.{word_at, words_from, unread, place_of, removed}
 
 -- a run of stores: what stands outside it and in it
-pub get_d_sets_before : (vs l : List ℕ) (k j : ℕ) → j < k → get_or (sets l k vs) j 0 ≡ get_or l j 0
-get_d_sets_before [] l k j h = refl
-get_d_sets_before (v ∷ vs) l k j h =
-    get_d_sets_before vs (set l k v) (suc k) j (omega arith) ∙ get_or-set_other l k j v 0 (λ (e : j ≡ k). omega arith)
+pub get_or_sets_before : (vs l : List ℕ) (k j : ℕ) → j < k → get_or (sets l k vs) j 0 ≡ get_or l j 0
+get_or_sets_before [] l k j h = refl
+get_or_sets_before (v ∷ vs) l k j h =
+    get_or_sets_before vs (set l k v) (suc k) j (omega arith) ∙ get_or-set_other l k j v 0 (λ (e : j ≡ k). omega arith)
 
 pub get_or_sets_after : (vs l : List ℕ) (k j : ℕ) → k + length vs ≤ j → get_or (sets l k vs) j 0 ≡ get_or l j 0
 get_or_sets_after [] l k j h = refl
@@ -31,7 +31,7 @@ get_or_sets_after (v ∷ vs) l k j h =
 pub get_or_sets_in : (vs l : List ℕ) (k i : ℕ) → i < length vs → k + length vs ≤ length l → get_or (sets l k vs) (k + i) 0 ≡ get_or vs i 0
 get_or_sets_in [] l k i h g = absurd (omega (arith, h))
 get_or_sets_in (v ∷ vs) l k zero h g =
-    ap (λ (j : ℕ). get_or (sets (set l k v) (suc k) vs) j 0) here ∙ get_d_sets_before vs (set l k v) (suc k) k (omega arith) ∙ get_or-set_same l k v 0 (omega (arith, g))
+    ap (λ (j : ℕ). get_or (sets (set l k v) (suc k) vs) j 0) here ∙ get_or_sets_before vs (set l k v) (suc k) k (omega arith) ∙ get_or-set_same l k v 0 (omega (arith, g))
   where
     here : k + 0 ≡ k
     here = omega arith
@@ -167,7 +167,7 @@ module _ (q : WaitQueue) (ws : List ℕ) (e : Sqe) (room : q.len < 128) (size : 
   old : (i : ℕ) → i < q.len * 8 → word_at longer stored i ≡ word_at q ws i
   old i h =
       ap (λ (p : ℕ). get_or stored p 0) split
-      ∙ ⊎_elim (get_d_sets_before (sqe_words e) ws (place_of q) ((q.first + i / 8) % 128 * 8 + i % 8))
+      ∙ ⊎_elim (get_or_sets_before (sqe_words e) ws (place_of q) ((q.first + i / 8) % 128 * 8 + i % 8))
       (get_or_sets_after (sqe_words e) ws (place_of q) ((q.first + i / 8) % 128 * 8 + i % 8))
       (stands q.first (i / 8) q.len (i % 8) (omega arith) (omega arith) (omega arith))
       ∙ sym (ap (λ (p : ℕ). get_or ws p 0) split)

@@ -1,6 +1,6 @@
 -- The queue of submission entries (01, "Queue"; src/sync/wait_queue.rs): a ring of 1,024 words, eight to an entry.
 -- A queue is the place of its oldest entry and how many are unread; its words are lent beside it.
-use Rattle.std.specs.Prelude.{Bool, true, false, cond, List, [], ◌∷◌, ℕ, zero, suc, ◌+◌, ◌-◌, ◌*◌, ◌/◌, ◌%◌, leb, get_or}
+use Rattle.std.specs.Prelude.{Bool, true, false, cond, List, [], ◌∷◌, ℕ, zero, suc, ◌+◌, ◌-◌, ◌*◌, ◌%◌, leb, get_or}
 use Rattle.std.proofs.lemmas.List.Edits.{sets}
 use Rattle.answer.specs.declared.Answer.TheVariants.{Done, QueueFull}
 use Rattle.le.specs.Le.{bytes_of}

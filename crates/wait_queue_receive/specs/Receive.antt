@@ -1,5 +1,5 @@
 -- Reading the queue (01, "Queue"; `receive_into_user`, src/sync/wait_queue.rs, lines 28 to 73).
-use Rattle.std.specs.Prelude.{Bool, true, false, List, ℕ, min, ◌-◌, ◌*◌, ◌/◌, ◌%◌, ltb, eqb, length, take}
+use Rattle.std.specs.Prelude.{Bool, true, false, List, ℕ, min, ◌*◌, ◌/◌, ◌%◌, ltb, eqb, length, take}
 use Rattle.std.proofs.lemmas.List.Edits.{sets}
 use Rattle.answer.specs.declared.Answer.{Answer}
 use Rattle.answer.specs.declared.Answer.TheVariants.{Bytes, WouldWait, Again, Invalid}

@@ -1,7 +1,6 @@
 -- What `call::call` leaves open. Assumes nothing.
-use borrow.Author.Rules.{rules}
 use borrow.Author.Tests.{not-true, not-false}
-use Rattle.call.proofs.Cases.{entry_is, refused, full, no_room, called}
+use Rattle.call.proofs.Cases.{entry_is, refused, called}
 use Rattle.step.proofs.Tests.{is}
 use Rattle.layout.specs.Layout.{plain_of}
 use Rattle.events.specs.Outcome.{said}

@@ -1,11 +1,9 @@
 -- What `call_fd::call_fdwrite` leaves open. Assumes nothing.
-use borrow.Author.Rules.{rules}
 use Rattle.layout.specs.Layout.{plain_of}
-use Rattle.events.specs.Outcome.{said}
 use Rattle.events.specs.World.{holds_of}
-use Rattle.event_cases.proofs.Taken.{refused_bad, refused_long, taken_good}
-use mathlib.Core.Path.{refl, sym, ap, ◌∙◌}
-use Rattle.call_fd.proofs.Cases.{bad_list_lem, long_list_lem, good_list, went}
+use Rattle.event_cases.proofs.Taken.{taken_good}
+use mathlib.Core.Path.{refl, sym, ◌∙◌}
+use Rattle.call_fd.proofs.Cases.{good_list, went}
 use Rattle.call_fd.proofs.call_fdwrite.Goals as goal
 
 pub returns-in-Taken : goal.returns-in-Taken

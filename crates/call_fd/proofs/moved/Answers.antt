@@ -1,5 +1,4 @@
 -- What `call_fd::moved` leaves open. Assumes nothing.
-use borrow.Author.Rules.{rules}
 use Rattle.events.specs.Outcome.{said}
 use Rattle.events.specs.Entry.{is_vacant, is_waiting}
 use mathlib.Core.Path.{sym, ap, ◌∙◌}

@@ -1,5 +1,4 @@
 -- What `call_generic::call_generic` leaves open. Assumes nothing.
-use borrow.Author.Rules.{rules}
 use Rattle.call_generic.proofs.Cases.{as_call}
 use Rattle.call_generic.proofs.call_generic.Goals as goal
 

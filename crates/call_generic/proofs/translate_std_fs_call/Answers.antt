@@ -1,9 +1,6 @@
 -- What `call_generic::translate_std_fs_call` leaves open. Assumes nothing.
-use borrow.Author.Rules.{rules}
-use Rattle.call_generic.proofs.Cases.{few_words, no_kind, translated}
+use Rattle.call_generic.proofs.Cases.{translated}
 use Rattle.step.proofs.Tests.{is}
-use Rattle.events.specs.Outcome.{said}
-use mathlib.Core.Path.{ap}
 use Rattle.call_generic.proofs.translate_std_fs_call.Goals as goal
 
 pub returns : goal.returns

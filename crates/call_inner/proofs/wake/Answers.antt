@@ -5,8 +5,7 @@ use Rattle.events.specs.Wake.{response_of}
 use Rattle.events.specs.Outcome.{said_with}
 use Rattle.layout.specs.Layout.{plain_of}
 use Rattle.layout.proofs.Worlds.{plain_fits}
-use Rattle.call_inner.proofs.Cases.{bad_killed, stay, killed_now, blocked_now, handed}
-use borrow.Author.Rules.{rules}
+use Rattle.call_inner.proofs.Cases.{stay, killed_now, blocked_now, handed}
 use Rattle.call_inner.proofs.wake.Goals as goal
 
 pub returns-in-Interrupt : goal.returns-in-Interrupt

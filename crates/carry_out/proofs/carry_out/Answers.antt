@@ -1,9 +1,7 @@
 -- What `carry_out::carry_out` leaves open. Assumes nothing.
-use borrow.Author.Rules.{rules}
 use Rattle.carry_out.proofs.Carried.{in_place, all_behind, all_stored, counted, all_effects}
 use Prim.Native.Nat.{ℕ}
 use mathlib.Core.List.{List}
-use native.Mathlib.Omega.{arith}
 use lib.ListN.{length}
 use Rattle.plan.specs.declared.Plan.{Plan}
 use mathlib.Core.Path.{◌≡◌, ◌∙◌}

@@ -1,6 +1,5 @@
 -- What `carry_out::move_handle` leaves open. Assumes nothing.
-use borrow.Author.Rules.{rules}
-use Rattle.carry_out.proofs.Carried.{handle_moved, handle_stays}
+use Rattle.carry_out.proofs.Carried.{handle_stays}
 use Rattle.carry_out.proofs.move_handle.Goals as goal
 
 pub returns-else-p : goal.returns-else-p

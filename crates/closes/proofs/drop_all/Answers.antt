@@ -1,13 +1,11 @@
 -- What `closes::drop_all` leaves open. Assumes nothing.
 use native.Mathlib.Omega.{arith}
 use Rattle.fd_list.proofs.Laws.{picked}
-use borrow.Author.Rules.{rules}
 use Rattle.closes.proofs.Steps.{count_more, words_more, one_close, start_words, words_length, count_end, words_end}
 use Rattle.counts.proofs.Steps.{each_more, each_end}
-use mathlib.Core.Path.{◌≡◌, refl, ap, ◌∙◌}
-use Prim.Native.Nat.{◌+◌, ◌*◌, ◌-◌, ◌≤◌, ◌<◌}
-use lib.ListN.{length, drop, length-set}
-use lib.Seq.{sets}
+use mathlib.Core.Path.{refl, ap, ◌∙◌}
+use Prim.Native.Nat.{◌≤◌, ◌<◌}
+use lib.ListN.{length, length-set}
 use Rattle.counts.specs.Counts.{less, less_all, lasts}
 use Rattle.closes.specs.Closes.{only, closes}
 use Rattle.fd_list.specs.Lists.{numbers}

@@ -1,14 +1,9 @@
 -- The loops of `closes::drop_all`.
-use native.Mathlib.Omega.{arith}
-use Rattle.fd_list.proofs.Laws.{picked}
-use borrow.Author.Rules.{rules}
-use Rattle.closes.proofs.Steps.{count_more, words_more, one_close, start_words, words_length, count_end, words_end}
-use Rattle.counts.proofs.Steps.{each_more, each_end}
-use mathlib.Core.Path.{◌≡◌, refl, ap, ◌∙◌}
-use Prim.Native.Nat.{◌+◌, ◌*◌, ◌-◌, ◌≤◌, ◌<◌}
-use lib.ListN.{length, drop, length-set}
+use mathlib.Core.Path.{◌≡◌}
+use Prim.Native.Nat.{◌+◌, ◌*◌, ◌-◌, ◌≤◌}
+use lib.ListN.{length, drop}
 use lib.Seq.{sets}
-use Rattle.counts.specs.Counts.{less, less_all, lasts}
+use Rattle.counts.specs.Counts.{less_all, lasts}
 use Rattle.closes.specs.Closes.{only, closes}
 use Rattle.fd_list.specs.Lists.{numbers}
 use Rattle.closes.proofs.drop_all.Given as goal

@@ -1,11 +1,7 @@
 -- The loops of `counts::lower_all`.
-use borrow.Author.Rules.{rules}
 use Prim.Native.Nat.{◌-◌}
-use mathlib.Core.Path.{refl}
-use native.Mathlib.Omega.{arith}
-use Rattle.counts.specs.Counts.{less, less_all}
-use Rattle.counts.proofs.Laws.{less_length}
-use Rattle.counts.proofs.Loop.{Going, turn, ended}
+use Rattle.counts.specs.Counts.{less_all}
+use Rattle.counts.proofs.Loop.{Going}
 use Rattle.counts.proofs.lower_all.Given as goal
 
 abbrev pub invariant-loop-i : goal.invariant-loop-i

@@ -1,11 +1,9 @@
 -- What `counts::raise_all` leaves open. Assumes nothing.
-use borrow.Author.Rules.{rules}
-use Prim.Native.Nat.{◌-◌}
 use mathlib.Core.Path.{refl}
 use native.Mathlib.Omega.{arith}
 use Rattle.counts.specs.Counts.{more, more_all}
 use Rattle.counts.proofs.Laws.{more_length}
-use Rattle.counts.proofs.Loop.{Going, turn, ended}
+use Rattle.counts.proofs.Loop.{turn, ended}
 use Rattle.counts.proofs.raise_all.Goals as goal
 
 pub loop-i-init : goal.loop-i-init

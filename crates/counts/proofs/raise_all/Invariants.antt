@@ -1,11 +1,7 @@
 -- The loops of `counts::raise_all`.
-use borrow.Author.Rules.{rules}
 use Prim.Native.Nat.{◌-◌}
-use mathlib.Core.Path.{refl}
-use native.Mathlib.Omega.{arith}
-use Rattle.counts.specs.Counts.{more, more_all}
-use Rattle.counts.proofs.Laws.{more_length}
-use Rattle.counts.proofs.Loop.{Going, turn, ended}
+use Rattle.counts.specs.Counts.{more_all}
+use Rattle.counts.proofs.Loop.{Going}
 use Rattle.counts.proofs.raise_all.Given as goal
 
 abbrev pub invariant-loop-i : goal.invariant-loop-i

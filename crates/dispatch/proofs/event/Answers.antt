@@ -1,8 +1,5 @@
 -- What `dispatch::event` leaves open. Assumes nothing.
-use borrow.Author.Rules.{rules}
-use Rattle.events.specs.Outcome.{said}
-use Rattle.dispatch.proofs.ByKind.{as_kind, as_supply, over}
-use mathlib.Core.Path.{refl, ap}
+use Rattle.dispatch.proofs.ByKind.{as_supply, over}
 use Rattle.dispatch.proofs.event.Goals as goal
 
 pub returns-in_default : goal.returns-in_default

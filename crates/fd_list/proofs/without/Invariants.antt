@@ -1,13 +1,10 @@
 -- The loops of `fd_list::without`.
-use native.Mathlib.Omega.{arith}
-use borrow.Author.Rules.{rules}
-use Prim.Native.Nat.{ℕ, ◌+◌, ◌-◌, ◌≤◌}
-use mathlib.Core.Path.{◌≡◌, ap, ◌∙◌}
+use Prim.Native.Nat.{◌+◌, ◌-◌, ◌≤◌}
+use mathlib.Core.Path.{◌≡◌}
 use mathlib.Core.List.{map}
 use lib.ListN.{drop}
 use lib.Seq.{sets}
-use Rattle.fd_list.specs.Lists.{numbers, blank, desc, without_of}
-use Rattle.fd_list.proofs.Laws.{more, end, without_is, without_size}
+use Rattle.fd_list.specs.Lists.{numbers, blank, desc}
 use Rattle.fd_list.proofs.without.Given as goal
 
 abbrev pub invariant-loop-i : goal.invariant-loop-i

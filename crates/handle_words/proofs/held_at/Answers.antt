@@ -1,5 +1,4 @@
 -- What `handle_words::held_at` leaves open. Assumes nothing.
-use borrow.Author.Rules.{rules}
 use Rattle.handle_words.proofs.Handles.{handle_in_lem, handle_none}
 use Rattle.handle_words.proofs.held_at.Goals as goal
 

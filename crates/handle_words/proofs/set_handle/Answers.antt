@@ -1,5 +1,4 @@
 -- What `handle_words::set_handle` leaves open. Assumes nothing.
-use borrow.Author.Rules.{rules}
 use Rattle.handle_words.proofs.Handles.{handle_set, handle_kept}
 use Rattle.handle_words.proofs.set_handle.Goals as goal
 

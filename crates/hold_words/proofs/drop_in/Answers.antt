@@ -1,5 +1,4 @@
 -- What `hold_words::drop_in` leaves open. Assumes nothing.
-use borrow.Author.Rules.{rules}
 use Rattle.closes.specs.Closes.{only, closes}
 use lib.Seq.{sets}
 use lib.ListN.{length}

@@ -1,5 +1,4 @@
 -- What `hold_words::give_back_in` leaves open. Assumes nothing.
-use borrow.Author.Rules.{rules}
 use Rattle.hold_words.proofs.Parts.{outside_back}
 use Rattle.fd_list.specs.Lists.{numbers}
 use Rattle.counts.proofs.Laws.{more_all_length}

@@ -1,5 +1,4 @@
 -- What `hold_words::held` leaves open. Assumes nothing.
-use borrow.Author.Rules.{rules}
 use Rattle.holds.specs.Holds.{held_of}
 use Prim.Native.Nat.{ℕ}
 use mathlib.Core.List.{List}

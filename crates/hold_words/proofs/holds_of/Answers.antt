@@ -1,5 +1,4 @@
 -- What `hold_words::holds_of` leaves open. Assumes nothing.
-use borrow.Author.Rules.{rules}
 use lib.ListN.{get_or}
 use Prim.Native.Nat.{ℕ}
 use mathlib.Core.List.{List}

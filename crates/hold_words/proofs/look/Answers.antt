@@ -1,5 +1,4 @@
 -- What `hold_words::look` leaves open. Assumes nothing.
-use borrow.Author.Rules.{rules}
 use Rattle.hold_words.proofs.Parts.{all_lent, outside_lent, looked}
 use Rattle.hold_words.proofs.look.Goals as goal
 

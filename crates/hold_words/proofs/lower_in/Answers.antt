@@ -1,5 +1,4 @@
 -- What `hold_words::lower_in` leaves open. Assumes nothing.
-use borrow.Author.Rules.{rules}
 use Prim.Native.Nat.{ℕ}
 use mathlib.Core.List.{List}
 use Rattle.counts.specs.Counts.{less}

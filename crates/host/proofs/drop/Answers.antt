@@ -1,5 +1,4 @@
 -- What `host::drop` leaves open. Assumes nothing.
-use borrow.Author.Rules.{rules}
 use Rattle.events.specs.Outcome.{said}
 use mathlib.Core.Path.{ap}
 use Rattle.host.proofs.Cases.{drops_none, drops}

@@ -1,13 +1,9 @@
 -- What `host::ended` leaves open. Assumes nothing.
-use borrow.Author.Rules.{rules}
-use Prim.Native.Nat.{ℕ, ◌-◌, ◌≤◌}
-use mathlib.Core.Path.{◌≡◌, refl, ap, ◌∙◌}
+use Prim.Native.Nat.{◌-◌}
+use mathlib.Core.Path.{ap, ◌∙◌}
 use native.Mathlib.Omega.{arith}
-use Rattle.events.specs.World.{slot_in}
 use Rattle.events.specs.Outcome.{said}
 use Rattle.layout.specs.Layout.{plain_of}
-use Rattle.layout.specs.Store.{stored_all}
-use Rattle.packed.specs.Stores.{marks}
 use Rattle.host.proofs.Marking.{marked_more, same_behind, all_marked}
 use Rattle.host.proofs.ended.Goals as goal
 

@@ -1,10 +1,8 @@
 -- What `lent_bytes::put_completed` leaves open. Assumes nothing.
-use native.Mathlib.Omega.{arith}
 use Rattle.le.specs.Le.{bytes_of}
 use Rattle.events.specs.Outcome.{said}
 use Rattle.outcome_bytes.specs.Output.{answer_words}
 use Rattle.outcome_bytes.proofs.Laws.{write_runs}
-use borrow.Author.Rules.{rules}
 use Rattle.lent_bytes.proofs.put_completed.Goals as goal
 
 pub returns-clause-out_after : goal.returns-clause-out_after

@@ -1,5 +1,4 @@
 -- What `opcode::try_from_raw` leaves open. Assumes nothing.
-use borrow.Author.Rules.{rules}
 use Rattle.opcode.proofs.Table.{under, over, inside, never, small}
 use Rattle.opcode.proofs.try_from_raw.Goals as goal
 

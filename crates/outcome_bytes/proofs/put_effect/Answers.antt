@@ -1,6 +1,5 @@
 -- What `outcome_bytes::put_effect` leaves open. Assumes nothing.
-use borrow.Author.Rules.{rules}
-use Rattle.outcome_bytes.proofs.Laws.{no_effect, one_effect}
+use Rattle.outcome_bytes.proofs.Laws.{one_effect}
 use Rattle.outcome_bytes.proofs.put_effect.Goals as goal
 
 pub returns-clause-out_after : goal.returns-clause-out_after

@@ -1,11 +1,10 @@
 -- What `outcome_bytes::put_fds` leaves open. Assumes nothing.
-use borrow.Author.Rules.{rules}
-use Prim.Native.Nat.{ℕ, ◌-◌, ◌≤◌}
+use Prim.Native.Nat.{ℕ, ◌-◌}
 use mathlib.Core.Path.{◌≡◌, refl, ap, ◌∙◌}
 use mathlib.Core.List.{List}
 use native.Mathlib.Omega.{arith}
 use lib.ListN.{get_or, length}
-use lib.Seq.{sets, length-sets}
+use lib.Seq.{sets}
 use Rattle.record.specs.Record.{each}
 use Rattle.le.specs.Le.{bytes_of}
 use Rattle.fd_list.specs.Lists.{desc, num, named, numbers}

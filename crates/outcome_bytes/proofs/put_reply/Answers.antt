@@ -1,5 +1,4 @@
 -- What `outcome_bytes::put_reply` leaves open. Assumes nothing.
-use borrow.Author.Rules.{rules}
 use Rattle.outcome_bytes.proofs.Laws.{regular_runs, descriptor_runs, many_runs}
 use mathlib.Core.Path.{refl}
 use Rattle.outcome_bytes.proofs.put_reply.Goals as goal

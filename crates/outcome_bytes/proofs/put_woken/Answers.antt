@@ -1,5 +1,4 @@
 -- What `outcome_bytes::put_woken` leaves open. Assumes nothing.
-use native.Mathlib.Omega.{arith}
 use mathlib.Core.Path.{ap, ◌∙◌}
 use mathlib.Core.List.{◌∷◌}
 use lib.ListN.{length}
@@ -10,7 +9,6 @@ use Rattle.events.specs.Outcome.{said_with}
 use Rattle.events.specs.Wake.{response_from}
 use Rattle.outcome_bytes.specs.Output.{answer_words}
 use Rattle.outcome_bytes.proofs.Laws.{step_runs, plain_words, reply_words}
-use borrow.Author.Rules.{rules}
 use Rattle.outcome_bytes.proofs.put_woken.Goals as goal
 
 pub returns-then-w-eq4-clause-out_after : goal.returns-then-w-eq4-clause-out_after

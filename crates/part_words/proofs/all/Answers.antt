@@ -1,5 +1,4 @@
 -- What `part_words::all` leaves open. Assumes nothing.
-use borrow.Author.Rules.{rules}
 use Rattle.layout.proofs.Worlds.{all_is}
 use mathlib.Core.Path.{◌∙◌}
 use Rattle.part_words.proofs.all.Goals as goal

@@ -1,5 +1,4 @@
 -- What `part_words::chain` leaves open. Assumes nothing.
-use borrow.Author.Rules.{rules}
 use Rattle.part_words.proofs.Copying.{chain_part}
 use mathlib.Core.Path.{◌∙◌}
 use Rattle.part_words.proofs.chain.Goals as goal

@@ -1,5 +1,4 @@
 -- What `part_words::handles` leaves open. Assumes nothing.
-use borrow.Author.Rules.{rules}
 use Rattle.layout.proofs.Worlds.{handles_is}
 use mathlib.Core.Path.{◌∙◌}
 use Rattle.part_words.proofs.handles.Goals as goal

@@ -1,5 +1,4 @@
 -- What `part_words::outside` leaves open. Assumes nothing.
-use borrow.Author.Rules.{rules}
 use Rattle.layout.proofs.Worlds.{outside_is}
 use mathlib.Core.Path.{◌∙◌}
 use Rattle.part_words.proofs.outside.Goals as goal

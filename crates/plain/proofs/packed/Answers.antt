@@ -1,5 +1,4 @@
 -- What `plain::packed` leaves open. Assumes nothing.
-use borrow.Author.Rules.{rules}
 use Rattle.plain.proofs.Laws.{all_stored}
 use Rattle.events.specs.World.{world}
 use Rattle.plain.proofs.packed.Goals as goal

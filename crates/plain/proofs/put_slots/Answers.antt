@@ -1,15 +1,13 @@
 -- What `plain::put_slots` leaves open. Assumes nothing.
 use borrow.Author.Rules.{rules}
 use Rattle.fd_list.proofs.Laws.{length_mapped}
-use Prim.Native.Nat.{ℕ, ◌*◌, ◌-◌, ◌≤◌}
-use mathlib.Core.Path.{◌≡◌, refl, sym, ap, ◌∙◌}
+use Prim.Native.Nat.{ℕ, ◌-◌}
+use mathlib.Core.Path.{◌≡◌, ap, ◌∙◌}
 use native.Mathlib.Omega.{arith}
-use lib.ListN.{length, drop, get_or}
-use lib.Seq.{sets}
+use lib.ListN.{length, get_or}
 use Rattle.table.specs.Table.{no_slot}
-use Rattle.layout.specs.Layout.{slots_words}
 use Rattle.layout.specs.Store.{stored, put}
-use Rattle.plain.proofs.Laws.{slot_no, put_more, put_end}
+use Rattle.plain.proofs.Laws.{slot_no, put_more}
 use Rattle.plain.proofs.put_slots.Goals as goal
 
 pub loop-i-preserved : goal.loop-i-preserved

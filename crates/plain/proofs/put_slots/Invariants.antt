@@ -1,15 +1,9 @@
 -- The loops of `plain::put_slots`.
-use borrow.Author.Rules.{rules}
-use Rattle.fd_list.proofs.Laws.{length_mapped}
-use Prim.Native.Nat.{ℕ, ◌*◌, ◌-◌, ◌≤◌}
-use mathlib.Core.Path.{◌≡◌, refl, sym, ap, ◌∙◌}
-use native.Mathlib.Omega.{arith}
-use lib.ListN.{length, drop, get_or}
+use Prim.Native.Nat.{◌*◌, ◌-◌, ◌≤◌}
+use mathlib.Core.Path.{◌≡◌}
+use lib.ListN.{drop}
 use lib.Seq.{sets}
-use Rattle.table.specs.Table.{no_slot}
 use Rattle.layout.specs.Layout.{slots_words}
-use Rattle.layout.specs.Store.{stored, put}
-use Rattle.plain.proofs.Laws.{slot_no, put_more, put_end}
 use Rattle.plain.proofs.put_slots.Given as goal
 
 abbrev pub invariant-loop-i : goal.invariant-loop-i

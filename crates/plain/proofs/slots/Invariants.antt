@@ -1,12 +1,9 @@
 -- The loops of `plain::slots`.
-use borrow.Author.Rules.{rules}
 use Prim.Native.Nat.{◌-◌, ◌≤◌}
-use mathlib.Core.Path.{◌≡◌, refl, ap, ◌∙◌}
-use native.Mathlib.Omega.{arith}
-use lib.ListN.{length, take, length-set}
-use Rattle.events.specs.World.{table_of, slot_in}
+use mathlib.Core.Path.{◌≡◌}
+use lib.ListN.{length, take}
+use Rattle.events.specs.World.{table_of}
 use Rattle.layout.specs.Layout.{plain_of}
-use Rattle.plain.proofs.Laws.{slot_no, read_more, read_end}
 use Rattle.plain.proofs.slots.Given as goal
 
 abbrev pub invariant-loop-i : goal.invariant-loop-i

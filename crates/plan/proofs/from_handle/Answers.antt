@@ -1,5 +1,4 @@
 -- What `plan::from_handle` leaves open. Assumes nothing.
-use borrow.Author.Rules.{rules}
 use Rattle.plan.proofs.Laws.{given_over, turned_out}
 use mathlib.Core.Path.{refl}
 use Rattle.plan.proofs.from_handle.Goals as goal

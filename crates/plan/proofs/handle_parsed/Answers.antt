@@ -1,6 +1,5 @@
 -- What `plan::handle_parsed` leaves open. Assumes nothing.
-use borrow.Author.Rules.{rules}
-use Rattle.plan.proofs.Laws.{asked, event_is}
+use Rattle.plan.proofs.Laws.{asked}
 use Rattle.plan.proofs.handle_parsed.Goals as goal
 
 pub returns-in-Reply : goal.returns-in-Reply

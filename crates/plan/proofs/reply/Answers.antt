@@ -1,5 +1,4 @@
 -- What `plan::reply` leaves open. Assumes nothing.
-use borrow.Author.Rules.{rules}
 use Rattle.plan.proofs.Laws.{offered_is, held_by, responds}
 use Rattle.plan.proofs.reply.Goals as goal
 

@@ -1,13 +1,9 @@
 -- What `queue_words::copy` leaves open. Assumes nothing.
 use borrow.Author.Rules.{rules}
-use mathlib.Core.Path.{◌≡◌, refl}
-use Prim.Native.Nat.{◌-◌, ◌*◌, ◌/◌, ◌≤◌}
+use Prim.Native.Nat.{◌*◌}
 use native.Mathlib.Omega.{arith}
 use native.Mathlib.Nat.{le_antisymm}
-use lib.ListN.{length, take}
-use lib.Seq.{sets}
-use Rattle.wait_queue.specs.Queue.{unread}
-use Rattle.queue_words.proofs.Copying.{left, words_start, again, finish}
+use Rattle.queue_words.proofs.Copying.{again, finish}
 use Rattle.queue_words.proofs.copy.Goals as goal
 
 pub loop-i-preserved : goal.loop-i-preserved

@@ -1,13 +1,10 @@
 -- The loops of `queue_words::copy`.
-use borrow.Author.Rules.{rules}
-use mathlib.Core.Path.{◌≡◌, refl}
+use mathlib.Core.Path.{◌≡◌}
 use Prim.Native.Nat.{◌-◌, ◌*◌, ◌/◌, ◌≤◌}
-use native.Mathlib.Omega.{arith}
-use native.Mathlib.Nat.{le_antisymm}
 use lib.ListN.{length, take}
 use lib.Seq.{sets}
 use Rattle.wait_queue.specs.Queue.{unread}
-use Rattle.queue_words.proofs.Copying.{left, words_start, again, finish}
+use Rattle.queue_words.proofs.Copying.{left}
 use Rattle.queue_words.proofs.copy.Given as goal
 
 abbrev pub invariant-loop-i : goal.invariant-loop-i

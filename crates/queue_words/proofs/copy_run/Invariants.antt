@@ -1,11 +1,9 @@
 -- The loops of `queue_words::copy_run`.
-use borrow.Author.Rules.{rules}
-use mathlib.Core.Path.{◌≡◌, refl, sym, ◌∙◌}
+use mathlib.Core.Path.{◌≡◌}
 use Prim.Native.Nat.{◌+◌, ◌-◌, ◌*◌, ◌≤◌}
 use lib.ListN.{length, drop}
 use lib.Seq.{sets}
 use Rattle.le.specs.Le.{bytes_of}
-use Rattle.queue_words.proofs.Copying.{run_start, run_more, run_end}
 use Rattle.queue_words.proofs.copy_run.Given as goal
 
 abbrev pub invariant-loop-j : goal.invariant-loop-j

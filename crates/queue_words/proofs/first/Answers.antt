@@ -1,5 +1,4 @@
 -- What `queue_words::first` leaves open. Assumes nothing.
-use borrow.Author.Rules.{rules}
 use Rattle.layout.proofs.Worlds.{first_is}
 use Rattle.queue_words.proofs.first.Goals as goal
 

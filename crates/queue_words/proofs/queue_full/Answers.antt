@@ -1,5 +1,4 @@
 -- What `queue_words::queue_full` leaves open. Assumes nothing.
-use borrow.Author.Rules.{rules}
 use Rattle.layout.proofs.Worlds.{unread_is}
 use lib.Dec.{leb}
 use mathlib.Core.Path.{ap}

@@ -1,5 +1,4 @@
 -- What `queue_words::receive` leaves open. Assumes nothing.
-use borrow.Author.Rules.{rules}
 use Rattle.queue_words.proofs.Laws.{received}
 use Rattle.queue_words.proofs.receive.Goals as goal
 

@@ -1,5 +1,4 @@
 -- What `queue_words::scheme` leaves open. Assumes nothing.
-use borrow.Author.Rules.{rules}
 use Rattle.layout.proofs.Worlds.{scheme_is}
 use Rattle.queue_words.proofs.scheme.Goals as goal
 

@@ -1,13 +1,10 @@
 -- What `queue_words::store_part` leaves open. Assumes nothing.
-use mathlib.Core.Path.{◌≡◌, refl, sym, ap, ◌∙◌}
-use mathlib.Core.List.{List}
-use Prim.Native.Nat.{ℕ, ◌+◌, ◌-◌, ◌≤◌}
+use mathlib.Core.Path.{ap, ◌∙◌}
+use Prim.Native.Nat.{◌+◌}
 use native.Mathlib.Omega.{arith}
-use native.Mathlib.Nat.{le_antisymm}
-use lib.ListN.{length, get_or, take, drop, length-set}
-use lib.Seq.{sets}
+use lib.ListN.{length, get_or, length-set}
 use borrow.Author.Rules.{rules}
-use Rattle.queue_words.proofs.Copying.{part_start, part_more, part_end}
+use Rattle.queue_words.proofs.Copying.{part_more}
 use Rattle.queue_words.proofs.store_part.Goals as goal
 
 pub loop-k-preserved : goal.loop-k-preserved

@@ -1,13 +1,8 @@
 -- The loops of `queue_words::store_part`.
-use mathlib.Core.Path.{◌≡◌, refl, sym, ap, ◌∙◌}
-use mathlib.Core.List.{List}
-use Prim.Native.Nat.{ℕ, ◌+◌, ◌-◌, ◌≤◌}
-use native.Mathlib.Omega.{arith}
-use native.Mathlib.Nat.{le_antisymm}
-use lib.ListN.{length, get_or, take, drop, length-set}
+use mathlib.Core.Path.{◌≡◌}
+use Prim.Native.Nat.{◌+◌, ◌-◌, ◌≤◌}
+use lib.ListN.{length, take, drop}
 use lib.Seq.{sets}
-use borrow.Author.Rules.{rules}
-use Rattle.queue_words.proofs.Copying.{part_start, part_more, part_end}
 use Rattle.queue_words.proofs.store_part.Given as goal
 
 abbrev pub invariant-loop-k : goal.invariant-loop-k

@@ -1,5 +1,4 @@
 -- What `queue_words::unread` leaves open. Assumes nothing.
-use borrow.Author.Rules.{rules}
 use Rattle.layout.proofs.Worlds.{unread_is}
 use Rattle.queue_words.proofs.unread.Goals as goal
 

@@ -1,7 +1,5 @@
 -- What `record::record_at` leaves open. Assumes nothing.
-use mathlib.Core.Path.{sym, ◌∙◌}
-use lib.Seq.{length-take-le}
-use borrow.Author.Rules.{rules}
+use mathlib.Core.Path.{◌∙◌}
 use Rattle.record.proofs.Front.{record_front}
 use Rattle.record.proofs.record_at.Goals as goal
 

@@ -1,12 +1,8 @@
 -- What `record::words_at` leaves open. Assumes nothing.
-use borrow.Author.Rules.{rules}
-use Prim.Native.Nat.{ℕ, ◌+◌, ◌-◌, ◌*◌, ◌≤◌}
-use mathlib.Core.Path.{◌≡◌, refl, subst, ap, ◌∙◌}
+use Prim.Native.Nat.{ℕ, ◌+◌, ◌-◌, ◌*◌}
+use mathlib.Core.Path.{◌∙◌}
 use native.Mathlib.Omega.{arith}
-use lib.ListN.{length}
-use lib.Seq.{sets, length-sets}
 use Rattle.le.specs.Le.{word}
-use Rattle.record.specs.Record.{words_at}
 use Rattle.record.proofs.Laws.{grown}
 use Rattle.record.proofs.words_at.Goals as goal
 

@@ -1,13 +1,8 @@
 -- The loops of `record::words_at`.
-use borrow.Author.Rules.{rules}
-use Prim.Native.Nat.{ℕ, ◌+◌, ◌-◌, ◌*◌, ◌≤◌}
-use mathlib.Core.Path.{◌≡◌, refl, subst, ap, ◌∙◌}
-use native.Mathlib.Omega.{arith}
-use lib.ListN.{length}
-use lib.Seq.{sets, length-sets}
-use Rattle.le.specs.Le.{word}
+use Prim.Native.Nat.{◌-◌, ◌≤◌}
+use mathlib.Core.Path.{◌≡◌}
+use lib.Seq.{sets}
 use Rattle.record.specs.Record.{words_at}
-use Rattle.record.proofs.Laws.{grown}
 use Rattle.record.proofs.words_at.Given as goal
 
 abbrev pub invariant-loop-i : goal.invariant-loop-i

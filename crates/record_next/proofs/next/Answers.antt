@@ -1,11 +1,10 @@
 -- What `record_next::next` leaves open. Assumes nothing.
-use Rattle.record.proofs.Laws.{head_is, next_is, next_short}
+use Rattle.record.proofs.Laws.{head_is, next_is}
 use Rattle.record.specs.Record.{is_event, nine_of, record_of, size_of}
 use Rattle.record.specs.declared.Record.{Record}
 use lib.ListN.{length}
 use mathlib.Core.Bool.{Bool, cond}
 use mathlib.Core.Path.{sym, ap, ◌∙◌}
-use borrow.Author.Rules.{rules}
 use Rattle.record_next.proofs.next.Goals as goal
 
 pub returns-then-is_event : goal.returns-then-is_event

@@ -2,7 +2,6 @@
 use mathlib.Core.Path.{ap, ◌∙◌}
 use Rattle.schemev2.specs.Entry.{sqe_bytes}
 use Rattle.schemev2.proofs.RoundTrip.{sqe_encoded}
-use borrow.Author.Rules.{rules}
 use Rattle.round_trip.proofs.sqe_bytes_again.Goals as goal
 
 pub returns : goal.returns

@@ -1,6 +1,6 @@
 -- What `run::event_turn` leaves open. Assumes nothing.
 use borrow.Author.Rules.{rules}
-use Rattle.run.proofs.Turns.{list_part, list_holds}
+use Rattle.run.proofs.Turns.{list_holds}
 use Rattle.run.proofs.ByKind.{listed_told}
 use Prim.Native.Nat.{◌<◌}
 use Rattle.run.proofs.event_turn.Goals as goal

@@ -1,6 +1,5 @@
 -- What `run::read_turn` leaves open. Assumes nothing.
-use borrow.Author.Rules.{rules}
-use Rattle.run.proofs.Turns.{read_told, read_most}
+use Rattle.run.proofs.Turns.{read_told}
 use mathlib.Core.Path.{refl, ap, ◌∙◌}
 use Prim.Native.Nat.{ℕ, min, ◌*◌}
 use Rattle.run.proofs.read_turn.Goals as goal

@@ -1,7 +1,6 @@
 -- What `run::turn` leaves open. Assumes nothing.
-use borrow.Author.Rules.{rules}
 use Rattle.dispatch.proofs.ByKind.{no_more}
-use Rattle.run.proofs.ByKind.{read_fits, tail_there, turned_wake, turned_read, turned_write, turned_other}
+use Rattle.run.proofs.ByKind.{turned_other}
 use Rattle.record.specs.Record.{tail_at, tail_of}
 use lib.ListN.{length, take, drop}
 use Rattle.run.proofs.turn.Goals as goal

@@ -3,7 +3,6 @@ use Rattle.call_inner.proofs.Cases.{looked_before}
 use Rattle.events.specs.World.{slot_in}
 use Rattle.layout.specs.Layout.{plain_of}
 use Rattle.run.proofs.ByKind.{wake_told}
-use borrow.Author.Rules.{rules}
 use Rattle.run.proofs.wake_turn.Goals as goal
 
 pub returns-clause-told : goal.returns-clause-told

@@ -1,10 +1,7 @@
 -- What `run::write_turn` leaves open. Assumes nothing.
-use borrow.Author.Rules.{rules}
-use Rattle.run.proofs.Turns.{front_length, tail_is, tail_counts, write_part, write_fits, write_back, write_told, write_most}
+use Rattle.run.proofs.Turns.{tail_is, tail_counts, write_part, write_fits, write_back, write_told, write_most}
 use Rattle.record.specs.Record.{tail_at, tail_of}
 use lib.ListN.{take, drop}
-use native.Mathlib.Omega.{arith}
-use mathlib.Core.Path.{refl}
 use Rattle.run.proofs.write_turn.Goals as goal
 
 pub slice_bounds-put_completed-end : goal.slice_bounds-put_completed-end

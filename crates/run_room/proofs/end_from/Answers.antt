@@ -1,14 +1,9 @@
 -- What `run_room::end_from` leaves open. Assumes nothing.
-use native.Mathlib.Omega.{arith}
-use borrow.Author.Rules.{rules}
-use Prim.Native.Nat.{◌+◌, ◌-◌, ◌≤◌}
-use mathlib.Core.Path.{◌≡◌, sym, ap, ◌∙◌}
-use lib.ListN.{length, drop}
+use Prim.Native.Nat.{◌+◌, ◌-◌}
+use mathlib.Core.Path.{ap, ◌∙◌}
 use Rattle.word_put.proofs.Stores.{part_is}
 use Rattle.record.specs.Record.{next_of}
-use Rattle.record.proofs.Laws.{some}
-use Rattle.run_room.specs.Room.{left_of}
-use Rattle.run_room.proofs.Rooms.{place_on, left_on, end_at}
+use Rattle.run_room.proofs.Rooms.{place_on, left_on}
 use Rattle.run_room.proofs.end_from.Goals as goal
 
 pub loop-size-preserved : goal.loop-size-preserved

@@ -1,14 +1,9 @@
 -- The loops of `run_room::end_from`.
-use native.Mathlib.Omega.{arith}
-use borrow.Author.Rules.{rules}
-use Prim.Native.Nat.{◌+◌, ◌-◌, ◌≤◌}
-use mathlib.Core.Path.{◌≡◌, sym, ap, ◌∙◌}
+use Prim.Native.Nat.{◌-◌, ◌≤◌}
+use mathlib.Core.Path.{◌≡◌}
 use lib.ListN.{length, drop}
-use Rattle.word_put.proofs.Stores.{part_is}
 use Rattle.record.specs.Record.{next_of}
-use Rattle.record.proofs.Laws.{some}
 use Rattle.run_room.specs.Room.{left_of}
-use Rattle.run_room.proofs.Rooms.{place_on, left_on, end_at}
 use Rattle.run_room.proofs.end_from.Given as goal
 
 abbrev pub invariant-loop-size : goal.invariant-loop-size

@@ -1,15 +1,12 @@
 -- What `run_room::walk` leaves open. Assumes nothing.
 use Rattle.word_put.proofs.Stores.{part_is}
-use Rattle.run_room.proofs.Rooms.{Spent, too_short, spent_start, spent_short, spent_on, spent_ends, spent_place, walked, end_at, left_on}
-use Rattle.run_room.specs.Room.{room_of, left_of}
-use Rattle.record.proofs.Laws.{some}
+use Rattle.run_room.proofs.Rooms.{too_short, spent_short, spent_on, spent_place, walked, left_on}
+use Rattle.run_room.specs.Room.{room_of}
 use Rattle.record.specs.Record.{record_of, next_of}
-use lib.ListN.{length, drop}
 use native.Mathlib.Omega.{arith}
 use mathlib.Core.List.{List}
-use mathlib.Core.Path.{◌≡◌, refl, sym, ap, ◌∙◌}
-use Prim.Native.Nat.{ℕ, ◌+◌, ◌-◌, ◌≤◌}
-use borrow.Author.Rules.{rules}
+use mathlib.Core.Path.{ap, ◌∙◌}
+use Prim.Native.Nat.{ℕ, ◌+◌, ◌-◌}
 use Rattle.run_room.proofs.walk.Goals as goal
 
 pub returns-then-most-lt-STATE_SIZE : goal.returns-then-most-lt-STATE_SIZE

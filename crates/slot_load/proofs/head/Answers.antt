@@ -1,5 +1,4 @@
 -- What `slot_load::head` leaves open. Assumes nothing.
-use borrow.Author.Rules.{rules}
 use Rattle.layout.proofs.Worlds.{head_is}
 use Rattle.ids.specs.declared.SlotNo.{SlotNo}
 use mathlib.Core.Path.{ap, ◌∙◌}

@@ -1,5 +1,4 @@
 -- What `slot_load::head_word` leaves open. Assumes nothing.
-use borrow.Author.Rules.{rules}
 use Rattle.layout.proofs.Worlds.{head_is}
 use Rattle.slot_load.proofs.head_word.Goals as goal
 

@@ -1,5 +1,4 @@
 -- What `slot_load::is_full` leaves open. Assumes nothing.
-use borrow.Author.Rules.{rules}
 use Rattle.layout.proofs.Worlds.{head_is}
 use lib.Dec.{leb}
 use mathlib.Core.Path.{ap}

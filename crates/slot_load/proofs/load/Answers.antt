@@ -1,6 +1,5 @@
 -- What `slot_load::load` leaves open. Assumes nothing.
-use borrow.Author.Rules.{rules}
-use Rattle.slot_load.proofs.Laws.{loaded, no_slot_lem}
+use Rattle.slot_load.proofs.Laws.{loaded}
 use mathlib.Core.Path.{◌∙◌}
 use Rattle.slot_load.proofs.load.Goals as goal
 

@@ -1,5 +1,4 @@
 -- What `slot_load::slot_at` leaves open. Assumes nothing.
-use borrow.Author.Rules.{rules}
 use Rattle.layout.specs.Layout.{slot_of}
 use mathlib.Core.Path.{refl}
 use Rattle.slot_load.proofs.slot_at.Goals as goal

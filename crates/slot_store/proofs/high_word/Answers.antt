@@ -1,5 +1,4 @@
 -- What `slot_store::high_word` leaves open. Assumes nothing.
-use borrow.Author.Rules.{rules}
 use Rattle.slot_store.proofs.Laws.{high_is}
 use Rattle.slot_store.proofs.high_word.Goals as goal
 

@@ -1,5 +1,4 @@
 -- What `slot_store::low_word` leaves open. Assumes nothing.
-use borrow.Author.Rules.{rules}
 use Rattle.slot_store.proofs.Laws.{low_is}
 use Rattle.slot_store.proofs.low_word.Goals as goal
 

@@ -1,11 +1,10 @@
 -- What `state_bytes::put_counts` leaves open. Assumes nothing.
-use borrow.Author.Rules.{rules}
-use Prim.Native.Nat.{ℕ, ◌-◌, ◌≤◌}
+use Prim.Native.Nat.{ℕ, ◌-◌}
 use mathlib.Core.Path.{◌≡◌, refl, ap, ◌∙◌}
 use mathlib.Core.List.{List}
 use native.Mathlib.Omega.{arith}
 use lib.ListN.{get_or, length}
-use lib.Seq.{sets, length-sets}
+use lib.Seq.{sets}
 use Rattle.record.specs.Record.{each}
 use Rattle.le.specs.Le.{bytes_of}
 use Rattle.record.proofs.Each.{word_more, each_all}

@@ -1,5 +1,4 @@
 -- What `state_bytes::put_state` leaves open. Assumes nothing.
-use borrow.Author.Rules.{rules}
 use Rattle.state_bytes.proofs.Laws.{state_of, told, whole, whole_size}
 use Rattle.state_bytes.specs.StateBytes.{state_bytes}
 use Rattle.layout.specs.Layout.{plain_of}
@@ -7,7 +6,6 @@ use Rattle.le.specs.Le.{bytes_of}
 use lib.Seq.{sets}
 use lib.ListN.{length}
 use mathlib.Core.Path.{◌≡◌, sym, ap, ◌∙◌}
-use native.Mathlib.Omega.{arith}
 use mathlib.Core.List.{List}
 use Prim.Native.Nat.{ℕ}
 use Rattle.state_bytes.proofs.put_state.Goals as goal

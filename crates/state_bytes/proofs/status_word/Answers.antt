@@ -1,14 +1,6 @@
 -- What `state_bytes::status_word` leaves open. Assumes nothing.
-use borrow.Author.Rules.{rules}
-use Rattle.state_bytes.proofs.Laws.{begins, room, goes_on, small}
-use Rattle.layout.specs.Layout.{plain_of}
-use Rattle.events.specs.World.{table_of}
-use Rattle.status.specs.Status.{is_in, word_of}
-use Rattle.ids.specs.declared.SlotNo.{SlotNo}
-use lib.ListN.{drop}
+use Rattle.state_bytes.proofs.Laws.{begins, room, small}
 use native.Mathlib.Omega.{arith}
-use mathlib.Core.Path.{◌≡◌, ap, ◌∙◌}
-use Prim.Native.Nat.{ℕ, ◌≤◌}
 use Rattle.state_bytes.proofs.status_word.Goals as goal
 
 pub loop-i-init : goal.loop-i-init

@@ -1,14 +1,10 @@
 -- The loops of `state_bytes::status_word`.
-use borrow.Author.Rules.{rules}
-use Rattle.state_bytes.proofs.Laws.{begins, room, goes_on, small}
 use Rattle.layout.specs.Layout.{plain_of}
 use Rattle.events.specs.World.{table_of}
 use Rattle.status.specs.Status.{is_in, word_of}
-use Rattle.ids.specs.declared.SlotNo.{SlotNo}
 use lib.ListN.{drop}
-use native.Mathlib.Omega.{arith}
-use mathlib.Core.Path.{◌≡◌, ap, ◌∙◌}
-use Prim.Native.Nat.{ℕ, ◌≤◌}
+use mathlib.Core.Path.{◌≡◌}
+use Prim.Native.Nat.{◌≤◌}
 use Rattle.state_bytes.proofs.status_word.Given as goal
 
 abbrev pub invariant-loop-i : goal.invariant-loop-i

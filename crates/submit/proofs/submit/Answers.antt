@@ -1,6 +1,5 @@
 -- What `submit::submit` leaves open. Assumes nothing.
-use borrow.Author.Rules.{rules}
-use Rattle.submit.proofs.Cases.{refused, not_yours, no_room, sent}
+use Rattle.submit.proofs.Cases.{refused, sent}
 use Rattle.step.proofs.Tests.{is}
 use Rattle.layout.specs.Layout.{plain_of}
 use Rattle.events.specs.Outcome.{said}

@@ -1,5 +1,4 @@
 -- What `take_holds::held_after` leaves open. Assumes nothing.
-use borrow.Author.Rules.{rules}
 use Rattle.take_holds.proofs.Each.{held_needed, held_left}
 use Rattle.take_holds.proofs.held_after.Goals as goal
 

@@ -1,8 +1,6 @@
 -- What `take_holds::long` leaves open. Assumes nothing.
-use Prim.Native.Nat.{◌-◌}
 use native.Mathlib.Omega.{arith}
-use borrow.Author.Rules.{rules}
-use Rattle.take_holds.proofs.Counted.{Counted, from_all, count_fits, count_over, count_next, count_left, count_end}
+use Rattle.take_holds.proofs.Counted.{from_all, count_fits, count_over, count_next, count_left, count_end}
 use Rattle.take_holds.proofs.long.Goals as goal
 
 pub loop-d-init : goal.loop-d-init

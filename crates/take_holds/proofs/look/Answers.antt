@@ -1,14 +1,10 @@
 -- What `take_holds::look` leaves open. Assumes nothing.
-use Prim.Native.Nat.{◌-◌, ◌≤◌}
-use mathlib.Core.Path.{◌≡◌, sym}
 use native.Mathlib.Omega.{arith}
-use lib.Seq.{length-take-le}
-use lib.ListN.{length, drop, get_or, length-set}
+use lib.ListN.{get_or, length-set}
 use borrow.Author.Rules.{rules}
-use Rattle.holds.proofs.Laws.{held_not, held_is}
+use Rattle.holds.proofs.Laws.{held_is}
 use Rattle.holds.specs.Holds.{holds_with}
-use Rattle.take_holds.specs.Take.{take_of}
-use Rattle.take_holds.proofs.Walk.{take_on, left_of, take_is, take_long, take_bad, take_more, take_end, told, told_none}
+use Rattle.take_holds.proofs.Walk.{left_of, take_is, take_more}
 use Rattle.take_holds.proofs.look.Goals as goal
 
 pub loop-i-init : goal.loop-i-init

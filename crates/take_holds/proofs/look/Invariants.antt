@@ -1,14 +1,10 @@
 -- The loops of `take_holds::look`.
 use Prim.Native.Nat.{◌-◌, ◌≤◌}
-use mathlib.Core.Path.{◌≡◌, sym}
-use native.Mathlib.Omega.{arith}
-use lib.Seq.{length-take-le}
-use lib.ListN.{length, drop, get_or, length-set}
-use borrow.Author.Rules.{rules}
-use Rattle.holds.proofs.Laws.{held_not, held_is}
+use mathlib.Core.Path.{◌≡◌}
+use lib.ListN.{length, drop}
 use Rattle.holds.specs.Holds.{holds_with}
 use Rattle.take_holds.specs.Take.{take_of}
-use Rattle.take_holds.proofs.Walk.{take_on, left_of, take_is, take_long, take_bad, take_more, take_end, told, told_none}
+use Rattle.take_holds.proofs.Walk.{take_on, left_of}
 use Rattle.take_holds.proofs.look.Given as goal
 
 abbrev pub invariant-loop-i : goal.invariant-loop-i

@@ -1,5 +1,4 @@
 -- What `write::entry` leaves open. Assumes nothing.
-use borrow.Author.Rules.{rules}
 use Rattle.write.proofs.Entries.{entered, then_acted}
 use Rattle.events.specs.World.{holds_of, handles_of}
 use Rattle.layout.specs.Layout.{plain_of}

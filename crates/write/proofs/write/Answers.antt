@@ -1,12 +1,10 @@
 -- What `write::write` leaves open. Assumes nothing.
-use Prim.Native.Nat.{◌-◌, ◌*◌, ◌≤◌}
-use mathlib.Core.Path.{◌≡◌, refl, sym, ap, ◌∙◌}
+use Prim.Native.Nat.{◌-◌, ◌*◌}
+use mathlib.Core.Path.{ap, ◌∙◌}
 use native.Mathlib.Omega.{arith}
-use lib.ListN.{length}
-use borrow.Author.Rules.{rules}
 use Rattle.schemev2.specs.Entry.{cqe_of}
 use Rattle.word_put.proofs.Stores.{part_is}
-use Rattle.write.proofs.Looping.{Left, begins, goes_on, stops, stops_lent, stops_count, stops_words, refused_by, lent_length, with_room, too_short, ends, ends_words}
+use Rattle.write.proofs.Looping.{goes_on, stops, stops_lent, stops_count, stops_words, lent_length, with_room}
 use Rattle.write.proofs.write.Goals as goal
 
 pub returns-then-number-ne0 : goal.returns-then-number-ne0

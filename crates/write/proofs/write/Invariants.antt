@@ -1,12 +1,8 @@
 -- The loops of `write::write`.
 use Prim.Native.Nat.{◌-◌, ◌*◌, ◌≤◌}
-use mathlib.Core.Path.{◌≡◌, refl, sym, ap, ◌∙◌}
-use native.Mathlib.Omega.{arith}
+use mathlib.Core.Path.{◌≡◌}
 use lib.ListN.{length}
-use borrow.Author.Rules.{rules}
-use Rattle.schemev2.specs.Entry.{cqe_of}
-use Rattle.word_put.proofs.Stores.{part_is}
-use Rattle.write.proofs.Looping.{Left, begins, goes_on, stops, stops_lent, stops_count, stops_words, refused_by, lent_length, with_room, too_short, ends, ends_words}
+use Rattle.write.proofs.Looping.{Left}
 use Rattle.write.proofs.write.Given as goal
 
 abbrev pub invariant-loop-i : goal.invariant-loop-i

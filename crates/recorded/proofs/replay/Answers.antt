@@ -1,0 +1,21 @@
+use Rattle.std.proofs.Common.{◌≡◌, true, length, rules}
+use Rattle.le.specs.Le.{word}
+use Rattle.recorded.proofs.Laws.{as_compared}
+use Rattle.recorded.proofs.replay.Goals as goal
+
+pub returns : goal.returns
+returns g c =
+    let yes : c.as_recorded.result ≡ true = search rules in
+    λ _. as_compared
+    (word c.args.head.now 0)
+    c.word.result
+    (length c.args.fx.now)
+    (length c.args.out.now)
+    c.args.events.now
+    c.args.recorded.now
+    c.compare-c.result
+    c.as_recorded.result
+    c.word.ensures
+    c.compare-c.ensures
+    c.as_recorded.ensures
+    yes

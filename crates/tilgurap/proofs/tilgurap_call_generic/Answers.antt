@@ -1,0 +1,5 @@
+-- What `tilgurap::tilgurap_call_generic` leaves open. Assumes nothing.
+use Rattle.tilgurap.proofs.tilgurap_call_generic.Goals as goal
+
+pub returns : goal.returns
+returns c = c.step_words.ensures _ _ _ c.call_generic-done.ensures
