@@ -63,7 +63,7 @@ def sections():
     for part in (DOCS.parent / "crates.txt").read_text(encoding="utf-8").split("\n\n")[1:]:
         lines = part.strip().split("\n")
         what = " ".join(line[2:] for line in lines if line.startswith("# "))
-        found.append((what, [line.split(":")[0] for line in lines if not line.startswith("#")]))
+        found.append((what, [line.split(":")[0].split()[0] for line in lines if not line.startswith("#")]))
     return found[::-1]
 
 

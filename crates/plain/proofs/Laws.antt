@@ -71,7 +71,7 @@ pub made :
     (w : World) (slots : List Slot) (next : List ℕ) (head : ℕ) (all outside : List ℕ) (scheme first len : ℕ) (handles words : List ℕ)
     → slots ≡ (table_of w).slots → next ≡ (table_of w).next → head ≡ (table_of w).head → all ≡ (holds_of w).holds → outside ≡ (holds_of w).outside → scheme ≡ scheme_of w
     → first ≡ (queue_of w).first → len ≡ (queue_of w).len → handles ≡ (handles_of w).at → words ≡ w.words → built slots next head all outside scheme first len handles words ≡ w
-made w slots next head all outside scheme first len handles words a b c d e f g h j k =
+made w slots next head _ outside scheme first len handles words a b c d e f g h j k =
     λ i. built (a i) (b i) (c i) (d i) (e i) (f i) (g i) (h i) (j i) (k i)
 
 -- all parts stored, from the first word to the last

@@ -7,57 +7,38 @@ ghost use Rattle.events.specs.World.{world, table_of};
 ghost use Rattle.layout.specs.Layout.{slot_place, slots_words, plain_of, packed_of};
 ghost use Rattle.packed.specs.Step.{fresh_words};
 
-use handles::Handles;
-use holds::Holds;
 use ids::Tag;
 use slot::Slot;
-use state::{Driver, State};
-use table::Table;
-use wait_queue::WaitQueue;
+use state::State;
 
-fn slots(s: &[u64; 2060]) -> [Slot; 64]
-    ensures { result ≡ (table_of (plain_of s.now)).slots }
+// Each slot is read into its place.
+fn slots(s: &[u64; 2060], a: &mut [Slot; 64])
+    ensures { a.new ≡ (table_of (plain_of s.now)).slots }
 {
-    let none = slot::vacant();
-    let mut a = [none; 64];
     let mut i = 0;
     while i < 64 {
         let v = slot_load::load(s, ids::slot_of(Tag(i as u64)));
         a[i] = v;
         i += 1;
     }
-    a
 }
 
-// The queue's words are stored in those lent.
+// The queue's words are stored in those lent. Each part is read into its place in the state: one made by itself would be copied, on
+// the stack.
 pub fn plain(s: &[u64; 2060], queue: &mut [u64; 1024]) -> State
     ensures { world result queue.new ≡ plain_of s.now }
 {
     part_words::queue(s, queue);
-    let at = part_words::handles(s);
-    let holds = part_words::all(s);
-    let outside = part_words::outside(s);
-    let next = part_words::chain(s);
-    let slots = slots(s);
-    State {
-        driver: Driver {
-            scheme: queue_words::scheme(s),
-            handles: Handles { at: at },
-            queue: WaitQueue {
-                first: queue_words::first(s),
-                len: queue_words::unread(s),
-            },
-        },
-        table: Table {
-            slots: slots,
-            next: next,
-            head: slot_load::head_word(s),
-            holds: Holds {
-                holds: holds,
-                outside: outside,
-            },
-        },
-    }
+    let mut st = state::fresh(queue_words::scheme(s));
+    st.driver.handles.at = part_words::handles(s);
+    st.driver.queue.first = queue_words::first(s);
+    st.driver.queue.len = queue_words::unread(s);
+    slots(s, &mut st.table.slots);
+    st.table.next = part_words::chain(s);
+    st.table.head = slot_load::head_word(s);
+    st.table.holds.holds = part_words::all(s);
+    st.table.holds.outside = part_words::outside(s);
+    st
 }
 
 fn put_slots(s: &mut [u64; 2060], slots: [Slot; 64])

@@ -1,7 +1,7 @@
 // The recorded runs in data/, each run again and compared byte for byte with what was recorded: docs/RECORDED.md.
 #![tactic(auto)]
 
-ghost use Rattle.std.specs.Prelude.{◌≡◌, ℕ, ◌%◌, ◌≤◌, true, false, length, IfOk};
+ghost use Rattle.std.specs.Prelude.{◌≡◌, ℕ, ◌%◌, ◌≤◌, true, false, length, vec_len, IfOk};
 ghost use Rattle.le.specs.Le.{word as word_of};
 ghost use Rattle.record.specs.Record.{decoded};
 ghost use Rattle.recorded.specs.Recorded.{check_of, same_of, compared_of, as_recorded_of, Recorded};
@@ -54,7 +54,9 @@ struct Buffers {
 }
 
 impl Buffers {
-    fn new(alloc: Global) -> Result<Buffers, AllocError> {
+    fn new(alloc: Global) -> Result<Buffers, AllocError>
+        ensures { IfOk result (λ b. (vec_len b.out ≡ 262_144) × (vec_len b.fx ≡ 8192)) }
+    {
         Ok(Buffers {
             head: Vec::new(alloc),
             events: Vec::new(alloc),
