@@ -43,7 +43,8 @@ pub fn copy(s: &mut [u64; 2060], description: u64) -> Step
     match found {
         DescriptionFound::Outside => step::answered(Answer::BadArgument),
         DescriptionFound::At(d) => {
-            if hold_words::holds_of(s, d) == 65535 {
+            let is_full = hold_words::holds_of(s, d) == 65535;
+            if is_full {
                 return step::answered(Answer::TooManyHolds);
             }
             hold_words::raise_outside(s, d);
