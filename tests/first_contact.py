@@ -1,6 +1,6 @@
 #!/usr/bin/env python3
 """What a new user meets: ./tilgurap as it is called from a shell, here and on copies of this checkout. It needs the built
-library (`rt staticlib tilgurap`), the program listing (`rt check listing`) and cargo; no network, no kernel's sources, no
+library (`./tilgurap build`), the program listing (`./tilgurap list FILE`) and cargo; no network, no kernel's sources, no
 terminal. What is skipped says so.
 
     python3 tests/first_contact.py
@@ -92,7 +92,7 @@ def copy(folder, built=True):
     """What ./tilgurap uses, with the times of the files kept, as a checkout of its own. Of the crates one is enough."""
     top = pathlib.Path(folder) / "a checkout"
     for name in ["crates/tilgurap", "rust/driver", "rust/script", "rust/tilgurap"]:
-        shutil.copytree(TOP / name, top / name, ignore=shutil.ignore_patterns("target"))
+        shutil.copytree(TOP / name, top / name, ignore=shutil.ignore_patterns("target", "out"))
     files = ["tilgurap", "crates.txt", "docs/CHECK-TIMES.md"]
     for name in [*files, LIBRARY, LISTING, "rust/driver/target/release/driver"] if built else files:
         (top / name).parent.mkdir(parents=True, exist_ok=True)
@@ -428,26 +428,50 @@ class Built(unittest.TestCase):
         self.assertEqual(sorted(top.rglob("*")), before)
 
 
-# It proves a crate in no time, and builds by taking what is built: `rt check NAME...`, `rt staticlib NAME`.
+def crates_below(wanted):
+    """The crates that one stands on, each behind those that it stands on itself."""
+    below = {}
+    for line in (TOP / "crates.txt").read_text().splitlines():
+        name, colon, names = line.split("#")[0].partition(":")
+        if colon:
+            # a kind may stand behind the name
+            below[name.split()[0]] = names.split()
+    found = []
+
+    def visit(crate):
+        for name in below[crate]:
+            if name in below and name not in found:
+                visit(name)
+                found.append(name)
+
+    visit(wanted)
+    return found
+
+
+# It proves a crate in no time, and builds by taking what is built: `rt all check` and `rt lib`, in the folder of crate tilgurap.
 STAND_IN = f"""#!/bin/sh
-stay() {{ sleep 30 & echo $! > stays; wait; }}
-mkdir -p target/log target/staticlib
+top=../..
+stay() {{ sleep 30 & echo $! > "$top/stays"; wait; }}
 case $1 in
-    check)
-        shift
-        for name; do
-            echo "$name" > "target/log/$name.say"
-            if [ -e "fail at $name" ]; then echo "rt: $name NOT PROVED (exit 1, 0 s)"; exit 1; fi
-            if [ -e "wait at $name" ]; then sleep 1.2; fi
-            if [ -e "stay at $name" ]; then stay; fi
-            if [ -e "change at $name" ]; then rm "change at $name"; touch crates.txt; fi
+    all)
+        for name in {' '.join(crates_below("tilgurap"))} tilgurap; do
+            mkdir -p "$top/crates/$name/out/rlib"
+            if [ -e "$top/wait at $name" ]; then sleep 1.2; fi
+            if [ -e "$top/stay at $name" ]; then stay; fi
+            if [ -e "$top/change at $name" ]; then rm "$top/change at $name"; touch "$top/crates.txt"; fi
+            echo "== $name"
+            if [ -e "$top/fail at $name" ]; then
+                echo "fn $name: not proved"
+                printf '%s\\n' "== summary" "$name: failed (1)" "run: not run, since $name failed"
+                exit 1
+            fi
             echo "fn $name: proved"
-            echo "rt: $name proved (1 s)"
+            echo "logic=proved functions=1"
         done ;;
-    staticlib)
-        echo half > "{LIBRARY}"
-        if [ -e "stay at $2" ]; then stay; fi
-        cp "{TOP / LIBRARY}" "{LIBRARY}" ;;
+    lib)
+        echo half > out/libtilgurap.a
+        if [ -e "$top/stay at the library" ]; then stay; fi
+        cp "{TOP / LIBRARY}" out/libtilgurap.a ;;
 esac
 """
 
@@ -458,22 +482,6 @@ def goes_on(process):
         return pathlib.Path(f"/proc/{process}/stat").read_text().rsplit(") ", 1)[1][0] != "Z"
     except FileNotFoundError:
         return False
-
-
-def crates_below(wanted):
-    """The crates that one stands on."""
-    below = {}
-    for line in (TOP / "crates.txt").read_text().splitlines():
-        name, colon, names = line.split("#")[0].partition(":")
-        if colon:
-            below[name] = names.split()
-    found, left = set(), [wanted]
-    while left:
-        for name in below[left.pop()]:
-            if name in below and name not in found:
-                found.add(name)
-                left.append(name)
-    return found
 
 
 class FirstBuild(unittest.TestCase):
@@ -503,7 +511,7 @@ echo '{"executable":"/bin/driver"}' | sed "s|/bin|${0%/*}|"
         self.assertEqual((done.returncode, done.stdout), (0, "it runs\n"))
         self.assertRegex(done.stderr, rf"\Atilgurap: libtilgurap\.a is proved and built first, {self.count} crates with .*\n"
                                       r"tilgurap: libtilgurap\.a is built, in .*\ntilgurap: building rust/driver\n\Z")
-        self.assertEqual(self.log.read_text().count("proved (1 s)"), self.count - 1)
+        self.assertEqual(self.log.read_text().count("logic=proved "), self.count)
         again = run("replay", top=self.top, env=self.env)
         self.assertEqual((again.stdout, again.stderr), ("it runs\n", "tilgurap: building rust/driver\n"))
         done = run("build", top=self.top, env=self.env)
@@ -525,8 +533,8 @@ echo '{"executable":"/bin/driver"}' | sed "s|/bin|${0%/*}|"
         (self.top / "fail at table").touch()
         done = run("replay", top=self.top, env=self.env)
         self.assertEqual((done.returncode, done.stdout), (2, ""))
-        self.assertIn("\nrt: table NOT PROVED (exit 1, 0 s)\n", done.stderr)
-        self.assertTrue(done.stderr.endswith(f"tilgurap: `rt check` failed, its words are in {self.log}\n"), done.stderr)
+        self.assertRegex(done.stderr, r"\ntable: failed \(1\)\ntilgurap: `rt all check --jobs [0-9]+` failed in crates/tilgurap, ")
+        self.assertTrue(done.stderr.endswith(f", its words are in {self.log}\n"), done.stderr)
         self.assertFalse((self.top / LIBRARY).exists())
 
     def test_crates_that_change_meanwhile(self):
@@ -548,13 +556,13 @@ echo '{"executable":"/bin/driver"}' | sed "s|/bin|${0%/*}|"
         self.assertEqual(run("replay", top=self.top, env=self.env).stdout, "it runs\n")
 
     def test_an_ended_build_leaves_no_prover_and_no_half_library(self):
-        (self.top / "stay at tilgurap").touch()
+        (self.top / "stay at the library").touch()
         stays = self.top / "stays"
         child = subprocess.Popen([str(self.top / "tilgurap"), "replay"], env=self.env, stderr=subprocess.PIPE, text=True)
         deadline = time.time() + 20
         while not (stays.exists() and stays.read_text()) and time.time() < deadline:
             time.sleep(0.05)
-        self.assertTrue((self.top / LIBRARY).exists())
+        self.assertTrue((self.top / "crates/tilgurap/out/libtilgurap.a").exists())
         child.terminate()
         self.assertIn("tilgurap: interrupted after ", child.communicate(timeout=20)[1])
         self.assertEqual(child.returncode, 143)

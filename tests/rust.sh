@@ -1,6 +1,6 @@
 #!/usr/bin/env bash
 # Formatting, lints, documentation and tests of the Rust in rust/, where cargo is there, and of what is built in: C, a git dependency,
-# the command, README. What calls the layer is linked with its static library (`rt staticlib tilgurap`, some minutes): where none is
+# the command, README. What calls the layer is linked with its static library (`./tilgurap build`, some minutes): where none is
 # built, as in a clean checkout, it is skipped. The oracle is built from the kernel's sources, in the folder that REDOX_SRC names, and
 # slab: without them it is skipped. What is skipped says so.
 set -euo pipefail

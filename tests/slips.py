@@ -30,9 +30,11 @@ def edits(crates):
 def main():
     noticed = missed = broken = 0
     with tempfile.TemporaryDirectory() as copy:
-        shutil.copytree(os.path.join(TOP, "crates"), os.path.join(copy, "crates"))
+        shutil.copytree(os.path.join(TOP, "crates"), os.path.join(copy, "crates"), ignore=shutil.ignore_patterns("out"))
         shutil.copy(os.path.join(TOP, "crates.txt"), copy)
-        subprocess.run(["git", "init", "-q", copy], check=True)
+        recorded = os.path.join(copy, "crates/recorded")
+        data = [word for name in sorted(os.listdir(os.path.join(recorded, "data"))) for word in ("--data", f"{name}=data/{name}")]
+        wanted = open(os.path.join(recorded, "stdout"), encoding="utf-8").read()
         for crate, name, pairs in edits(set(sys.argv[1:])):
             path = os.path.join(copy, "crates", crate, "src/lib.rt")
             good = text = open(path, encoding="utf-8").read()
@@ -40,19 +42,20 @@ def main():
                 text = text.replace(old, new, 1)
             with open(path, "w", encoding="utf-8") as f:
                 f.write(text)
-            ran = subprocess.run(["rt", "try", "recorded"], cwd=copy, capture_output=True, text=True)
-            said = ran.stdout + ran.stderr
+            ran = subprocess.run(["rt", "try", *data], cwd=recorded, stdin=subprocess.DEVNULL, capture_output=True, text=True, errors="replace")
+            said = ran.stderr.strip().split("\n")
             with open(path, "w", encoding="utf-8") as f:
                 f.write(good)
-            if "FAIL" in said:
+            # its last line says whether it ran
+            if not said[-1].startswith("run=") or said[-1].startswith("run=none"):
+                broken += 1
+                word = "not compiled: " + said[0][:100]
+            elif ran.returncode != 0 or ran.stdout != wanted:
                 noticed += 1
                 word = "noticed"
-            elif ran.returncode == 0:
+            else:
                 missed += 1
                 word = "not noticed"
-            else:
-                broken += 1
-                word = "not compiled: " + said.strip().split("\n")[-1][:100]
             print(f"{crate}/{name}: {word}", flush=True)
     print(f"{noticed} noticed, {missed} not noticed, {broken} not compiled")
 

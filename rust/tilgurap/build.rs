@@ -1,4 +1,4 @@
-// Links the static library of the layer: from the folder that TILGURAP_LIB names, or from where `rt staticlib tilgurap` puts
+// Links the static library of the layer: from the folder that TILGURAP_LIB names, or from where `./tilgurap build` puts
 // it in this checkout. One that is missing, foreign or of another interface stops the build and says what to do. The library
 // is asked for its number by a program of one line; where the target's programs do not run here, it is asked when a layer is made.
 

@@ -1,6 +1,6 @@
 #!/usr/bin/env python3
 """Changes one byte of each data file of crates/recorded, at many places one after the other, and looks whether the program then
-prints something else than its file stdout. Also cuts, lengthens and removes the files. Needs target/bin/recorded (rt check recorded)."""
+prints something else than its file stdout. Also cuts, lengthens and removes the files. Needs the program (`rt run` in crates/recorded)."""
 import random
 import shutil
 import struct
@@ -11,7 +11,7 @@ from pathlib import Path
 
 TOP = Path(__file__).resolve().parents[2]
 CRATE = TOP / "crates" / "recorded"
-PROGRAM = TOP / "target" / "bin" / "recorded"
+PROGRAM = CRATE / "out" / "recorded"
 DRAWN = 100
 
 

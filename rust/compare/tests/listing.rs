@@ -1,5 +1,5 @@
-//! The proved program `listing` beside the kernel's own reading of completions: the same file, the same lines. It is built by
-//! `rt check listing`; where it is missing the test says so.
+//! The proved program `listing` beside the kernel's own reading of completions: the same file, the same lines. `./tilgurap list`
+//! builds it; where it is missing the test says so.
 
 use std::io::Write;
 use std::path::Path;
@@ -82,7 +82,7 @@ fn entry(draw: &mut Draw) -> [u8; 16] {
 #[test]
 fn lists_as_the_kernel_reads() {
     if !Path::new(PROGRAM).exists() {
-        println!("skipped: {PROGRAM} is not built: run `rt check listing`");
+        println!("skipped: {PROGRAM} is not built: run `./tilgurap list` with a file");
         return;
     }
     for seed in 0..200 {

@@ -19,15 +19,21 @@ echo left $((bytes % 16))
 /// its program, and so long the file cannot be run ("Text file busy").
 static ALONE: Mutex<()> = Mutex::new(());
 
-/// A folder whose name has a space in it, for as long as no other test has one.
+/// A folder whose name has a space in it, outside the checkout and for as long as no other test has one.
 struct Folder(PathBuf, #[expect(dead_code)] MutexGuard<'static, ()>);
+
+impl Drop for Folder {
+    fn drop(&mut self) {
+        let _ = fs::remove_dir_all(&self.0);
+    }
+}
 
 impl Folder {
     fn new(name: &str) -> Folder {
         let alone = ALONE.lock().unwrap_or_else(PoisonError::into_inner);
-        let path = Path::new(env!("CARGO_TARGET_TMPDIR")).join(format!("front door {name}"));
+        let path = std::env::temp_dir().join(format!("front door {name} {}", std::process::id()));
         let _ = fs::remove_dir_all(&path);
-        fs::create_dir_all(path.join("crates")).expect("a folder");
+        fs::create_dir_all(path.join("crates/listing")).expect("a folder");
         fs::create_dir_all(path.join("target/bin")).expect("a folder");
         fs::create_dir_all(path.join("else where")).expect("a folder");
         let script = Path::new(env!("CARGO_MANIFEST_DIR")).join("../../tilgurap");
@@ -171,7 +177,7 @@ fn a_missing_toolchain_is_named() {
         said(&["list", "../crates.txt"]),
         format!(
             "tilgurap: listing is proved and built first, 0 crates with those below it, which can take minutes\n\
-             tilgurap: rt did not write {top}/target/bin/listing, which it takes for built: remove {top}/target/stamp/listing and try again\n"
+             tilgurap: rt did not write {top}/crates/listing/out/listing\n"
         )
     );
 }

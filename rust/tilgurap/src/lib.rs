@@ -3,7 +3,7 @@
 //! The host owns a [`Layer`] for each driver and puts every event to it: its callers' calls and
 //! wakes, the driver's reads and writes, descriptions opened and callers ended. The layer keeps who
 //! waits for what. Each answer is settled by a proof: the functions behind these methods are those of
-//! `libtilgurap.a`, which is written only once they are proved (`rt staticlib tilgurap`).
+//! `libtilgurap.a`, which is written only once they are proved (`./tilgurap build`).
 //!
 //! | to | method |
 //! |---|---|
@@ -82,17 +82,17 @@
 //!
 //! | function | bytes |
 //! |---|---|
-//! | kfdread | 496 |
-//! | kfdwrite | 480 |
-//! | submit | 448 |
-//! | call | 416 |
-//! | move | 304 |
-//! | write | 248 |
-//! | wake | 232 |
-//! | read | 160 |
-//! | every other step, the readings, the status words | under 100 |
-//! | a fresh state; its words; the state from its words | 4,752; 6,832; 11,408 |
-//! | a run over bytes | 39,128 |
+//! | kfdread | 464 |
+//! | kfdwrite | 448 |
+//! | submit | 416 |
+//! | write | 392 |
+//! | call | 384 |
+//! | wake | 288 |
+//! | move | 256 |
+//! | read | 192 |
+//! | every other step, the readings, the status words | at most 128 |
+//! | a fresh state; its words; the state from its words | 80; 6,832; 13,488 |
+//! | a run over bytes | 40,688 |
 //!
 //! Making a [`Layer`] and what looks into its state ([`slot`](Layer::slot), [`occupied`](Layer::occupied),
 //! [`holds`](Layer::holds), [`handle`](Layer::handle), [`kill`](Layer::kill), [`driver_gone`](Layer::driver_gone)) hold copies of the
