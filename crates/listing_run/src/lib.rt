@@ -7,9 +7,6 @@ use listing_line::Word;
 use std::io;
 use std::io::Read;
 
-// How many bytes are read at most.
-const MOST: u64 = 65_536;
-
 fn field(rt: &impl Print, n: u64) -> io::Result<()> {
     print!(rt; " {n}")
 }
@@ -45,10 +42,10 @@ fn print_lines(rt: &impl Print, s: &[u8]) -> io::Result<usize>
     Ok(s.len() % 16)
 }
 
-pub fn run(rt: &(impl Print + AllocGlobal), input: &mut impl Read) -> io::Result<()> {
-    let mut bytes = Vec::new(rt.alloc());
-    input.by_ref().take(MOST).read_to_end(&mut bytes)?;
+pub fn run(rt: &impl Print, from: &mut impl Read) -> io::Result<()> {
+    let mut buffer = [0; 65536];
+    let n = input::read_full(from, &mut buffer)?;
     println!(rt; "entry kind tag word value extra")?;
-    let left = print_lines(rt, &bytes)?;
+    let left = print_lines(rt, &buffer[..n])?;
     println!(rt; "left {left}")
 }

@@ -1,27 +1,17 @@
 // The recorded runs in data/, each run again and compared byte for byte with what was recorded: docs/RECORDED.md.
 #![tactic(auto)]
 
-ghost use Rattle.std.specs.Prelude.{◌≡◌, ℕ, ◌%◌, ◌≤◌, true, false, length, vec_len, IfOk};
+ghost use Rattle.std.specs.Prelude.{◌≡◌, ℕ, ◌%◌, ◌≤◌, true, false, length, IfOk};
 ghost use Rattle.le.specs.Le.{word as word_of};
 ghost use Rattle.record.specs.Record.{decoded};
 ghost use Rattle.recorded.specs.Recorded.{check_of, same_of, compared_of, as_recorded_of, Recorded};
 
 use answer_words::AnswerWords;
 use state_bytes::STATE_SIZE;
-use std::alloc::{AllocError, Global};
 use std::fs::File;
 use std::io;
 use std::io::Read;
 use std::rt::Files;
-
-// How many bytes a run's events have at most, and how many are recorded of it at most.
-const MOST: u64 = 65_536;
-
-// How many bytes a run may write.
-const OUT_SIZE: usize = 262_144;
-
-// How many words its writes are lent.
-const LENT: usize = 8192;
 
 // A file's runs so far, and the check number of its bytes. `good` until something differs or is not as it should be.
 #[derive(Clone, Copy)]
@@ -41,30 +31,6 @@ struct Compared {
     place: u64,
     written: u64,
     same: u64,
-}
-
-// What a run is read into, and what it writes.
-#[derive(Drop)]
-struct Buffers {
-    head: Vec<u8>,
-    events: Vec<u8>,
-    recorded: Vec<u8>,
-    out: Vec<u8>,
-    fx: Vec<u64>,
-}
-
-impl Buffers {
-    fn new(alloc: Global) -> Result<Buffers, AllocError>
-        ensures { IfOk result (λ b. (vec_len b.out ≡ 262_144) × (vec_len b.fx ≡ 8192)) }
-    {
-        Ok(Buffers {
-            head: Vec::new(alloc),
-            events: Vec::new(alloc),
-            recorded: Vec::new(alloc),
-            out: vec![in alloc; 0; OUT_SIZE]?,
-            fx: vec![in alloc; 0; LENT]?,
-        })
-    }
 }
 
 fn wide(b: u8) -> u64
@@ -196,64 +162,52 @@ fn replay(
     })
 }
 
-// The next bytes of the file, fewer where it ends before.
-fn read_next(file: &mut impl Read, size: u64, into: &mut Vec<u8>) -> io::Result<()> {
-    into.clear();
-    file.by_ref().take(size).read_to_end(into)?;
-    Ok(())
-}
-
 // One run: scheme number and the two lengths, the events, what was recorded.
 fn read_run(
     rt: &impl Print,
     t: Tally,
     file: &mut impl Read,
-    head: &mut Vec<u8>,
-    events: &mut Vec<u8>,
-    recorded: &mut Vec<u8>,
+    head: &mut [u8],
+    events: &mut [u8],
+    recorded: &mut [u8],
     out: &mut [u8],
     fx: &mut [u64],
 ) -> io::Result<Tally> {
-    read_next(file, 24, head)?;
-    if head.len() < 24 {
-        return cut_off(rt, t);
-    }
+    let got = input::read_full(file, head)?;
     let n = le::word(head, 8);
     let m = le::word(head, 16);
-    if n > MOST {
+    if got < 24 {
         return cut_off(rt, t);
     }
-    if m > MOST {
+    if n > events.len() as u64 {
         return cut_off(rt, t);
     }
-    read_next(file, n, events)?;
-    if events.len() as u64 != n {
+    if m > recorded.len() as u64 {
         return cut_off(rt, t);
     }
-    read_next(file, m, recorded)?;
-    if recorded.len() as u64 != m {
+    let e = n as usize;
+    let r = m as usize;
+    if input::read_full(file, &mut events[..e])? != e {
         return cut_off(rt, t);
     }
-    replay(rt, t, head, events, recorded, out, fx)
+    if input::read_full(file, &mut recorded[..r])? != r {
+        return cut_off(rt, t);
+    }
+    replay(rt, t, head, &events[..e], &recorded[..r], out, fx)
 }
 
-// The same with the buffers of a file's runs.
+// The same with arrays, whose lengths no loop changes.
 fn next_run(
     rt: &impl Print,
     t: Tally,
     file: &mut impl Read,
-    buffers: &mut Buffers,
+    head: &mut [u8; 24],
+    events: &mut [u8; 65536],
+    recorded: &mut [u8; 65536],
+    out: &mut [u8; 262144],
+    fx: &mut [u64; 8192],
 ) -> io::Result<Tally> {
-    read_run(
-        rt,
-        t,
-        file,
-        &mut buffers.head,
-        &mut buffers.events,
-        &mut buffers.recorded,
-        &mut buffers.out,
-        &mut buffers.fx,
-    )
+    read_run(rt, t, file, head, events, recorded, out, fx)
 }
 
 fn print_tally(rt: &impl Print, t: Tally) -> io::Result<()> {
@@ -266,14 +220,18 @@ fn print_tally(rt: &impl Print, t: Tally) -> io::Result<()> {
 }
 
 // A file: how many runs, then these, and nothing behind them.
-fn replay_file(rt: &(impl Print + AllocGlobal), file: &mut impl Read) -> io::Result<()> {
-    let mut count = Vec::new(rt.alloc());
-    read_next(file, 8, &mut count)?;
-    if count.len() < 8 {
+fn replay_file(rt: &impl Print, file: &mut impl Read) -> io::Result<()> {
+    let mut count = [0; 8];
+    let got = input::read_full(file, &mut count)?;
+    if got < 8 {
         return println!(rt; " has no count of runs");
     }
     let runs = le::word(&count, 0);
-    let mut buffers = Buffers::new(rt.alloc())?;
+    let mut head = [0; 24];
+    let mut events = [0; 65536];
+    let mut recorded = [0; 65536];
+    let mut out = [0; 262144];
+    let mut fx = [0; 8192];
     let mut t = Tally {
         good: true,
         runs: 0,
@@ -283,14 +241,22 @@ fn replay_file(rt: &(impl Print + AllocGlobal), file: &mut impl Read) -> io::Res
         check: check_number(0, &count),
     };
     for _ in 0..runs {
-        t = next_run(rt, t, file, &mut buffers)?;
+        t = next_run(
+            rt,
+            t,
+            file,
+            &mut head,
+            &mut events,
+            &mut recorded,
+            &mut out,
+            &mut fx,
+        )?;
         if !t.good {
             return Ok(());
         }
     }
-    let mut more = Vec::new(rt.alloc());
-    read_next(file, 1, &mut more)?;
-    if !more.is_empty() {
+    let mut more = [0; 1];
+    if input::read_full(file, &mut more)? != 0 {
         return println!(rt; " has bytes behind its last run");
     }
     print_tally(rt, t)

@@ -2,10 +2,6 @@
 #![tactic(auto)]
 
 use std::io;
-use std::io::Read;
-
-// How many bytes of records are read at most, and how many a run may write.
-const MOST: usize = 65_536;
 
 fn number(rt: &impl Print, n: u64) -> io::Result<()> {
     print!(rt; "{n}")
@@ -49,9 +45,9 @@ fn show_events(rt: &impl Print, events: &[u8], out: &mut [u8], fx: &mut [u64]) -
 
 fn main(rt: HostRuntime) -> io::Result<()> {
     fifteen(&rt)?;
-    let mut input = Vec::new(rt.alloc());
-    rt.stdin().take(MOST as u64).read_to_end(&mut input)?;
-    let mut out = vec![in rt.alloc(); 0; MOST]?;
-    let mut fx = vec![in rt.alloc(); 0; 1024]?;
-    show_events(&rt, &input, &mut out, &mut fx)
+    let mut records = [0; 65536];
+    let n = input::read_full(&mut rt.stdin(), &mut records)?;
+    let mut out = [0; 65536];
+    let mut fx = [0; 1024];
+    show_events(&rt, &records[..n], &mut out, &mut fx)
 }
