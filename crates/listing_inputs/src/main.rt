@@ -6,7 +6,7 @@ use std::io;
 use std::rt::Files;
 
 // A file that can't be opened is told on standard error, and the next one is taken.
-fn list(rt: &(impl Files + Print + Eprint + AllocGlobal), path: &str) -> io::Result<()> {
+fn list(rt: &(impl Files + Print + Eprint), path: &str) -> io::Result<()> {
     match File::open(rt, path) {
         Ok(mut file) => listing_run::run(rt, &mut file),
         Err(e) => eprintln!(rt; "{path}: {e}"),

@@ -263,7 +263,7 @@ fn replay_file(rt: &impl Print, file: &mut impl Read) -> io::Result<()> {
 }
 
 // A file that can't be opened is told on standard error, and the next one is taken.
-fn replay_named(rt: &(impl Files + Print + Eprint + AllocGlobal), name: &str) -> io::Result<()> {
+fn replay_named(rt: &(impl Files + Print + Eprint), name: &str) -> io::Result<()> {
     match File::open(rt, name) {
         Ok(mut file) => {
             print!(rt; "{name}:")?;
