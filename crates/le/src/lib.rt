@@ -7,22 +7,19 @@ ghost use Rattle.le.specs.Le.{byte as byte_of, half as half_of, word as word_of}
 pub fn byte(s: &[u8], k: usize) -> u8
     ensures { result ≡ byte_of s.now k }
 {
-    if k < s.len() {
-        return s[k];
-    }
-    0
+    s.get(k).copied().unwrap_or(0)
 }
 
 pub fn weigh4(a: u8, b: u8, c: u8, d: u8) -> u32
     ensures { result ≡ a + b * 0x100 + c * 0x1_0000 + d * 0x100_0000 }
 {
-    (a as u32) + (b as u32) * 0x100 + (c as u32) * 0x1_0000 + (d as u32) * 0x100_0000
+    u32::from_le_bytes([a, b, c, d])
 }
 
 pub fn weigh2(low: u32, high: u32) -> u64
     ensures { result ≡ low + high * 0x1_0000_0000 }
 {
-    (low as u64) + (high as u64) * 0x1_0000_0000
+    u64::from(low) + u64::from(high) * 0x1_0000_0000
 }
 
 // The number in the four bytes from place k.
@@ -32,10 +29,10 @@ pub fn half(s: &[u8], k: usize) -> u32
     if s.len() <= k {
         return 0;
     }
-    if 4 <= s.len() - k {
-        return weigh4(s[k], s[k + 1], s[k + 2], s[k + 3]);
+    match &s[k..] {
+        [a, b, c, d, ..] => u32::from_le_bytes([*a, *b, *c, *d]),
+        rest => u32::from_le_bytes([byte(rest, 0), byte(rest, 1), byte(rest, 2), byte(rest, 3)]),
     }
-    weigh4(s[k], byte(s, k + 1), byte(s, k + 2), byte(s, k + 3))
 }
 
 // The number in the eight bytes from place k.
@@ -45,11 +42,8 @@ pub fn word(s: &[u8], k: usize) -> u64
     if s.len() <= k {
         return 0;
     }
-    if 8 <= s.len() - k {
-        let m = k + 4;
-        let low = weigh4(s[k], s[k + 1], s[k + 2], s[k + 3]);
-        let high = weigh4(s[m], s[m + 1], s[m + 2], s[m + 3]);
-        return weigh2(low, high);
+    match &s[k..] {
+        [a, b, c, d, e, f, g, h, ..] => u64::from_le_bytes([*a, *b, *c, *d, *e, *f, *g, *h]),
+        rest => weigh2(half(rest, 0), half(rest, 4)),
     }
-    weigh2(half(s, k), half(s, k + 4))
 }
