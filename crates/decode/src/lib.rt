@@ -28,7 +28,7 @@ pub fn sqe(s: &[u8]) -> Sqe
         opcode: byte(s, 0),
         sqe_flags: byte(s, 1),
         tag: half(s, 4),
-        args: args,
+        args,
         caller: word(s, 56),
     }
 }
@@ -47,7 +47,7 @@ pub fn cqe(s: &[u8]) -> Cqe
     Cqe {
         flags: byte(s, 0),
         extra_raw: raw,
-        tag: tag,
+        tag,
         result: word(s, 8),
     }
 }

@@ -8,23 +8,28 @@ ghost use Rattle.le.specs.Le.{bytes4, bytes8, bytes_of};
 pub fn put1(out: &mut [u8], at: usize, b: u8)
     ensures { out.new ≡ set out.old at b }
 {
+    if at < out.len() {
+        out[at] = b;
+    }
+}
+
+// Bytes from a place on.
+fn put_bytes(out: &mut [u8], at: usize, bytes: &[u8])
+    ensures { out.new ≡ sets out.old at bytes.now }
+{
     if out.len() <= at {
         return;
     }
-    out[at] = b;
+    for (i, b) in bytes.iter().enumerate() {
+        put1(out, at + i, *b);
+    }
 }
 
 // The low four bytes of a number from a place on.
 pub fn put4(out: &mut [u8], at: usize, x: u64)
     ensures { out.new ≡ sets out.old at (bytes4 x) }
 {
-    if out.len() <= at {
-        return;
-    }
-    put1(out, at, (x % 256) as u8);
-    put1(out, at + 1, (x / 0x100 % 256) as u8);
-    put1(out, at + 2, (x / 0x1_0000 % 256) as u8);
-    put1(out, at + 3, (x / 0x100_0000 % 256) as u8);
+    put_bytes(out, at, &x.to_le_bytes()[..4]);
 }
 
 // The eight bytes of a number from a place on; where all have room, in one look.
@@ -34,29 +39,28 @@ pub fn put8(out: &mut [u8], at: usize, x: u64)
     if out.len() <= at {
         return;
     }
-    let high = x / 0x1_0000_0000;
     if 8 <= out.len() - at {
-        out[at] = (x % 256) as u8;
-        out[at + 1] = (x / 0x100 % 256) as u8;
-        out[at + 2] = (x / 0x1_0000 % 256) as u8;
-        out[at + 3] = (x / 0x100_0000 % 256) as u8;
-        out[at + 4] = (high % 256) as u8;
-        out[at + 5] = (high / 0x100 % 256) as u8;
-        out[at + 6] = (high / 0x1_0000 % 256) as u8;
-        out[at + 7] = (high / 0x100_0000 % 256) as u8;
+        out[at..at + 8].copy_from_slice(&x.to_le_bytes());
         return;
     }
-    put4(out, at, x);
-    put4(out, at + 4, high);
+    put_bytes(out, at, &x.to_le_bytes());
 }
 
-// Two numbers of eight bytes.
-pub fn put_two(out: &mut [u8], at: usize, a: u64, b: u64)
-    ensures { out.new ≡ sets out.old at (bytes_of (a ∷ b ∷ [])) }
+// Numbers of eight bytes, one behind the other.
+pub fn put_words(out: &mut [u8], at: usize, ws: &[u64])
+    ensures { out.new ≡ sets out.old at (bytes_of ws.now) }
 {
     if out.len() <= at {
         return;
     }
-    put8(out, at, a);
-    put8(out, at + 8, b);
+    for (i, w) in ws.iter().enumerate() {
+        put8(out, at + 8 * i, *w);
+    }
+}
+
+// Two of them.
+pub fn put_two(out: &mut [u8], at: usize, a: u64, b: u64)
+    ensures { out.new ≡ sets out.old at (bytes_of (a ∷ b ∷ [])) }
+{
+    put_words(out, at, &[a, b]);
 }

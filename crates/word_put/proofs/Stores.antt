@@ -28,16 +28,6 @@ two_runs l m n xs ys i k em ek en = en ∙ ap₂ (λ (s : List ℕ) (j : ℕ). s
 pub behind : (l m n xs ys : List ℕ) (i k : ℕ) → m ≡ sets l i xs → k ≡ length xs → n ≡ sets m (i + k) ys → n ≡ sets l i (xs ++ ys)
 behind l m n xs ys i k em ek en = two_runs l m n xs ys i (i + k) em (ap (λ (j : ℕ). i + j) ek) en
 
-pub stores3 : (l f g e : List ℕ) (j a b c : ℕ) → f ≡ set l j a → g ≡ set f (j + 1) b → e ≡ set g (j + 2) c → e ≡ sets l j (a ∷ b ∷ c ∷ [])
-stores3 l f g e j a b c ef eg ee =
-    ee ∙ ap (λ (s : List ℕ). set s (j + 2) c) (eg ∙ ap (λ (s : List ℕ). set s (j + 1) b) ef) ∙ ap₂ (λ (x y : ℕ). set (set (set l j a) x b) y c) one two
-  where
-    one : j + 1 ≡ suc j
-    one = omega arith
-
-    two : j + 2 ≡ suc (suc j)
-    two = omega arith
-
 -- the rest of a list, as the part of it that a slice is
 pub part_is : (bs : List ℕ) (k : ℕ) → take (length bs - k) (drop k bs) ≡ drop k bs
 part_is bs k = take_all (length bs - k) (drop k bs) (omega (arith, length-drop k bs))

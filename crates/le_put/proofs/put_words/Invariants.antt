@@ -1,0 +1,8 @@
+-- What is left to store, from here, is the whole.
+use Rattle.std.proofs.Common.{◌≡◌, ◌+◌, ◌*◌, drop}
+use Rattle.std.proofs.lemmas.List.Edits.{sets}
+use Rattle.le.specs.Le.{bytes_of}
+use Rattle.le_put.proofs.put_words.Given as goal
+
+abbrev pub invariant-loop-i : goal.invariant-loop-i
+invariant-loop-i l = sets l.out (l.at + 8 * l.i) (bytes_of (drop l.i l.ws)) ≡ sets l.initial.out l.at (bytes_of l.ws)
