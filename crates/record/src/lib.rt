@@ -1,9 +1,69 @@
 // One event as bytes: the record at the start of a slice, and its lists. What lies past the end of the slice reads as 0.
 #![tactic(auto)]
 
-ghost use Rattle.std.specs.Prelude.{◌≡◌, ◌≤◌};
+ghost use Rattle.std.specs.Prelude.{◌≡◌, ◌≤◌, ◌<◌, ◌⊎◌, IfSome, IsNone, get_or};
 ghost use Rattle.std.proofs.lemmas.List.Edits.{sets};
-ghost use Rattle.record.specs.Record.{nine_of, record_of, tail_by, tail_of, first_by, first_at, second_at, tail_at, size_by, words_at};
+ghost use Rattle.record.specs.Kinds.{kind_of, number_of};
+ghost use Rattle.record.specs.Record.{word_table, nine_of, record_of, tail_of, first_by, first_at, second_at, tail_at, size_of, words_at};
+
+// The kinds of events, by their numbers in a record.
+#[derive(Clone, Copy, PartialEq, Eq, Debug)]
+pub enum EventKind {
+    HostOpen = 1,
+    HostCopy = 2,
+    HostDrop = 3,
+    HostPut = 4,
+    HostEnded = 5,
+    Reserve = 6,
+    Submit = 7,
+    Call = 8,
+    Generic = 9,
+    StdFs = 10,
+    Fmap = 11,
+    Close = 12,
+    Detach = 13,
+    Wake = 14,
+    Read = 15,
+    Write = 16,
+    Move = 17,
+    Obtain = 18,
+    Supply = 19,
+    FdWrite = 20,
+    FdRead = 21,
+}
+
+impl EventKind {
+    pub fn try_from_raw(raw: u8) -> Option<EventKind>
+        ensures value { result ≡ kind_of raw }
+        ensures number { IfSome result (λ kind. raw ≡ number_of kind) }
+        ensures none { IsNone result → (raw ≡ 0) ⊎ (21 < raw) }
+    {
+        Some(match raw {
+            1 => EventKind::HostOpen,
+            2 => EventKind::HostCopy,
+            3 => EventKind::HostDrop,
+            4 => EventKind::HostPut,
+            5 => EventKind::HostEnded,
+            6 => EventKind::Reserve,
+            7 => EventKind::Submit,
+            8 => EventKind::Call,
+            9 => EventKind::Generic,
+            10 => EventKind::StdFs,
+            11 => EventKind::Fmap,
+            12 => EventKind::Close,
+            13 => EventKind::Detach,
+            14 => EventKind::Wake,
+            15 => EventKind::Read,
+            16 => EventKind::Write,
+            17 => EventKind::Move,
+            18 => EventKind::Obtain,
+            19 => EventKind::Supply,
+            20 => EventKind::FdWrite,
+            21 => EventKind::FdRead,
+            _ => return None,
+        })
+    }
+}
 
 #[derive(Clone, Copy)]
 pub struct Nine(
@@ -72,35 +132,33 @@ pub fn record_at(s: &[u8]) -> Record
     fields(s)
 }
 
-fn wide(x: u8) -> usize
-    ensures { (result ≡ x) × (result ≤ 255) }
+// How many words stand before the lists.
+fn words_before(kind: EventKind) -> usize
+    ensures { (result ≡ get_or word_table (number_of kind) 0) × (result ≤ 9) }
 {
-    x as usize
+    match kind {
+        EventKind::HostEnded | EventKind::Reserve | EventKind::Move | EventKind::Obtain => 0,
+        EventKind::HostOpen
+        | EventKind::HostCopy
+        | EventKind::HostDrop
+        | EventKind::Close
+        | EventKind::Read
+        | EventKind::Write => 1,
+        EventKind::HostPut | EventKind::Detach => 2,
+        EventKind::Generic | EventKind::StdFs | EventKind::FdWrite => 3,
+        EventKind::Fmap | EventKind::Wake | EventKind::Supply | EventKind::FdRead => 4,
+        EventKind::Call => 8,
+        EventKind::Submit => 9,
+    }
 }
 
-// Where the lists begin: behind so many words, by kind.
+// Where the lists begin: behind a head of 16 bytes and the words.
 fn first_by(kind: u8) -> usize
     ensures { (result ≡ first_by kind) × (result ≤ 88) }
 {
-    match kind {
-        1 => 24,
-        2 => 24,
-        3 => 24,
-        4 => 32,
-        7 => 88,
-        8 => 80,
-        9 => 40,
-        10 => 40,
-        11 => 48,
-        12 => 24,
-        13 => 32,
-        14 => 48,
-        15 => 24,
-        16 => 24,
-        19 => 48,
-        20 => 40,
-        21 => 48,
-        _ => 16,
+    match EventKind::try_from_raw(kind) {
+        Some(kind) => 16 + 8 * words_before(kind),
+        None => 16,
     }
 }
 
@@ -113,36 +171,30 @@ fn first_at(r: Record) -> usize
 fn second_at(r: Record) -> usize
     ensures { (result ≡ second_at r) × (result ≤ 2128) }
 {
-    first_by(r.kind) + 8 * wide(r.first)
+    first_by(r.kind) + 8 * usize::from(r.first)
 }
 
 // Where its bytes begin, and how many there are.
 pub fn tail_at(r: Record) -> usize
     ensures { (result ≡ tail_at r) × (result ≤ 4168) }
 {
-    second_at(r) + 8 * wide(r.second)
-}
-
-pub fn tail_by(kind: u8, number: u32) -> usize
-    ensures { (result ≡ tail_by kind number) × (result ≤ 0xffff_ffff) }
-{
-    if kind == 16 {
-        return number as usize;
-    }
-    0
+    second_at(r) + 8 * usize::from(r.second)
 }
 
 pub fn tail(r: Record) -> usize
     ensures { (result ≡ tail_of r) × (result ≤ 0xffff_ffff) }
 {
-    tail_by(r.kind, r.number)
+    match EventKind::try_from_raw(r.kind) {
+        Some(EventKind::Write) => r.number as usize,
+        _ => 0,
+    }
 }
 
-// All its bytes, told from its first ones.
-pub fn size_by(kind: u8, first: u8, second: u8, number: u32) -> usize
-    ensures { result ≡ size_by kind first second number }
+// All its bytes.
+pub fn size(r: Record) -> usize
+    ensures { result ≡ size_of r }
 {
-    first_by(kind) + 8 * wide(first) + 8 * wide(second) + tail_by(kind, number)
+    tail_at(r) + tail(r)
 }
 
 // So many words from a place, into those lent from the first on.
@@ -150,11 +202,8 @@ fn words_at(s: &[u8], at: usize, n: u8, out: &mut [u64])
     requires { at ≤ 0x1_0000_0000 }
     ensures { out.new ≡ sets out.old 0 (words_at s.now at n) }
 {
-    let m = wide(n);
-    let mut i = 0;
-    while i < m {
+    for i in 0..usize::from(n) {
         word_put::put(out, i, le::word(s, at + 8 * i));
-        i += 1;
     }
 }
 
