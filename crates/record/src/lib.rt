@@ -1,7 +1,7 @@
 // One event as bytes: the record at the start of a slice, and its lists. What lies past the end of the slice reads as 0.
 #![tactic(auto)]
 
-ghost use Rattle.std.specs.Prelude.{◌≡◌, ◌≤◌, ◌<◌, ◌⊎◌, IfSome, IsNone, get_or};
+ghost use Rattle.std.specs.Prelude.{◌≡◌, ◌≤◌, ◌↔◌, IfSome, IsSome, get_or};
 ghost use Rattle.std.proofs.lemmas.List.Edits.{sets};
 ghost use Rattle.record.specs.Kinds.{kind_of, number_of};
 ghost use Rattle.record.specs.Record.{word_table, nine_of, record_of, tail_of, first_by, first_at, second_at, tail_at, size_of, words_at};
@@ -36,7 +36,7 @@ impl EventKind {
     pub fn try_from_raw(raw: u8) -> Option<EventKind>
         ensures value { result ≡ kind_of raw }
         ensures number { IfSome result (λ kind. raw ≡ number_of kind) }
-        ensures none { IsNone result → (raw ≡ 0) ⊎ (21 < raw) }
+        ensures named { IsSome result ↔ (1 ≤ raw) × (raw ≤ 21) }
     {
         Some(match raw {
             1 => EventKind::HostOpen,

@@ -1,142 +1,104 @@
 // Whether the record at the start of a slice is an event, and its size.
 #![tactic(auto)]
 
-ghost use Rattle.std.specs.Prelude.{◌≡◌, get_or};
-ghost use Rattle.record.specs.declared.Nine.{Nine};
+ghost use Rattle.std.specs.Prelude.{◌≡◌, ◌||◌, cond, eqb, get_or};
+ghost use Rattle.record.specs.Kinds.{number_of};
 ghost use Rattle.record.specs.Record.{first_table, second_table, flag_table, number_table, user_table, is_event, next_of};
 
-// By kind, the most that each field may hold.
-fn first_most(kind: u8) -> u8
-    ensures { result ≡ get_or first_table kind 0 }
+use record::{EventKind, Record};
+
+// By kind, whether the event has a field; one that it lacks must be 0.
+fn has_first_list(kind: EventKind) -> bool
+    ensures { get_or first_table (number_of kind) 0 ≡ cond result 255 0 }
 {
-    match kind {
-        7 => 255,
-        8 => 255,
-        9 => 255,
-        10 => 255,
-        17 => 255,
-        18 => 255,
-        20 => 255,
-        21 => 255,
-        _ => 0,
-    }
+    matches!(
+        kind,
+        EventKind::Submit
+            | EventKind::Call
+            | EventKind::Generic
+            | EventKind::StdFs
+            | EventKind::Move
+            | EventKind::Obtain
+            | EventKind::FdWrite
+            | EventKind::FdRead
+    )
 }
 
-fn second_most(kind: u8) -> u8
-    ensures { result ≡ get_or second_table kind 0 }
+fn has_second_list(kind: EventKind) -> bool
+    ensures { get_or second_table (number_of kind) 0 ≡ cond result 255 0 }
 {
-    match kind {
-        9 => 255,
-        10 => 255,
-        17 => 255,
-        20 => 255,
-        _ => 0,
-    }
+    matches!(
+        kind,
+        EventKind::Generic | EventKind::StdFs | EventKind::Move | EventKind::FdWrite
+    )
 }
 
-fn flags_most(kind: u8) -> u8
-    ensures { result ≡ get_or flag_table kind 0 }
+fn has_flags(kind: EventKind) -> bool
+    ensures { get_or flag_table (number_of kind) 0 ≡ cond result 255 0 }
 {
-    match kind {
-        7 => 255,
-        _ => 0,
-    }
+    matches!(kind, EventKind::Submit)
 }
 
-fn number_most(kind: u8) -> u32
-    ensures { result ≡ get_or number_table kind 0 }
+fn has_number(kind: EventKind) -> bool
+    ensures { get_or number_table (number_of kind) 0 ≡ cond result 0xffff_ffff 0 }
 {
-    match kind {
-        5 => 0xffff_ffff,
-        6 => 0xffff_ffff,
-        7 => 0xffff_ffff,
-        8 => 0xffff_ffff,
-        9 => 0xffff_ffff,
-        10 => 0xffff_ffff,
-        11 => 0xffff_ffff,
-        14 => 0xffff_ffff,
-        15 => 0xffff_ffff,
-        16 => 0xffff_ffff,
-        20 => 0xffff_ffff,
-        21 => 0xffff_ffff,
-        _ => 0,
-    }
+    matches!(
+        kind,
+        EventKind::HostEnded
+            | EventKind::Reserve
+            | EventKind::Submit
+            | EventKind::Call
+            | EventKind::Generic
+            | EventKind::StdFs
+            | EventKind::Fmap
+            | EventKind::Wake
+            | EventKind::Read
+            | EventKind::Write
+            | EventKind::FdWrite
+            | EventKind::FdRead
+    )
 }
 
-fn users_most(kind: u8) -> u32
-    ensures { result ≡ get_or user_table kind 0 }
+fn has_users(kind: EventKind) -> bool
+    ensures { get_or user_table (number_of kind) 0 ≡ cond result 0xffff_ffff 0 }
 {
-    match kind {
-        8 => 0xffff_ffff,
-        11 => 0xffff_ffff,
-        20 => 0xffff_ffff,
-        21 => 0xffff_ffff,
-        _ => 0,
-    }
+    matches!(
+        kind,
+        EventKind::Call | EventKind::Fmap | EventKind::FdWrite | EventKind::FdRead
+    )
 }
 
-// Told from a record's first bytes; its words don't matter.
-fn is_event(
-    kind: u8,
-    first: u8,
-    second: u8,
-    flags: u8,
-    number: u32,
-    uid: u32,
-    gid: u32,
-    left: usize,
-) -> bool
-    ensures { (ws : Nine) → result ≡ is_event (record { kind = kind; first = first; second = second; flags = flags; number = number; uid = uid; gid = gid; words = ws }) left }
+// Whether a field that the event lacks is 0.
+fn is_allowed(has: bool, field: u32) -> bool
+    ensures { result ≡ (has || eqb field 0) }
 {
-    if kind < 1 {
-        return false;
-    }
-    if 21 < kind {
-        return false;
-    }
-    if first_most(kind) < first {
-        return false;
-    }
-    if second_most(kind) < second {
-        return false;
-    }
-    if flags_most(kind) < flags {
-        return false;
-    }
-    if number_most(kind) < number {
-        return false;
-    }
-    if users_most(kind) < uid {
-        return false;
-    }
-    if users_most(kind) < gid {
-        return false;
-    }
-    record::size_by(kind, first, second, number) <= left
+    has || field == 0
 }
 
-// The size of the event at the start of a slice, 0 where there is none. None is shorter than 16 bytes.
+// Whether a record is an event, all of whose bytes are among the `left` that there are.
+fn is_event(r: Record, left: usize) -> bool
+    ensures { result ≡ is_event r left }
+{
+    let Some(kind) = EventKind::try_from_raw(r.kind) else {
+        return false;
+    };
+    // Each test is cheap, so all are made, with no branch between them.
+    is_allowed(has_first_list(kind), u32::from(r.first))
+        & is_allowed(has_second_list(kind), u32::from(r.second))
+        & is_allowed(has_flags(kind), u32::from(r.flags))
+        & is_allowed(has_number(kind), r.number)
+        & is_allowed(has_users(kind), r.uid)
+        & is_allowed(has_users(kind), r.gid)
+        & (record::size(r) <= left)
+}
+
+// The size of the event at the start of a slice, 0 where there is none.
 pub fn next(s: &[u8]) -> usize
     ensures { result ≡ next_of s.now }
 {
-    if s.len() < 16 {
-        return 0;
-    }
-    let kind = le::byte(s, 0);
-    let first = le::byte(s, 1);
-    let second = le::byte(s, 2);
-    let number = le::half(s, 4);
-    if is_event(
-        kind,
-        first,
-        second,
-        le::byte(s, 3),
-        number,
-        le::half(s, 8),
-        le::half(s, 12),
-        s.len(),
-    ) {
-        return record::size_by(kind, first, second, number);
+    let r = record::record_at(s);
+    if is_event(r, s.len()) {
+        return record::size(r);
     }
     0
 }
