@@ -27,17 +27,6 @@ grown l out f i x e p =
     ∙ sets_then (each f i) (f i ∷ []) l 0
     ∙ ap (λ (k : ℕ). sets l 0 (each f k)) (sym (add-one i))
 
--- a record by its first bytes, each read by itself
-pub head_is :
-    (bs : List ℕ) (k f s g n u d : ℕ) → k ≡ byte bs 0 → f ≡ byte bs 1 → s ≡ byte bs 2 → g ≡ byte bs 3 → n ≡ half bs 4 → u ≡ half bs 8 → d ≡ half bs 12
-    → ◌≡◌ {A = Record} (record { kind = k; first = f; second = s; flags = g; number = n; uid = u; gid = d; words = nine_of bs }) (record_of bs)
-head_is bs k f s g n u d ek ef es eg en eu ed =
-    λ i. record { kind = ek i; first = ef i; second = es i; flags = eg i; number = en i; uid = eu i; gid = ed i; words = nine_of bs }
-
--- the size of the next event, by the test
-pub next_is : (bs : List ℕ) (b : Bool) → b ≡ is_event (record_of bs) (length bs) → cond b (size_of (record_of bs)) 0 ≡ next_of bs
-next_is bs b eb = ap (λ (x : Bool). cond x (size_of (record_of bs)) 0) eb
-
 -- the next event's bytes are all there
 right : (a b : Bool) → a && b ≡ true → b ≡ true
 right true b e = e
@@ -74,14 +63,6 @@ next_there bs = go (dec_lt 0 (next_of bs))
     go : Dec (0 < next_of bs) → next_of bs ≤ length bs
     go (yes h) = omega (arith, next_size bs h, all_there bs h)
     go (no h) = omega (arith, h)
-
--- no event is shorter than 16 bytes
-pub next_short : (bs : List ℕ) → length bs < 16 → 0 ≡ next_of bs
-next_short bs h = go (dec_lt 0 (next_of bs))
-  where
-    go : Dec (0 < next_of bs) → 0 ≡ next_of bs
-    go (yes p) = absurd (let z : ⊥ = omega (arith, h, all_there bs p) in z)
-    go (no p) = omega (arith, p)
 
 pub some : (n : ℕ) → (n ≡ 0 → ⊥) → 0 < n
 some zero z = absurd (z refl)
