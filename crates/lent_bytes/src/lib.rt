@@ -11,26 +11,13 @@ ghost use Rattle.outcome_bytes.specs.Output.{told};
 
 use answer::Answer;
 
-fn put_words(out: &mut [u8], at: usize, ws: &[u64])
-    requires { at ≤ 0x4000_0000_0000_0000 }
-    ensures { out.new ≡ sets out.old at (bytes_of ws.now) }
-{
-    let n = ws.len();
-    let mut i = 0;
-    while i < n {
-        le_put::put8(out, at + 8 * i, ws[i]);
-        i += 1;
-    }
-}
-
 // What stands before the bytes of a read, which hands nothing over: the two words of its answer, that it has no effects, and how
 // many bytes there are.
 pub fn put_head(out: &mut [u8], a: Answer, n: usize)
     ensures { out.new ≡ sets out.old 0 (bytes_of ((words_of (said a)).kind ∷ (words_of (said a)).value ∷ 0 ∷ n ∷ [])) }
 {
     let w = answer_words::words(a);
-    le_put::put_two(out, 0, w.kind, w.value);
-    le_put::put_two(out, 16, 0, n as u64);
+    le_put::put_words(out, 0, &[w.kind, w.value, 0, n as u64]);
 }
 
 // A write, with the words of its effects.
@@ -42,7 +29,7 @@ pub fn put_completed(out: &mut [u8], a: Answer, fx: &[u64]) -> usize
     let k = outcome_bytes::put_answer(out, a);
     let n = fx.len();
     le_put::put8(out, k, n as u64);
-    put_words(out, k + 8, fx);
+    le_put::put_words(out, k + 8, fx);
     le_put::put8(out, k + 8 + 8 * n, 0);
     k + 16 + 8 * n
 }

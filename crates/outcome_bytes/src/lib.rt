@@ -9,7 +9,6 @@ ghost use Rattle.le.specs.Le.{bytes_of};
 ghost use Rattle.effect.specs.Effect.{effect_words};
 ghost use Rattle.events.specs.Outcome.{reply as replied, said_with, said};
 ghost use Rattle.events.specs.Wake.{response_from};
-ghost use Rattle.status.specs.Status.{bit};
 ghost use Rattle.outcome_bytes.specs.Output.{answer_words, told};
 
 use answer::Answer;
@@ -22,22 +21,9 @@ fn put_fds(out: &mut [u8], at: usize, l: List)
     requires { at ≤ 0x4000_0000_0000_0000 }
     ensures { out.new ≡ sets out.old at (bytes_of (numbers l)) }
 {
-    let n = fd_list::size(l);
-    let mut i = 0;
-    while i < n {
-        let d = fd_list::pick(l, i);
-        le_put::put8(out, at + 8 * i, d.0 as u64);
-        i += 1;
+    for i in 0..fd_list::size(l) {
+        le_put::put8(out, at + 8 * i, u64::from(fd_list::pick(l, i).0));
     }
-}
-
-fn mark(b: bool) -> u64
-    ensures { result ≡ bit b }
-{
-    if b {
-        return 1;
-    }
-    0
 }
 
 // An effect's words behind their number; says how many bytes.
@@ -66,7 +52,7 @@ fn put_reply(out: &mut [u8], r: Reply, fds: List) -> usize
     let kind = r.kind;
     if kind < 2 {
         le_put::put_two(out, 0, 4 + kind as u64, r.word);
-        le_put::put_two(out, 16, r.extra0 as u64, mark(r.notice));
+        le_put::put_two(out, 16, r.extra0 as u64, u64::from(r.notice));
         return 32;
     }
     if kind == 2 {

@@ -1,7 +1,7 @@
 // Whether the record at the start of a slice is an event, and its size.
 #![tactic(auto)]
 
-ghost use Rattle.std.specs.Prelude.{◌≡◌, ◌||◌, cond, eqb, get_or};
+ghost use Rattle.std.specs.Prelude.{◌≡◌, ◌||◌, ◌<◌, cond, eqb, get_or, unwrap_or, IfSome};
 ghost use Rattle.record.specs.Kinds.{number_of};
 ghost use Rattle.record.specs.Record.{first_table, second_table, flag_table, number_table, user_table, is_event, next_of};
 
@@ -92,13 +92,11 @@ fn is_event(r: Record, left: usize) -> bool
         & (record::size(r) <= left)
 }
 
-// The size of the event at the start of a slice, 0 where there is none.
-pub fn next(s: &[u8]) -> usize
-    ensures { result ≡ next_of s.now }
+// The size of the event at the start of a slice, where there is one.
+pub fn next(s: &[u8]) -> Option<usize>
+    ensures value { unwrap_or result 0 ≡ next_of s.now }
+    ensures some { IfSome result (λ size. 0 < size) }
 {
     let r = record::record_at(s);
-    if is_event(r, s.len()) {
-        return record::size(r);
-    }
-    0
+    is_event(r, s.len()).then_some(record::size(r))
 }

@@ -1,12 +1,14 @@
 -- The room that a run needs, record by record. Assumes nothing.
 use Prim.Native.Nat.{ℕ, zero, suc, min, ◌+◌, ◌-◌, ◌*◌, ◌<◌, ◌≤◌}
-use mathlib.Core.Path.{◌≡◌, refl, sym, ap, ap₂, ◌∙◌}
+use mathlib.Core.Path.{◌≡◌, refl, sym, ap, ap₂, ◌∙◌, subst}
 use mathlib.Core.Bool.{Bool, true, false, cond}
 use mathlib.Core.List.{List}
 use native.Mathlib.Omega.{arith}
 use lib.Dec.{eqb, leb}
 use lib.ListN.{length, drop, length-drop}
 use lib.Seq.{drop-drop}
+use Rattle.std.proofs.Common.{Option, Some, None, is_some, SomeIff, MatchOption}
+use Rattle.std.proofs.lemmas.Bool.Decides.{nat_tests}
 use borrow.Author.Tests.{eq-eqb, ne_eqb, le-leb, lt-leb, leb-true, leb-false}
 use Rattle.record.specs.Record.{record_of, tail_by, next_of, walk}
 use Rattle.record.proofs.Laws.{next_there, walk_ends, walk_goes_on}
@@ -16,11 +18,6 @@ use Rattle.run_room.specs.declared.Walked.{Walked}
 
 pub room_is_read : (kind number word : ℕ) → kind ≡ 15 → 192 + min word 8192 + 27 * tail_by kind number ≡ room_by kind number word
 room_is_read kind number word e = ap (λ (b : Bool). 192 + cond b (min word 8192) 0 + 27 * tail_by kind number) (sym (eq-eqb kind 15 e))
-
-pub room_is_other : (kind number word : ℕ) → (kind ≡ 15 → ⊥) → 192 + 27 * tail_by kind number ≡ room_by kind number word
-room_is_other kind number word e =
-    (let z : 192 + 27 * tail_by kind number ≡ 192 + 0 + 27 * tail_by kind number = omega arith in z)
-    ∙ ap (λ (b : Bool). 192 + cond b (min word 8192) 0 + 27 * tail_by kind number) (sym (ne_eqb kind 15 e))
 
 -- the state's own bytes are always needed
 least_room : (f : ℕ) (bs : List ℕ) → state_size ≤ walk (λ rest. state_size) (λ rest n. room_of (record_of rest) + n) f bs
@@ -45,41 +42,37 @@ needed_goes_on bs e = walk_goes_on (λ rest. state_size) (λ rest n. room_of (re
 pub place_on : (bs : List ℕ) (at size : ℕ) → size ≡ next_of (drop at bs) → at ≤ length bs → at + size ≤ length bs
 place_on bs at size es h = omega (arith, h, es, next_there (drop at bs), length-drop at bs)
 
--- what is left to spend decides as the whole does
-abbrev pub Spent : List ℕ → ℕ → ℕ → ℕ → Type 0
-Spent bs most left at = leb (needed bs) most ≡ leb (needed (drop at bs)) (left + state_size)
+-- what is left to spend decides as the whole does; none is left once an event has had no room
+abbrev pub Spent : List ℕ → ℕ → Option ℕ → ℕ → Type 0
+Spent bs most None at = leb (needed bs) most ≡ false
+Spent bs most (Some left) at = leb (needed bs) most ≡ leb (needed (drop at bs)) (left + state_size)
 
-pub spent_start : (bs : List ℕ) (most : ℕ) → state_size ≤ most → Spent bs most (most - state_size) 0
-spent_start bs most h = ap (leb (needed bs)) (let z : most ≡ most - state_size + state_size = omega (arith, h) in z)
+pub spent_start : (bs : List ℕ) (most : ℕ) (left : Option ℕ) → SomeIff left (state_size ≤ most) (most - state_size) → Spent bs most left 0
+spent_start bs most None h = lt-leb (needed bs) most (omega (arith, h, needed_least bs))
+spent_start bs most (Some left) h = ap (leb (needed bs)) (let z : most ≡ left + state_size = omega (arith, h) in z)
 
-pub too_short : (bs : List ℕ) (most : ℕ) → most < state_size → false ≡ leb (needed bs) most
-too_short bs most h = sym (lt-leb (needed bs) most (omega (arith, h, needed_least bs)))
+pub spent_ends : (bs : List ℕ) (most : ℕ) (left : Option ℕ) (at : ℕ) → Spent bs most left at → next_of (drop at bs) ≡ 0 → is_some left ≡ leb (needed bs) most
+spent_ends bs most None at so e = sym so
+spent_ends bs most (Some left) at so e = sym (so ∙ le-leb (needed (drop at bs)) (left + state_size) (omega (arith, needed_ends (drop at bs) e)))
 
-module _ (bs : List ℕ) (most left at k size : ℕ) (so : Spent bs most left at) (es : size ≡ next_of (drop at bs)) where
-  pub spent_ends : size ≡ 0 → true ≡ leb (needed bs) most
-  spent_ends z = sym (so ∙ le-leb (needed (drop at bs)) (left + state_size) (omega (arith, needed_ends (drop at bs) (sym es ∙ z))))
+-- past one more event, whose bytes may take k
+module _ (bs : List ℕ) (most at k size : ℕ) (es : size ≡ next_of (drop at bs)) (more : 0 < size) (ek : k ≡ room_of (record_of (drop at bs))) where
+  on : needed (drop at bs) ≡ k + needed (drop (at + size) bs)
+  on =
+      needed_goes_on (drop at bs) (λ z. omega (arith, es, more, z))
+      ∙ ap₂ ◌+◌ (sym ek) (ap needed (ap (λ (n : ℕ). drop n (drop at bs)) (sym es) ∙ drop-drop size at bs))
 
-  module _ (more : size ≡ 0 → ⊥) (ek : k ≡ room_of (record_of (drop at bs))) where
-    on : needed (drop at bs) ≡ k + needed (drop (at + size) bs)
-    on =
-        needed_goes_on (drop at bs) (λ z. more (es ∙ z))
-        ∙ ap₂ ◌+◌ (sym ek) (ap needed (ap (λ (n : ℕ). drop n (drop at bs)) (sym es) ∙ drop-drop size at bs))
+  same : (left : ℕ) → k ≤ left → leb (needed (drop at bs)) (left + state_size) ≡ leb (needed (drop (at + size) bs)) (left - k + state_size)
+  same left h = grind (arith, nat_tests, on)
 
-    pub spent_short : left < k → false ≡ leb (needed bs) most
-    spent_short h = sym (so ∙ lt-leb (needed (drop at bs)) (left + state_size) (omega (arith, h, on, needed_least (drop (at + size) bs))))
+  spent_by : (left : ℕ) (rest : Option ℕ) → Spent bs most (Some left) at → SomeIff rest (k ≤ left) (left - k) → Spent bs most rest (at + size)
+  spent_by left None so h =
+      so ∙ lt-leb (needed (drop at bs)) (left + state_size) (omega (arith, h, on, needed_least (drop (at + size) bs)))
+  spent_by left (Some rest) so h = so ∙ same left h.0 ∙ ap (λ (n : ℕ). leb (needed (drop (at + size) bs)) (n + state_size)) (sym h.1)
 
-    pub spent_on : k ≤ left → Spent bs most (left - k) (at + size)
-    spent_on h = so ∙ same (needed (drop at bs)) (needed (drop (at + size) bs)) on
-      where
-        same : (n m : ℕ) → n ≡ k + m → leb n (left + state_size) ≡ leb m (left - k + state_size)
-        same n m e = by (leb m (left - k + state_size)) refl
-          where
-            by : (b : Bool) → leb m (left - k + state_size) ≡ b → leb n (left + state_size) ≡ b
-            by true p = le-leb n (left + state_size) (omega (arith, h, e, leb-true m (left - k + state_size) p))
-            by false p = lt-leb n (left + state_size) (omega (arith, h, e, leb-false m (left - k + state_size) p))
-
-  pub spent_place : at ≤ length bs → at + size ≤ length bs
-  spent_place h = place_on bs at size es h
+  pub spent_on : (left rest : Option ℕ) → Spent bs most left at → MatchOption left (rest ≡ None) (λ n. SomeIff rest (k ≤ n) (n - k)) → Spent bs most rest (at + size)
+  spent_on None rest so h = subst (λ (o : Option ℕ). Spent bs most o (at + size)) (sym h) so
+  spent_on (Some left) rest so h = spent_by left rest so h
 
 -- how many bytes are left where the events end
 left_most : (f : ℕ) (bs : List ℕ) → walk (λ rest. length rest) (λ rest n. n) f bs ≤ length bs

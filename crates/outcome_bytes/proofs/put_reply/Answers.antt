@@ -4,7 +4,7 @@ use mathlib.Core.Path.{refl}
 use Rattle.outcome_bytes.proofs.put_reply.Goals as goal
 
 pub returns-then-kind-lt2-clause-out_after : goal.returns-then-kind-lt2-clause-out_after
-returns-then-kind-lt2-clause-out_after c = (regular_runs c.args.r c.args.fds c.args.out.now _ _ _ _ c.if-kind-lt2.true c.put_two.ensures refl c.mark.ensures c.put_two-then-kind-lt2.ensures).0
+returns-then-kind-lt2-clause-out_after c = (regular_runs c.args.r c.args.fds c.args.out.now _ _ _ _ c.if-kind-lt2.true c.put_two.ensures refl c.from.ensures c.put_two-then-kind-lt2.ensures).0
 
 pub returns-then-kind-eq2-clause-out_after : goal.returns-then-kind-eq2-clause-out_after
 returns-then-kind-eq2-clause-out_after c = (descriptor_runs c.args.r c.args.fds c.args.out.now c.args.out.now _ c.if-kind-eq2.true c.put_two-then-kind-eq2.ensures).0
