@@ -1,14 +1,19 @@
 -- The event of a record, by its kind. Assumes nothing.
-use Prim.Native.Nat.{ℕ, zero, suc, ◌≤◌}
+use Prim.Native.Nat.{ℕ, zero, suc, ◌<◌, ◌≤◌}
 use mathlib.Core.Path.{◌≡◌, refl, sym, ap, ◌∙◌, subst}
 use mathlib.Core.Bool.{Bool, true, false, ◌||◌, true≢false}
 use mathlib.Core.List.{List, [], ◌∷◌}
 use native.Mathlib.Omega.{arith}
+use native.Mathlib.Decide.{dec_lt}
 use lib.ListN.{get_or}
 use lib.Dec.{eqb, ltb}
-use borrow.Author.Tests.{eq-eqb, ne_eqb, lt-ltb}
-use Rattle.events.specs.Outcome.{Answer, no as refusal}
+use Rattle.events.specs.Outcome.{Answer}
 use Rattle.events.specs.Event.{Event}
+use Rattle.std.proofs.Common.{Option, Some, None, IfSome, IsSome, unwrap_or, ◌↔◌}
+use Rattle.std.proofs.lemmas.Bool.Decides.{nat_tests}
+use Rattle.record.specs.Kinds.{number_of}
+use Rattle.record.specs.declared.EventKind.{EventKind}
+use Rattle.record.specs.declared.EventKind.TheVariants.{Supply}
 use Rattle.record.specs.declared.Record.{Record}
 use Rattle.record.specs.Record.{supply_of, event_table, event_named}
 use Rattle.step.specs.Does.{Does}
@@ -29,11 +34,7 @@ looked_up P [] d p f n = f n
 looked_up P (e ∷ es) d p f zero = p.0
 looked_up P (e ∷ es) d p f (suc n) = looked_up (λ k. P (suc k)) es d p.1 (λ k. f (suc k)) n
 
--- a kind that is none of the three
-pub no_more : (n : ℕ) → (n ≡ 14 → ⊥) → (n ≡ 15 → ⊥) → (n ≡ 16 → ⊥) → tells_more n ≡ false
-no_more n a b c = λ i. ne_eqb n 14 a i || ne_eqb n 15 b i || ne_eqb n 16 c i
-
--- a kind that no arm of the dispatch names
+-- a kind that is taken as a supply
 abbrev pub is_other : ℕ → Bool
 is_other k = eqb k 0 || eqb k 19 || ltb 21 k
 
@@ -45,13 +46,13 @@ module _ (r : Record) (xs ys bs : List ℕ) (lent : ℕ) where
   abbrev Last : ℕ → Event → Type 0
   Last k e = is_other k ≡ true → e ≡ supply_of r.words
 
-  no : {e : Event} → false ≡ true → e ≡ supply_of r.words
-  no z = absurd (true≢false (sym z))
+  never : {e : Event} → false ≡ true → e ≡ supply_of r.words
+  never z = absurd (true≢false (sym z))
 
   last : (k : ℕ) → Last k (named k)
   last k =
       looked_up Last (event_table r xs ys bs lent) (supply_of r.words)
-      ((λ z. refl) & no & no & no & no & no & no & no & no & no & no & no & no & no & no & no & no & no & no & (λ z. refl) & no & no & tt) (λ k z. refl) k
+      ((λ z. refl) & never & never & never & never & never & never & never & never & never & never & never & never & never & never & never & never & never & never & (λ z. refl) & never & never & tt) (λ k z. refl) k
 
   module _ (ws vs : List ℕ) (a : Answer) (fx : List ℕ) where
     pub as_kind : (n k : ℕ) → n ≡ k → Dispatched (tells_more k) ws vs (named k) a fx → Dispatched (tells_more n) ws vs (named n) a fx
@@ -61,24 +62,13 @@ module _ (r : Record) (xs ys bs : List ℕ) (lent : ℕ) where
     as_supply n h d =
         subst (λ (b : Bool). Dispatched b ws vs (named n) a fx) (sym h.1) (subst (λ (e : Event). Does ws vs e a fx) (sym (last n h.0)) d)
 
--- none of the kinds below
-past : (n k : ℕ) → k ≤ n → (n ≡ k → ⊥) → suc k ≤ n
-past n k h z = omega (arith, h, z)
-
--- by whether it is 0, and 19
-pub over :
-    (n : ℕ)
-    → (n ≡ 1 → ⊥) → (n ≡ 2 → ⊥) → (n ≡ 3 → ⊥) → (n ≡ 4 → ⊥) → (n ≡ 5 → ⊥) → (n ≡ 6 → ⊥) → (n ≡ 7 → ⊥) → (n ≡ 8 → ⊥) → (n ≡ 9 → ⊥) → (n ≡ 10 → ⊥) → (n ≡ 11 → ⊥) → (n ≡ 12 → ⊥) → (n ≡ 13 → ⊥) → (n ≡ 14 → ⊥) → (n ≡ 15 → ⊥) → (n ≡ 16 → ⊥) → (n ≡ 17 → ⊥) → (n ≡ 18 → ⊥) → (n ≡ 20 → ⊥) → (n ≡ 21 → ⊥)
-    → (is_other n ≡ true) × (tells_more n ≡ false)
-over n a b c d e f g h i j k l m o₁ o₂ o₃ p q t u = (go (eqb n 0) (eqb n 19) refl refl, no_more n o₁ o₂ o₃)
+-- a number that names no kind, or a supply's
+pub supply_or_none : (k : Option EventKind) (n : ℕ) → IfSome k (λ kind. n ≡ number_of kind) → (IsSome k ↔ (1 ≤ n) × (n ≤ 21)) → unwrap_or k Supply ≡ Supply → (is_other n ≡ true) × (tells_more n ≡ false)
+supply_or_none (Some kind) n e b s =
+    subst (λ (m : ℕ). (is_other m ≡ true) × (tells_more m ≡ false)) (sym (e ∙ ap number_of s)) (refl, refl)
+supply_or_none None n e b s = by (dec_lt 0 n) (dec_lt 21 n)
   where
-    up : (n ≡ 0 → ⊥) → (n ≡ 19 → ⊥) → 22 ≤ n
-    up x y =
-        let z : 1 ≤ n = past n 0 (omega arith) x in
-        past n 21 (past n 20 (past n 19 (past n 18 (past n 17 (past n 16 (past n 15 (past n 14 (past n 13 (past n 12 (past n 11 (past n 10 (past n 9 (past n 8 (past n 7 (past n 6 (past n 5 (past n 4 (past n 3 (past n 2 (past n 1 z a) b) c) d) e) f) g) h) i) j) k) l) m) o₁) o₂) o₃) p) q) y) t) u
-
-    go : (x y : Bool) → eqb n 0 ≡ x → eqb n 19 ≡ y → x || y || ltb 21 n ≡ true
-    go true y ex ey = refl
-    go false true ex ey = refl
-    go false false ex ey =
-        lt-ltb 21 n (up (λ z. true≢false (sym (eq-eqb n 0 z) ∙ ex)) (λ z. true≢false (sym (eq-eqb n 19 z) ∙ ey)))
+    by : Dec (0 < n) → Dec (21 < n) → (is_other n ≡ true) × (tells_more n ≡ false)
+    by (no z) d = subst (λ (m : ℕ). (is_other m ≡ true) × (tells_more m ≡ false)) (let q : 0 ≡ n = omega (arith, z) in q) (refl, refl)
+    by (yes l) (no m) = absurd (true≢false (sym (b.1 (omega (arith, l), omega (arith, m)))))
+    by (yes l) (yes m) = (grind (arith, nat_tests), grind (arith, nat_tests))

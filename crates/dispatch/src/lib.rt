@@ -9,7 +9,7 @@ ghost use Rattle.dispatch.specs.Dispatch.{tells_more, Dispatched};
 
 use answer::Answer;
 use ids::Tag;
-use record::Record;
+use record::{EventKind, Record};
 use schemev2::Args;
 use step::Step;
 
@@ -19,15 +19,16 @@ pub fn event(s: &mut [u64; 2060], r: Record, first: &[u64], second: &[u64]) -> S
 {
     let a = r.words;
     let c = r.number;
-    let kind = r.kind;
+    // A number that names no kind is a supply's, as in `event_named`.
+    let kind = EventKind::try_from_raw(r.kind).unwrap_or(EventKind::Supply);
     match kind {
-        1 => host::open(s, a.0),
-        2 => host::copy(s, a.0),
-        3 => host::drop(s, a.0),
-        4 => host::put(s, a.0, a.1),
-        5 => host::ended(s, c),
-        6 => next_id::next_id(s, c),
-        7 => submit::submit(
+        EventKind::HostOpen => host::open(s, a.0),
+        EventKind::HostCopy => host::copy(s, a.0),
+        EventKind::HostDrop => host::drop(s, a.0),
+        EventKind::HostPut => host::put(s, a.0, a.1),
+        EventKind::HostEnded => host::ended(s, c),
+        EventKind::Reserve => next_id::next_id(s, c),
+        EventKind::Submit => submit::submit(
             s,
             first,
             Tag(a.0),
@@ -37,7 +38,7 @@ pub fn event(s: &mut [u64; 2060], r: Record, first: &[u64], second: &[u64]) -> S
             Args(a.2, a.3, a.4, a.5, a.6, a.7),
             a.8,
         ),
-        8 => call::call(
+        EventKind::Call => call::call(
             s,
             first,
             c,
@@ -47,18 +48,18 @@ pub fn event(s: &mut [u64; 2060], r: Record, first: &[u64], second: &[u64]) -> S
             r.gid,
             a.7,
         ),
-        9 => call_generic::call_generic(s, c, a.0, first, a.1, a.2, second),
-        10 => call_generic::translate_std_fs_call(s, c, a.0, first, a.1, a.2, second),
-        11 => request_fmap::request_fmap(s, c, a.0, a.1, a.2, r.uid, r.gid, a.3),
-        12 => close::close(s, a.0),
-        13 => close::detach(s, a.0, a.1),
-        14 => step::answered(Answer::BadArgument),
-        15 => step::answered(Answer::BadArgument),
-        16 => step::answered(Answer::BadArgument),
-        17 => call_fd::call_fdwrite(s, first, second),
-        18 => call_fd::call_fdread(s, first),
-        20 => kfd::kfdwrite(s, second, first, c, a.0, a.1, r.uid, r.gid, a.2),
-        21 => kfd::kfdread(s, first, c, a.0, a.1, a.2, r.uid, r.gid, a.3),
-        _ => provide_mmap::provide_mmap(s, Tag(a.0), a.1, a.2, a.3),
+        EventKind::Generic => call_generic::call_generic(s, c, a.0, first, a.1, a.2, second),
+        EventKind::StdFs => call_generic::translate_std_fs_call(s, c, a.0, first, a.1, a.2, second),
+        EventKind::Fmap => request_fmap::request_fmap(s, c, a.0, a.1, a.2, r.uid, r.gid, a.3),
+        EventKind::Close => close::close(s, a.0),
+        EventKind::Detach => close::detach(s, a.0, a.1),
+        EventKind::Wake | EventKind::Read | EventKind::Write => {
+            step::answered(Answer::BadArgument)
+        }
+        EventKind::Move => call_fd::call_fdwrite(s, first, second),
+        EventKind::Obtain => call_fd::call_fdread(s, first),
+        EventKind::FdWrite => kfd::kfdwrite(s, second, first, c, a.0, a.1, r.uid, r.gid, a.2),
+        EventKind::FdRead => kfd::kfdread(s, first, c, a.0, a.1, a.2, r.uid, r.gid, a.3),
+        EventKind::Supply => provide_mmap::provide_mmap(s, Tag(a.0), a.1, a.2, a.3),
     }
 }

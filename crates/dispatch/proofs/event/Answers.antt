@@ -1,6 +1,10 @@
--- What `dispatch::event` leaves open. Assumes nothing.
-use Rattle.dispatch.proofs.ByKind.{as_supply, over}
+-- A supply, and what is taken as one.
+use Rattle.std.proofs.Common.{sym, ◌∙◌}
+use Rattle.dispatch.proofs.ByKind.{as_supply, supply_or_none}
 use Rattle.dispatch.proofs.event.Goals as goal
 
-pub returns-in_default : goal.returns-in_default
-returns-in_default c = λ bs lent. as_supply c.args.r c.args.first.now c.args.second.now bs lent _ _ _ _ c.args.r.kind (over c.args.r.kind c.in_default.in_default-own.rest.0.0.0.0.0.0.0.0.0.0.0.0.0.0.0.0.0.0.0.1 c.in_default.in_default-own.rest.0.0.0.0.0.0.0.0.0.0.0.0.0.0.0.0.0.0.1 c.in_default.in_default-own.rest.0.0.0.0.0.0.0.0.0.0.0.0.0.0.0.0.0.1 c.in_default.in_default-own.rest.0.0.0.0.0.0.0.0.0.0.0.0.0.0.0.0.1 c.in_default.in_default-own.rest.0.0.0.0.0.0.0.0.0.0.0.0.0.0.0.1 c.in_default.in_default-own.rest.0.0.0.0.0.0.0.0.0.0.0.0.0.0.1 c.in_default.in_default-own.rest.0.0.0.0.0.0.0.0.0.0.0.0.0.1 c.in_default.in_default-own.rest.0.0.0.0.0.0.0.0.0.0.0.0.1 c.in_default.in_default-own.rest.0.0.0.0.0.0.0.0.0.0.0.1 c.in_default.in_default-own.rest.0.0.0.0.0.0.0.0.0.0.1 c.in_default.in_default-own.rest.0.0.0.0.0.0.0.0.0.1 c.in_default.in_default-own.rest.0.0.0.0.0.0.0.0.1 c.in_default.in_default-own.rest.0.0.0.0.0.0.0.1 c.in_default.in_default-own.rest.0.0.0.0.0.0.1 c.in_default.in_default-own.rest.0.0.0.0.0.1 c.in_default.in_default-own.rest.0.0.0.0.1 c.in_default.in_default-own.rest.0.0.0.1 c.in_default.in_default-own.rest.0.0.1 c.in_default.in_default-own.rest.0.1 c.in_default.in_default-own.rest.1) c.provide_mmap.ensures
+pub returns-in-Supply : goal.returns-in-Supply
+returns-in-Supply c =
+    let r = c.args.r in
+    let t = c.try_from_raw.ensures in
+    λ bs lent. as_supply r c.args.first.now c.args.second.now bs lent _ _ _ _ r.kind (supply_or_none _ r.kind t.number t.named (sym c.unwrap_or-kind.ensures ∙ c.in-Supply.is)) c.provide_mmap.ensures
