@@ -14,12 +14,6 @@ pub struct List {
     pub len: u8,
 }
 
-fn wide(x: u8) -> usize
-    ensures { result ≡ x }
-{
-    x as usize
-}
-
 // A list that names nothing.
 pub fn empty() -> List
     ensures { result ≡ list_of [] }
@@ -44,29 +38,31 @@ pub fn single(d: Description) -> List
     list
 }
 
+// The descriptions that a list names, in its order.
+pub fn named(l: &List) -> &[Description]
+    ensures value { result.now ≡ named l.now }
+    ensures upper_bound { length result.now ≤ 16 }
+{
+    let n = size(*l);
+    &l.at[..n]
+}
+
 // How many descriptions a list names.
 pub fn size(l: List) -> usize
     ensures value { result ≡ length (numbers l) }
     ensures upper_bound { result ≤ 16 }
 {
-    let n = l.len;
-    if 16 <= n {
-        return 16;
-    }
-    wide(n)
+    usize::from(l.len).min(16)
 }
 
 // What stands at place i of a list.
 pub fn pick(l: List, i: usize) -> Description
     ensures { result ≡ get_or (named l) i (desc 0) }
 {
-    if 16 <= i {
-        return ids::BLANK;
+    match named(&l).get(i) {
+        Some(d) => *d,
+        None => ids::BLANK,
     }
-    if wide(l.len) <= i {
-        return ids::BLANK;
-    }
-    l.at[i]
 }
 
 // A list with d at place i.
@@ -85,22 +81,15 @@ pub fn with(l: List, i: usize, d: Description) -> List
 pub fn without(l: List, k: u8) -> List
     ensures { result ≡ without_of l k }
 {
-    let n = size(l);
-    let first = wide(k);
-    let zero = ids::BLANK;
-    let mut list = List {
-        at: [zero; 16],
-        len: 0,
-    };
-    let mut i = 0;
-    while i + first < n {
-        let d = pick(l, i + first);
-        let longer = with(list, i, d);
-        list = longer;
-        i += 1;
+    let names = named(&l);
+    let first = usize::from(k).min(names.len());
+    let left = &names[first..];
+    let mut at = [ids::BLANK; 16];
+    at[..left.len()].copy_from_slice(left);
+    List {
+        at,
+        len: left.len() as u8,
     }
-    list.len = i as u8;
-    list
 }
 
 // A list without its first.
