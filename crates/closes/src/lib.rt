@@ -12,7 +12,7 @@ use fd_list::List;
 use ids::Description;
 
 // Why holds inside the layer are dropped.
-#[derive(Clone, Copy)]
+#[derive(Clone, Copy, Debug, PartialEq, Eq)]
 pub enum Reason {
     Replied,
     Ended,
@@ -25,13 +25,7 @@ pub enum Reason {
 pub fn is_closing(why: Reason) -> bool
     ensures { result ≡ closing why }
 {
-    match why {
-        Reason::Replied => true,
-        Reason::Ended => false,
-        Reason::Refused => false,
-        Reason::Replaced => false,
-        Reason::Unusable => false,
-    }
+    matches!(why, Reason::Replied)
 }
 
 // The close effect number k from place `at`.
@@ -61,14 +55,11 @@ fn drop_step(
     ensures fx_after { fx.new ≡ sets fx.old (at + 3 * k) (closes (only follows (lasts a.old (d.0 ∷ [])))) }
 {
     let gone = counts::lower(a, d);
-    if !gone {
-        return k;
+    if gone && follows {
+        close_at(fx, at, k, d);
+        return k + 1;
     }
-    if !follows {
-        return k;
-    }
-    close_at(fx, at, k, d);
-    k + 1
+    k
 }
 
 // A list's holds dropped, the closes stored from word `at` in list order; says how many closes these are.
@@ -78,13 +69,9 @@ pub fn drop_all(a: &mut [u64], l: List, follows: bool, fx: &mut [u64], at: usize
     ensures fx_after { fx.new ≡ sets fx.old at (closes (only follows (lasts a.old (numbers l)))) }
     ensures upper_bound { result ≤ 16 }
 {
-    let n = fd_list::size(l);
-    let mut i = 0;
     let mut k = 0;
-    while i < n {
-        let d = fd_list::pick(l, i);
-        k = drop_step(a, d, follows, fx, at, k);
-        i += 1;
+    for d in fd_list::named(&l) {
+        k = drop_step(a, *d, follows, fx, at, k);
     }
     k
 }

@@ -1,3 +1,2 @@
-pub mod Steps
 pub mod Laws
-pub mod Loop
+pub mod Steps

@@ -9,21 +9,11 @@ ghost use Rattle.counts.specs.Counts.{less, more, less_all, more_all, last};
 use fd_list::List;
 use ids::Description;
 
-fn place(d: Description) -> usize
-    ensures { result ≡ d.0 }
-{
-    d.0 as usize
-}
-
 // How many holds a description has.
 pub fn count_at(a: &[u64], d: Description) -> u64
     ensures { result ≡ get_or a.now d.0 0 }
 {
-    let i = place(d);
-    if a.len() <= i {
-        return 0;
-    }
-    a[i]
+    a.get(usize::from(d.0)).copied().unwrap_or(0)
 }
 
 // One hold less; says whether it was the last.
@@ -31,15 +21,11 @@ pub fn lower(a: &mut [u64], d: Description) -> bool
     ensures value { result ≡ last a.old d.0 }
     ensures a_after { a.new ≡ less a.old d.0 }
 {
-    let i = place(d);
-    if a.len() <= i {
+    let i = usize::from(d.0);
+    let Some(&n) = a.get(i) else {
         return false;
-    }
-    let n = a[i];
-    if n == 0 {
-        return false;
-    }
-    a[i] = n - 1;
+    };
+    a[i] = n.saturating_sub(1);
     n == 1
 }
 
@@ -47,27 +33,20 @@ pub fn lower(a: &mut [u64], d: Description) -> bool
 pub fn higher(a: &mut [u64], d: Description)
     ensures { a.new ≡ more a.old d.0 }
 {
-    let i = place(d);
-    if a.len() <= i {
-        return;
+    let i = usize::from(d.0);
+    if let Some(&n) = a.get(i) {
+        if n < 65535 {
+            a[i] = n + 1;
+        }
     }
-    let n = a[i];
-    if 65535 <= n {
-        return;
-    }
-    a[i] = n + 1;
 }
 
 // One hold more for each entry of a list.
 pub fn raise_all(a: &mut [u64], l: List)
     ensures { a.new ≡ more_all a.old (numbers l) }
 {
-    let n = fd_list::size(l);
-    let mut i = 0;
-    while i < n {
-        let d = fd_list::pick(l, i);
-        higher(a, d);
-        i += 1;
+    for d in fd_list::named(&l) {
+        higher(a, *d);
     }
 }
 
@@ -75,11 +54,7 @@ pub fn raise_all(a: &mut [u64], l: List)
 pub fn lower_all(a: &mut [u64], l: List)
     ensures { a.new ≡ less_all a.old (numbers l) }
 {
-    let n = fd_list::size(l);
-    let mut i = 0;
-    while i < n {
-        let d = fd_list::pick(l, i);
-        lower(a, d);
-        i += 1;
+    for d in fd_list::named(&l) {
+        lower(a, *d);
     }
 }

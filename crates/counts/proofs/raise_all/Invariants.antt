@@ -1,11 +1,8 @@
--- The loops of `counts::raise_all`.
-use Prim.Native.Nat.{◌-◌}
+-- What is left of the list, done to the counts as they are, gives the whole.
+use Rattle.std.proofs.Common.{◌≡◌, map, drop}
+use Rattle.fd_list.specs.Lists.{num}
 use Rattle.counts.specs.Counts.{more_all}
-use Rattle.counts.proofs.Loop.{Going}
 use Rattle.counts.proofs.raise_all.Given as goal
 
-abbrev pub invariant-loop-i : goal.invariant-loop-i
-invariant-loop-i l = Going more_all l.l l.n l.initial.a l.a l.i
-
-abbrev pub decreases-loop-i : goal.decreases-loop-i
-decreases-loop-i l = l.n - l.i
+abbrev pub invariant-loop-d : goal.invariant-loop-d
+invariant-loop-d l = more_all l.a (map num (drop l.d-index l.d-items)) ≡ more_all l.initial.a (map num l.d-items)
