@@ -25,15 +25,7 @@ pub const HANDLES: usize = 972;
 
 pub const QUEUE: usize = 1036;
 
-// Nothing but what is known of so many words: there are 2,060.
-fn known(a: [u64; 2060])
-    ensures { length a ≡ 2060 }
-{}
-
 // As many words as there are.
 pub fn sized(s: &[u64; 2060])
     ensures { length s.now ≡ 2060 }
-{
-    let a = *s;
-    known(a);
-}
+{}

@@ -12,45 +12,41 @@ fn copy(to: &mut [u64], at: usize, from: &[u64])
     requires { at + length from.now ≤ length to.old }
     ensures { to.new ≡ sets to.old at from.now }
 {
-    let mut i = 0;
-    while i < from.len() {
-        to[at + i] = from[i];
-        i += 1;
-    }
+    to[at..at + from.len()].copy_from_slice(from);
 }
 
 // The 64 words from `at` on.
+#[tactic(auto, unfolding(layout::specs::Layout::part))]
 fn part_at(s: &[u64; 2060], at: usize) -> [u64; 64]
     requires { at + 64 ≤ 2060 }
     ensures { result ≡ part_of at 64 s.now }
 {
-    layout::sized(s);
-    let t = &s[..];
-    let p = &t[at..at + 64];
-    let mut a = [0; 64];
-    copy(&mut a, 0, p);
-    a
+    *s[at..].first_chunk().unwrap()
 }
 
 // The slot after each in the chain; all counts of holds, those of outside ones; all handles.
+#[tactic(auto, unfolding(layout::specs::Layout::plain_of))]
 pub fn chain(s: &[u64; 2060]) -> [u64; 64]
     ensures { result ≡ (table_of (plain_of s.now)).next }
 {
     part_at(s, layout::CHAIN)
 }
 
+#[tactic(auto, unfolding(layout::specs::Layout::plain_of))]
 pub fn all(s: &[u64; 2060]) -> [u64; 64]
     ensures { result ≡ (holds_of (plain_of s.now)).holds }
 {
     part_at(s, layout::ALL)
 }
 
+#[tactic(auto, unfolding(layout::specs::Layout::plain_of))]
 pub fn outside(s: &[u64; 2060]) -> [u64; 64]
     ensures { result ≡ (holds_of (plain_of s.now)).outside }
 {
     part_at(s, layout::OUTSIDE)
 }
 
+#[tactic(auto, unfolding(layout::specs::Layout::plain_of))]
 pub fn handles(s: &[u64; 2060]) -> [u64; 64]
     ensures { result ≡ (handles_of (plain_of s.now)).at }
 {
@@ -58,13 +54,11 @@ pub fn handles(s: &[u64; 2060]) -> [u64; 64]
 }
 
 // The queue's words, copied out.
+#[tactic(auto, unfolding(layout::specs::Layout::plain_of, layout::specs::Layout::part))]
 pub fn queue(s: &[u64; 2060], to: &mut [u64; 1024])
     ensures { to.new ≡ (plain_of s.now).words }
 {
-    layout::sized(s);
-    let t = &s[..];
-    let p = &t[layout::QUEUE..2060];
-    copy(to, 0, p);
+    to.copy_from_slice(&s[layout::QUEUE..]);
 }
 
 // And each of them stored; words that have no meaning become 0.
