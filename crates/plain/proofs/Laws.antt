@@ -1,20 +1,18 @@
--- Slots read from the words one after the other, and stored so; a state made of its parts, and all of them stored. Assumes nothing.
+-- Slots read from the words one after the other, and stored so; and a state stored part by part. Assumes nothing.
 use Prim.Native.Nat.{ℕ, suc, min, ◌+◌, ◌*◌, ◌<◌, ◌≤◌}
 use mathlib.Core.Path.{◌≡◌, refl, sym, ap, ap₂, ◌∙◌}
 use mathlib.Core.Bool.{Bool, cond}
-use mathlib.Core.List.{List, [], ◌∷◌, ◌++◌, append-nil}
+use mathlib.Core.List.{List, [], ◌∷◌, append-nil}
 use native.Mathlib.Omega.{arith}
-use native.Mathlib.Numerals.{add-one}
-use lib.ListN.{get_or, set, take, drop, length, replicate, drop_of_length-le}
-use lib.Seq.{sets, length-sets, drop-cons, take-suc, take-suc-set, take_all}
+use lib.ListN.{get_or, take, drop, length, replicate}
+use lib.Seq.{sets, length-sets, drop-cons, take_all}
 use borrow.Author.Tests.{lt-ltb}
 use Rattle.ids.specs.declared.SlotNo.{SlotNo}
 use Rattle.ids.specs.Ids.{slot_of}
 use Rattle.slot.specs.declared.Slot.{Slot}
-use Rattle.slot.specs.Slots.{vacant_slot}
 use Rattle.table.specs.Table.{no_slot}
-use Rattle.events.specs.World.{World, table_of, holds_of, handles_of, queue_of, scheme_of, slot_in}
-use Rattle.layout.specs.Layout.{slots_from, slots_words, laid, built, plain_of, packed_of}
+use Rattle.events.specs.World.{World, table_of, holds_of, handles_of, queue_of, scheme_of}
+use Rattle.layout.specs.Layout.{slots_from, slots_words, laid, plain_of, packed_of}
 use Rattle.layout.specs.Store.{put_words, stored, put}
 use Rattle.layout.proofs.Worlds.{sets_all}
 use Rattle.word_put.proofs.Stores.{two_runs}
@@ -35,17 +33,6 @@ module _ (ws : List ℕ) where
   unfolding plain_of slots_from
   all_long = refl
 
-  here : (i : ℕ) (v : Slot) → i < 64 → v ≡ slot_in (plain_of ws) i → v ≡ get_or all i no_slot
-  here i v b q = q ∙ ap (λ (x : Bool). cond x (get_or all i no_slot) vacant_slot) (lt-ltb i 64 b)
-
-  pub read_more : (a : List Slot) (i : ℕ) (v : Slot) → i < 64 → length a ≡ 64 → take i a ≡ take i all → v ≡ slot_in (plain_of ws) i → take (i + 1) (set a i v) ≡ take (i + 1) all
-  read_more a i v b h e q =
-      rw (add-one i)
-      (take-suc-set a i v (omega (arith, h))
-      ∙ ap (λ (l : List Slot). l ++ (v ∷ [])) e
-      ∙ ap (λ (x : Slot). take i all ++ (x ∷ [])) (here i v b q)
-      ∙ sym (take-suc all i no_slot (omega (arith, all_long))))
-
   pub read_end : (a : List Slot) (i : ℕ) → 64 ≤ i → length a ≡ 64 → take i a ≡ take i all → a ≡ all
   read_end a i b h e = sym (take_all i a (omega (arith, h))) ∙ e ∙ take_all i all (omega (arith, all_long))
 
@@ -63,16 +50,6 @@ module _ (vs : List Slot) (long : length vs ≡ 64) where
 
       one : i + 1 ≡ suc i
       one = omega arith
-
-  pub put_end : (l : List ℕ) (i : ℕ) → 64 ≤ i → sets l (12 * i) (slots_words (drop i vs)) ≡ l
-  put_end l i h = let k : length vs ≤ i = omega (arith, h, long) in ap (λ (m : List Slot). sets l (12 * i) (slots_words m)) (drop_of_length-le vs k)
-
-pub made :
-    (w : World) (slots : List Slot) (next : List ℕ) (head : ℕ) (all outside : List ℕ) (scheme first len : ℕ) (handles words : List ℕ)
-    → slots ≡ (table_of w).slots → next ≡ (table_of w).next → head ≡ (table_of w).head → all ≡ (holds_of w).holds → outside ≡ (holds_of w).outside → scheme ≡ scheme_of w
-    → first ≡ (queue_of w).first → len ≡ (queue_of w).len → handles ≡ (handles_of w).at → words ≡ w.words → built slots next head all outside scheme first len handles words ≡ w
-made w slots next head _ outside scheme first len handles words a b c d e f g h j k =
-    λ i. built (a i) (b i) (c i) (d i) (e i) (f i) (g i) (h i) (j i) (k i)
 
 -- all parts stored, from the first word to the last
 module _ (w : World) where

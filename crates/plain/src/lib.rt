@@ -15,11 +15,8 @@ use state::State;
 fn slots(s: &[u64; 2060], a: &mut [Slot; 64])
     ensures { a.new ≡ (table_of (plain_of s.now)).slots }
 {
-    let mut i = 0;
-    while i < 64 {
-        let v = slot_load::load(s, ids::slot_of(Tag(i as u64)));
-        a[i] = v;
-        i += 1;
+    for i in 0..64 {
+        a[i] = slot_load::load(s, ids::slot_of(Tag(i as u64)));
     }
 }
 
@@ -41,44 +38,27 @@ pub fn plain(s: &[u64; 2060], queue: &mut [u64; 1024]) -> State
     st
 }
 
-fn put_slots(s: &mut [u64; 2060], slots: [Slot; 64])
-    ensures { s.new ≡ sets s.old (slot_place 0) (slots_words slots) }
+fn put_slots(s: &mut [u64; 2060], slots: &[Slot; 64])
+    ensures { s.new ≡ sets s.old (slot_place 0) (slots_words slots.now) }
 {
-    let mut i = 0;
-    while i < 64 {
-        let v = slots[i];
-        slot_store::put(s, ids::slot_of(Tag(i as u64)), v);
-        i += 1;
+    for i in 0..64 {
+        slot_store::put(s, ids::slot_of(Tag(i as u64)), slots[i]);
     }
 }
-
-// Nothing but what is known of a state: how long its arrays are.
-fn known(st: State)
-    ensures { (length st.table.slots ≡ 64) × (length st.table.next ≡ 64) × (length st.table.holds.holds ≡ 64) × (length st.table.holds.outside ≡ 64) × (length st.driver.handles.at ≡ 64) }
-{}
 
 // Each word is stored, whatever it was before.
 pub fn packed(st: State, queue: &[u64; 1024], s: &mut [u64; 2060])
     ensures { s.new ≡ packed_of (world st queue.now) }
 {
-    known(st);
-    let t = st.table;
-    let d = st.driver;
-    let q = d.queue;
-    let slots = t.slots;
-    let next = t.next;
-    let h = t.holds;
-    let holds = h.holds;
-    let outside = h.outside;
-    let k = d.handles;
-    let at = k.at;
-    put_slots(s, slots);
-    part_words::put_chain(s, &next);
-    part_words::put_head(s, t.head);
-    part_words::put_all(s, &holds);
-    part_words::put_outside(s, &outside);
-    part_words::put_driver(s, d.scheme, q.first, q.len);
-    part_words::put_handles(s, &at);
+    let table = &st.table;
+    let driver = &st.driver;
+    put_slots(s, &table.slots);
+    part_words::put_chain(s, &table.next);
+    part_words::put_head(s, table.head);
+    part_words::put_all(s, &table.holds.holds);
+    part_words::put_outside(s, &table.holds.outside);
+    part_words::put_driver(s, driver.scheme, driver.queue.first, driver.queue.len);
+    part_words::put_handles(s, &driver.handles.at);
     part_words::put_queue(s, queue);
 }
 
