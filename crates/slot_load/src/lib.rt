@@ -11,6 +11,7 @@ use ids::{SlotNo, Tag};
 use slot::{PageSpan, Reply, Slot};
 
 // The first vacant slot; none where all are occupied.
+#[tactic(auto, unfolding(layout::specs::Layout::plain_of))]
 pub fn head(s: &[u64; 2060]) -> SlotNo
     ensures { result.0 ≡ min (table_of (plain_of s.now)).head 64 }
 {
@@ -18,6 +19,7 @@ pub fn head(s: &[u64; 2060]) -> SlotNo
 }
 
 // The same, as it stands.
+#[tactic(auto, unfolding(layout::specs::Layout::plain_of))]
 pub fn head_word(s: &[u64; 2060]) -> u64
     ensures { result ≡ (table_of (plain_of s.now)).head }
 {
@@ -25,6 +27,7 @@ pub fn head_word(s: &[u64; 2060]) -> u64
 }
 
 // No slot is vacant.
+#[tactic(auto, unfolding(layout::specs::Layout::plain_of))]
 pub fn is_full(s: &[u64; 2060]) -> bool
     ensures { result ≡ table_full (plain_of s.now) }
 {
@@ -34,21 +37,20 @@ pub fn is_full(s: &[u64; 2060]) -> bool
 fn list_of(low: u64, high: u64, n: u64) -> List
     ensures { result ≡ fds_from low high n }
 {
-    let at = ids::descriptions_in(low, high);
     List {
-        at: at,
+        at: ids::descriptions_in(low, high),
         len: (n % 256) as u8,
     }
 }
 
 // The slot in the twelve words from `at` on.
+#[tactic(auto, unfolding(layout::specs::Layout::slot_of))]
 fn slot_at(s: &[u64; 2060], at: usize) -> Slot
     requires { at + 12 ≤ 2060 }
     ensures { result ≡ slot_of s.now at }
 {
     let w = s[at];
     let r = s[at + 6];
-    let list = list_of(s[at + 9], s[at + 10], s[at + 11]);
     Slot {
         state: (w % 256) as u8,
         caller: (s[at + 1] % 4294967296) as u32,
@@ -65,11 +67,12 @@ fn slot_at(s: &[u64; 2060], at: usize) -> Slot
             notice: r / 65536 % 2 == 1,
             word: s[at + 7],
         },
-        fds: list,
+        fds: list_of(s[at + 9], s[at + 10], s[at + 11]),
     }
 }
 
 // Slot n.
+#[tactic(auto, using(layout::proofs::Worlds::load_is))]
 pub fn load(s: &[u64; 2060], n: SlotNo) -> Slot
     ensures { result ≡ slot_in (plain_of s.now) n.0 }
 {
