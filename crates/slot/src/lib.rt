@@ -40,7 +40,7 @@ pub struct Slot {
     pub fds: List,
 }
 
-#[derive(Clone, Copy)]
+#[derive(Clone, Copy, Debug, PartialEq, Eq)]
 pub enum Phase {
     Vacant,
     Placeholder,
@@ -50,7 +50,7 @@ pub enum Phase {
 }
 
 // What a completion entry decides to become of its slot.
-#[derive(Clone, Copy)]
+#[derive(Clone, Copy, Debug, PartialEq, Eq)]
 pub enum Act {
     Leave,
     Store,
@@ -61,8 +61,7 @@ pub enum Act {
 pub fn phase_of(v: Slot) -> Phase
     ensures { result ≡ phase_of v }
 {
-    let n = v.state;
-    match n {
+    match v.state {
         1 => Phase::Placeholder,
         2 => Phase::Waiting,
         3 => Phase::Responded,
@@ -75,8 +74,8 @@ fn made(state: u8, caller: u32, fds: List) -> Slot
     ensures { result ≡ made_of state caller fds }
 {
     Slot {
-        state: state,
-        caller: caller,
+        state,
+        caller,
         canceling: false,
         ended: false,
         returned: false,
@@ -87,7 +86,7 @@ fn made(state: u8, caller: u32, fds: List) -> Slot
             notice: false,
             word: 0,
         },
-        fds: fds,
+        fds,
     }
 }
 
