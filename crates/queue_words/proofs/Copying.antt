@@ -4,10 +4,10 @@ use mathlib.Core.Bool.{Bool, true, false}
 use mathlib.Core.List.{List, ◌∷◌, ◌++◌}
 use Prim.Native.Nat.{ℕ, suc, min, ◌+◌, ◌-◌, ◌*◌, ◌/◌, ◌%◌, ◌<◌, ◌≤◌}
 use native.Mathlib.Omega.{arith}
-use native.Mathlib.Nat.{add-zero, div-add-mod'}
+use native.Mathlib.Nat.{div-add-mod'}
 use lib.Dec.{ltb}
 use borrow.Author.Tests.{ltb-true, ltb-false}
-use lib.ListN.{length, get_or, set, take, drop, length-take, length-drop, drop_of_length-le}
+use lib.ListN.{length, get_or, take, drop, length-take, length-drop}
 use lib.Seq.{sets, drop-cons, take-append-le, take-append-add, get_or-take, get_or-drop}
 use Rattle.le.specs.Le.{bytes8, bytes_of}
 use Rattle.word_put.proofs.Stores.{sets_then}
@@ -15,41 +15,8 @@ use Rattle.wait_queue.specs.declared.WaitQueue.{WaitQueue}
 use Rattle.wait_queue.specs.Queue.{word_at, words_from}
 use Rattle.wait_queue.proofs.Unread.{words_split, words_are, bytes_append, length_bytes, length_words}
 
--- one byte more of a list b
-module _ (l b : List ℕ) (at n : ℕ) where
-  pub part_start : sets l (at + 0) (take (n - 0) (drop 0 b)) ≡ sets l at (take n b)
-  part_start = ap₂ (λ (k m : ℕ). sets l k (take m b)) (add-zero at) whole
-    where
-      whole : n - 0 ≡ n
-      whole = omega arith
-
-  pub part_more :
-      (k : ℕ) → k < n → n ≤ length b
-      → sets (set l (at + k) (get_or b k 0)) (at + (k + 1)) (take (n - (k + 1)) (drop (k + 1) b)) ≡ sets l (at + k) (take (n - k) (drop k b))
-  part_more k h g =
-      ap₂ (λ (p j : ℕ). sets (set l (at + k) (get_or b k 0)) p (take (n - (k + 1)) (drop j b))) place one
-      ∙ sym (ap₂ (λ (m : ℕ) (r : List ℕ). sets l (at + k) (take m r)) count (drop-cons b k 0 (omega arith)))
-    where
-      place : at + (k + 1) ≡ suc (at + k)
-      place = omega arith
-
-      one : k + 1 ≡ suc k
-      one = omega arith
-
-      count : n - k ≡ suc (n - (k + 1))
-      count = omega arith
-
-  pub part_end : (k : ℕ) → k ≡ n → sets l (at + k) (take (n - k) (drop k b)) ≡ l
-  part_end k e = ap (λ (m : ℕ). sets l (at + k) (take m (drop k b))) none
-    where
-      none : n - k ≡ 0
-      none = omega arith
-
 -- one word more of a list b
 module _ (b : List ℕ) (at : ℕ) where
-  pub run_start : (l : List ℕ) → sets l (at + 0 * 8) (bytes_of (drop 0 b)) ≡ sets l at (bytes_of b)
-  run_start l = ap (λ (k : ℕ). sets l k (bytes_of b)) (add-zero at)
-
   pub run_more :
       (whole l r : List ℕ) (j : ℕ) → j < length b → r ≡ sets l (at + j * 8) (take 8 (bytes8 (get_or b j 0)))
       → sets l (at + j * 8) (bytes_of (drop j b)) ≡ whole → sets r (at + (j + 1) * 8) (bytes_of (drop (j + 1) b)) ≡ whole
@@ -64,9 +31,6 @@ module _ (b : List ℕ) (at : ℕ) where
 
       one : j + 1 ≡ suc j
       one = omega arith
-
-  pub run_end : (l : List ℕ) (j : ℕ) → length b ≤ j → sets l (at + j * 8) (bytes_of (drop j b)) ≡ l
-  run_end l j h = ap (λ (s : List ℕ). sets l (at + j * 8) (bytes_of s)) (drop_of_length-le b h)
 
 -- words that stand one after the other in the ring: up to its end no place is turned round
 module _ (q : WaitQueue) (ws : List ℕ) (i k : ℕ) (size : length ws ≡ 1024) (fits : (q.first * 8 + i) % 1024 + k ≤ 1024) where
@@ -95,15 +59,6 @@ module _ (q : WaitQueue) (ws : List ℕ) (m n : ℕ) where
   -- the bytes from word i on
   abbrev pub left : ℕ → List ℕ
   left i = take (n - i * 8) (bytes_of (words_from q ws i (m - i)))
-
-  pub words_start : (l : List ℕ) → sets l (0 * 8) (left 0) ≡ sets l 0 (take n (bytes_of (words_from q ws 0 m)))
-  words_start l = ap₂ (λ (k j : ℕ). sets l 0 (take k (bytes_of (words_from q ws 0 j)))) whole all
-    where
-      whole : n - 0 ≡ n
-      whole = omega arith
-
-      all : m - 0 ≡ m
-      all = omega arith
 
   -- a turn of the loop: k words
   left_cut : (i k : ℕ) → i + k ≤ m → (i + k) * 8 ≤ n → left i ≡ bytes_of (words_from q ws i k) ++ left (i + k)

@@ -15,6 +15,7 @@ use schemev2::Sqe;
 use wait_queue::WaitQueue;
 use wait_queue_receive::Received;
 
+#[tactic(auto, unfolding(layout::specs::Layout::plain_of))]
 pub fn scheme(s: &[u64; 2060]) -> u64
     ensures { result ≡ scheme_of (plain_of s.now) }
 {
@@ -22,12 +23,14 @@ pub fn scheme(s: &[u64; 2060]) -> u64
 }
 
 // Where the oldest entry stands, and how many are unread.
+#[tactic(auto, unfolding(layout::specs::Layout::plain_of))]
 pub fn first(s: &[u64; 2060]) -> u64
     ensures { result ≡ (queue_of (plain_of s.now)).first }
 {
     s[layout::FIRST]
 }
 
+#[tactic(auto, unfolding(layout::specs::Layout::plain_of))]
 pub fn unread(s: &[u64; 2060]) -> u64
     ensures { result ≡ (queue_of (plain_of s.now)).len }
 {
@@ -35,6 +38,7 @@ pub fn unread(s: &[u64; 2060]) -> u64
 }
 
 // 128 entries are unread.
+#[tactic(auto, unfolding(layout::specs::Layout::plain_of))]
 pub fn queue_full(s: &[u64; 2060]) -> bool
     ensures { result ≡ queue_full (plain_of s.now) }
 {
@@ -45,7 +49,7 @@ pub fn queue_full(s: &[u64; 2060]) -> bool
 fn start(e: Sqe) -> u64
     ensures { result ≡ head_of e }
 {
-    (e.opcode as u64) + (e.sqe_flags as u64) * 0x100 + (e.tag as u64) * 0x1_0000_0000
+    u64::from(e.opcode) + u64::from(e.sqe_flags) * 0x100 + u64::from(e.tag) * 0x1_0000_0000
 }
 
 // An entry in the eight words from `at` on.
@@ -54,8 +58,7 @@ fn store_entry(s: &mut [u64; 2060], at: usize, e: Sqe)
     ensures { s.new ≡ sets s.old at (sqe_words e) }
 {
     let args = e.args;
-    let first = start(e);
-    word_put::put4(s, at, first, args.0, args.1, args.2);
+    word_put::put4(s, at, start(e), args.0, args.1, args.2);
     word_put::put4(s, at + 4, args.3, args.4, args.5, e.caller);
 }
 
@@ -71,44 +74,14 @@ pub fn send(s: &mut [u64; 2060], e: Sqe)
     }
 }
 
-fn word_bytes(w: u64) -> [u8; 8]
-    ensures { result ≡ bytes8 w }
-{
-    let high = w / 0x1_0000_0000;
-    [
-        (w % 256) as u8,
-        (w / 0x100 % 256) as u8,
-        (w / 0x1_0000 % 256) as u8,
-        (w / 0x100_0000 % 256) as u8,
-        (high % 256) as u8,
-        (high / 0x100 % 256) as u8,
-        (high / 0x1_0000 % 256) as u8,
-        (high / 0x100_0000 % 256) as u8,
-    ]
-}
-
-// The first n bytes of a word.
-fn store_part(out: &mut [u8], at: usize, w: u64, n: usize)
-    requires { (n ≤ 8) × (at + n ≤ length out.old) }
-    ensures { out.new ≡ sets out.old at (take n (bytes8 w)) }
-{
-    let bytes = word_bytes(w);
-    let mut k = 0;
-    while k < n {
-        out[at + k] = bytes[k];
-        k += 1;
-    }
-}
-
 // Words that stand one after the other. No test in the loop, so that it compiles to a copy of several words at a time.
 fn copy_run(from: &[u64], out: &mut [u8], at: usize)
     requires { at + length from.now * 8 ≤ length out.old }
     ensures { out.new ≡ sets out.old at (bytes_of from.now) }
 {
-    let mut j = 0;
-    while j < from.len() {
-        store_part(out, at + j * 8, from[j], 8);
-        j += 1;
+    for (j, w) in from.iter().enumerate() {
+        let place = at + j * 8;
+        out[place..place + 8].copy_from_slice(&w.to_le_bytes());
     }
 }
 
@@ -117,15 +90,6 @@ fn place(first: u64, i: usize) -> usize
     ensures { result ≡ (first * 8 + i) % 1024 }
 {
     ((first % 128) as usize * 8 + i % 1024) % 1024
-}
-
-fn smaller(a: usize, b: usize) -> usize
-    ensures { result ≡ min a b }
-{
-    if b < a {
-        return b;
-    }
-    a
 }
 
 // The first n of the unread bytes: straight runs, each up to the ring's end (at most two of a well-formed queue), then the
@@ -137,16 +101,17 @@ fn copy(q: WaitQueue, ring: &[u64], out: &mut [u8], n: usize)
     let mut i = 0;
     while i < n / 8 {
         let p = place(q.first, i);
-        let k = smaller(1024 - p, n / 8 - i);
-        let end = p + k;
-        copy_run(&ring[p..end], out, i * 8);
+        let k = (1024 - p).min(n / 8 - i);
+        copy_run(&ring[p..p + k], out, i * 8);
         i += k;
     }
-    let p = place(q.first, i);
-    store_part(out, i * 8, ring[p], n - i * 8);
+    let left = n - i * 8;
+    let last = ring[place(q.first, i)].to_le_bytes();
+    out[i * 8..n].copy_from_slice(&last[..left]);
 }
 
 // The oldest unread bytes into those lent; the queue that this leaves is answered and not yet stored.
+#[tactic(auto, unfolding(layout::specs::Layout::plain_of, layout::specs::Layout::part))]
 pub fn receive(s: &[u64; 2060], out: &mut [u8], flags: u32) -> Received
     ensures value { result ≡ received_of (queue_of (plain_of s.now)) (length out.old) flags }
     ensures out_after { out.new ≡ copied_of (queue_of (plain_of s.now)) (plain_of s.now).words out.old }
@@ -156,10 +121,12 @@ pub fn receive(s: &[u64; 2060], out: &mut [u8], flags: u32) -> Received
         len: s[layout::UNREAD],
     };
     let room = out.len();
-    layout::sized(s);
-    let t = &s[..];
-    let ring = &t[layout::QUEUE..2060];
-    copy(q, ring, out, wait_queue_receive::copied(room, q.len));
+    copy(
+        q,
+        &s[layout::QUEUE..],
+        out,
+        wait_queue_receive::copied(room, q.len),
+    );
     wait_queue_receive::decide(q, room, flags)
 }
 

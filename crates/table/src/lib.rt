@@ -27,11 +27,9 @@ const RISING: [u64; 64] = [
 pub fn fresh() -> Table
     ensures { result ≡ fresh_table }
 {
-    let v = slot::vacant();
-    let next = RISING;
     Table {
-        slots: [v; 64],
-        next: next,
+        slots: [slot::vacant(); 64],
+        next: RISING,
         head: 0,
         holds: Holds {
             holds: [0; 64],
