@@ -93,7 +93,7 @@ fn place(first: u64, i: usize) -> usize
 }
 
 // The first n of the unread bytes: straight runs, each up to the ring's end (at most two of a well-formed queue), then the
-// part of a word that is left.
+// part of a word that is left. A `while`: each turn goes on by its run's length, which no range or chunk of a slice has.
 fn copy(q: WaitQueue, ring: &[u64], out: &mut [u8], n: usize)
     requires { (length ring.now ≡ 1024) × (n ≤ length out.old) × (n ≤ q.len * 64) }
     ensures { out.new ≡ sets out.old 0 (take n (unreadOf q ring.now)) }
@@ -106,8 +106,10 @@ fn copy(q: WaitQueue, ring: &[u64], out: &mut [u8], n: usize)
         i += k;
     }
     let left = n - i * 8;
-    let last = ring[place(q.first, i)].to_le_bytes();
-    out[i * 8..n].copy_from_slice(&last[..left]);
+    if left != 0 {
+        let last = ring[place(q.first, i)].to_le_bytes();
+        out[i * 8..n].copy_from_slice(&last[..left]);
+    }
 }
 
 // The oldest unread bytes into those lent; the queue that this leaves is answered and not yet stored.

@@ -19,8 +19,8 @@ loop-i-preserved c =
           c.copy_run.ensures l.invariant.rest;
     }
 
-pub returns : goal.returns
-returns c =
+pub returns-then-left-ne0 : goal.returns-then-left-ne0
+returns-then-left-ne0 c =
     let l = c.loop-i in
     let a = c.args in
     let word : c.to_le_bytes-last.result ≡ bytes8 (get_or a.ring.now c.place.result 0) = grind (arith, common_steps) in
