@@ -13,20 +13,18 @@ use Rattle.closes.specs.Closes.{closing, only, closes}
 use Rattle.closes.proofs.Laws.{closes_length}
 use Rattle.counts.specs.Counts.{lasts, less_all}
 use Rattle.counts.proofs.Laws.{less_all_length}
-use Rattle.effect.specs.declared.Effect.{Effect}
 use Rattle.effect.specs.Effect.{effect_words}
 use Rattle.fd_list.specs.Lists.{numbers}
 use Rattle.slot.specs.declared.Act.{Act}
-use Rattle.slot.specs.declared.PageSpan.{PageSpan}
 use Rattle.slot.specs.declared.Slot.{Slot}
 use Rattle.word_put.proofs.Stores.{sets_then, sets_past}
 use Rattle.events.specs.World.{World, holds_of, handles_of}
-use Rattle.events.specs.Entry.{Decision, closes_of, unmap_of}
+use Rattle.events.specs.Entry.{closes_of, unmap_of}
 use Rattle.layout.specs.Layout.{plain_of}
 use Rattle.layout.specs.Store.{outside, all, handles, stored, stored_all}
 use Rattle.layout.proofs.Regions.{same_part}
 use Rattle.layout.proofs.Worlds.{outside_is, handles_is, plain_fits, stored_plain}
-use Rattle.packed.specs.Stores.{act_stores, decided_stores}
+use Rattle.packed.specs.Stores.{act_stores}
 use Rattle.plan.specs.declared.Plan.{Plan}
 use Rattle.plan.specs.Plans.{effects_by, handles_by, decision_by}
 use Rattle.step.proofs.Frames.{handles_all}

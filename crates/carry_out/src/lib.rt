@@ -1,7 +1,7 @@
 // An entry's plan carried out on the words: its effects, the holds that it drops, its handle; and its slot.
 #![tactic(auto)]
 
-ghost use Rattle.std.specs.Prelude.{◌≡◌, ◌≤◌, min, length};
+ghost use Rattle.std.specs.Prelude.{◌≡◌, ◌≤◌, length};
 ghost use Rattle.std.proofs.lemmas.List.Edits.{sets};
 ghost use Rattle.events.specs.World.{holds_of, handles_of};
 ghost use Rattle.layout.specs.Layout.{plain_of};
@@ -39,16 +39,6 @@ pub fn act_on(s: &mut [u64; 2060], n: SlotNo, p: Plan)
     }
 }
 
-// Where `at` is past the end, the end: nothing is stored from there on either.
-fn within(at: usize, len: usize) -> usize
-    ensures { result ≡ min at len }
-{
-    if len < at {
-        return len;
-    }
-    at
-}
-
 // A plan carried out but for its slot, its effects stored from word `at` on; says how many words these are.
 pub fn carry_out(s: &mut [u64; 2060], p: Plan, fx: &mut [u64], at: usize) -> usize
     ensures value { result ≡ length (effects_by p (holds_of (plain_of s.old))) }
@@ -57,7 +47,8 @@ pub fn carry_out(s: &mut [u64; 2060], p: Plan, fx: &mut [u64], at: usize) -> usi
     ensures s_after { s.new ≡ stored_all s.old (held_stores (decision_by p (holds_of (plain_of s.old)) (handles_of (plain_of s.old)))) }
 {
     layout::sized(s);
-    let at = within(at, fx.len());
+    // where `at` is past the end, the end: nothing is stored from there on either
+    let at = at.min(fx.len());
     let first = p.first;
     let a = effect::put(first, fx, at);
     let span = p.span;

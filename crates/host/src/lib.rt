@@ -126,10 +126,8 @@ fn mark(s: &mut [u64; 2060], i: u64, caller: u32)
 pub fn ended(s: &mut [u64; 2060], caller: u32) -> Step
     ensures { Does s.old s.new (host_ended caller) (said result.answer) (effect_words result.effect) }
 {
-    let mut i = 0;
-    while i < 64 {
+    for i in 0..64 {
         mark(s, i, caller);
-        i += 1;
     }
     step::answered(Answer::Done)
 }

@@ -15,7 +15,7 @@ returns-clause-value c = let a = c.args in
     let ws : List ℕ = a.s.now in
     let p : Plan = a.p in
     let size : length ws ≡ 2060 = c.sized.ensures in
-    let at : ℕ = c.within-at.result in
+    let at : ℕ = c.min-at.result in
     let e = c.drop_all-c.ensures in
     let g = c.drop_all-d.ensures in
     let q = all_behind ws size p _ e.s_after in
@@ -28,20 +28,20 @@ returns-clause-fx_after c = let a = c.args in
     let ws : List ℕ = a.s.now in
     let p : Plan = a.p in
     let size : length ws ≡ 2060 = c.sized.ensures in
-    let at : ℕ = c.within-at.result in
+    let at : ℕ = c.min-at.result in
     let e = c.drop_all-c.ensures in
     let g = c.drop_all-d.ensures in
     let q = all_behind ws size p _ e.s_after in
     let x = c.put-a.ensures in
     let y = c.put_unmap-b.ensures in
-    let f = c.is_closing-follows.ensures in all_effects ws size p a.fx.now at _ _ _ _ x.value y.value _ f e.value _ q g.value _ _ _ _ x.fx_after y.fx_after e.fx_after g.fx_after ∙ in_place a.fx.now (effects_by p (holds_of (plain_of ws))) a.at at c.within-at.ensures
+    let f = c.is_closing-follows.ensures in all_effects ws size p a.fx.now at _ _ _ _ x.value y.value _ f e.value _ q g.value _ _ _ _ x.fx_after y.fx_after e.fx_after g.fx_after ∙ in_place a.fx.now (effects_by p (holds_of (plain_of ws))) a.at at c.min-at.ensures
 
 pub returns-clause-s_after : goal.returns-clause-s_after
 returns-clause-s_after c = let a = c.args in
     let ws : List ℕ = a.s.now in
     let p : Plan = a.p in
     let size : length ws ≡ 2060 = c.sized.ensures in
-    let at : ℕ = c.within-at.result in
+    let at : ℕ = c.min-at.result in
     let e = c.drop_all-c.ensures in
     let g = c.drop_all-d.ensures in
     let q = all_behind ws size p _ e.s_after in

@@ -25,5 +25,5 @@ returns-then-left-ne0 c =
     let a = c.args in
     let word : c.to_le_bytes-last.result ≡ bytes8 (get_or a.ring.now c.place.result 0) = grind (arith, common_steps) in
     let bytes : c.copy_from_slice.new.self ≡ take (a.n - l.i * 8) (bytes8 (get_or a.ring.now c.place.result 0)) = c.copy_from_slice.ensures.after ∙ ap (take (a.n - l.i * 8)) word in
-    let stored = relent l.out (l.i * 8) _ c.copy_from_slice.new.self (omega arith) (omega arith) ∙ ap (sets l.out (l.i * 8)) bytes in
+    let stored = relent l.out (l.i * 8) (a.n - l.i * 8) c.copy_from_slice.new.self (omega arith) (omega arith) ∙ ap (sets l.out (l.i * 8)) bytes in
     finish a.q a.ring.now (a.q.len * 8) a.n _ l.out _ l.i _ c.place.ensures stored (omega (arith, c.requires.2)) (le_antisymm l.invariant.within c.loop-i-test.false) l.invariant.rest
