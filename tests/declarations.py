@@ -47,7 +47,7 @@ LAYER_LIMITS = {
     "DESCRIPTIONS": [("holds", r"pub \w+: \[u64; (\d+)\]"), ("ids", r"if word < (\d+)")],
     "HANDLES": [("handles", r"pub at: \[u64; (\d+)\]"), ("ids", r"NO_HANDLE: Handle = Handle\((\d+)\)")],
     "LIST": [("fd_list", r"pub at: \[Description; (\d+)\]")],
-    "HOLDS": [("host", r"holds_of\(s, d\) == (\d+)"), ("counts", r"if (\d+) <= n")],
+    "HOLDS": [("host", r"holds_of\(s, d\) == (\d+)"), ("counts", r"if n < (\d+)")],
     "EFFECT_WORDS": [("write", r"fx\.len\(\) / (\d+) < n")],
     "ERRNO_FIRST": [("error", r"const ERROR_1: u32 = (\w+)")],
     "ERRNO_LAST": [("error", r"const ERROR_132: u32 = (\w+)")],

@@ -86,13 +86,13 @@ CODE = "src/lib.rt"
 BELOW = [
     ("a returned call is outstanding", "status", [(*ABANDONED, "is_abandoned v = v.ended || v.ended"), (CODE, "v.returned", "v.ended")],
      "Statuses", f"{CALL} ∷ on (wake 0 1 1 0 0) ∷ []", "Outstanding", "1", "0"),
-    ("an ended caller's call is outstanding", "status", [(*ABANDONED, "is_abandoned v = v.returned || v.returned"), (CODE, "if v.ended", "if v.returned")],
+    ("an ended caller's call is outstanding", "status", [(*ABANDONED, "is_abandoned v = v.returned || v.returned"), (CODE, "v.ended ||", "v.returned ||")],
      "Statuses", f"{CALL} ∷ host_ended 1 ∷ []", "Outstanding", "1", "0"),
     ("a cancelled call is an orphan", "status", [(*ABANDONED, "is_abandoned v = v.ended || v.canceling"), (CODE, "v.returned", "v.canceling")],
      "Statuses", f"{CALL} ∷ on (wake 0 1 0 0 0) ∷ []", "Orphans", "1", "0"),
     ("map requests are told as Placeholders", "status",
      [("specs/Status.antt", "passes Placeholder v = eqb v.state 1", "passes Placeholder v = eqb v.state 4"),
-      (CODE, "Status::Placeholder => in_state(v, 1)", "Status::Placeholder => in_state(v, 4)")],
+      (CODE, "Status::Placeholder => v.state == 1", "Status::Placeholder => v.state == 4")],
      "Statuses", "on (reserve 1) ∷ []", "Placeholder", "0", "1"),
 ]
 
