@@ -14,10 +14,8 @@ fn list(rt: &(impl Files + Print + Eprint), path: &str) -> io::Result<()> {
 }
 
 fn main(rt: HostRuntime) -> io::Result<()> {
-    list(&rt, "empty")?;
-    list(&rt, "short")?;
-    list(&rt, "kinds")?;
-    list(&rt, "flags")?;
-    list(&rt, "full")?;
-    list(&rt, "over")
+    for path in ["empty", "short", "kinds", "flags", "full", "over"] {
+        list(&rt, path)?;
+    }
+    Ok(())
 }

@@ -1,19 +1,35 @@
 // The fields of one line of the listing (01, "Marked values").
 #![tactic(auto)]
 
-ghost use Rattle.std.specs.Prelude.{◌≡◌};
+ghost use Rattle.std.specs.Prelude.{◌≡◌, Some};
 ghost use Rattle.listing_line.specs.Line.{line_of, shown_result, bad_of, num_of, shown_of};
+ghost use Rattle.listing_line.specs.Text.{word_text, line_text};
 ghost use Rattle.schemev2.specs.Entry.{cqe_of};
 
 use error::Result;
 use parse_cqe::ParsedCqe;
+use std::fmt;
 
-#[derive(Clone, Copy)]
+#[derive(Clone, Copy, Debug, PartialEq, Eq)]
 pub enum Word {
     Ok,
     Err,
     Bad,
     Num,
+}
+
+impl fmt::Display for Word {
+    ghost output = { λ w. Some (word_text w) };
+
+    fn fmt<W: fmt::Write>(&self, f: &mut fmt::Formatter<W>) -> fmt::Result {
+        let text = match self {
+            Word::Ok => "ok",
+            Word::Err => "err",
+            Word::Bad => "bad",
+            Word::Num => "num",
+        };
+        write!(f, "{text}")
+    }
 }
 
 #[derive(Clone, Copy)]
@@ -28,6 +44,19 @@ pub struct Line {
     pub tag: u32,
     pub shown: Shown,
     pub extra: u32,
+}
+
+// Its fields in their order, a space between two.
+impl fmt::Display for Line {
+    ghost output = { λ l. Some (line_text l) };
+
+    fn fmt<W: fmt::Write>(&self, f: &mut fmt::Formatter<W>) -> fmt::Result {
+        write!(
+            f,
+            "{} {} {} {} {}",
+            self.kind, self.tag, self.shown.word, self.shown.value, self.extra
+        )
+    }
 }
 
 fn shown_result(res: Result) -> Shown

@@ -3,10 +3,6 @@
 
 use std::io;
 
-fn number(rt: &impl Print, n: u64) -> io::Result<()> {
-    print!(rt; "{n}")
-}
-
 fn fifteen(rt: &impl Print) -> io::Result<()> {
     let mut s = [0; 2060];
     plain::fresh_words(7, &mut s);
@@ -14,22 +10,15 @@ fn fifteen(rt: &impl Print) -> io::Result<()> {
     let mut fx = [0; 54];
     let r = write::write(&mut s, &mut fx, &bytes);
     let answer = answer_words::words(r.answer);
-    print!(rt; "15 bytes written: ")?;
-    number(rt, answer.value)?;
-    print!(rt; ", kind ")?;
-    number(rt, answer.kind)?;
-    println!(rt)
+    println!(rt; "15 bytes written: {}, kind {}", answer.value, answer.kind)
 }
 
 fn show(rt: &impl Print, events: &[u8], out: &mut [u8], fx: &mut [u64]) -> io::Result<usize> {
     let end = run::run(7, events, out, fx);
-    print!(rt; "number ")?;
-    number(rt, end.number)?;
-    print!(rt; ", place ")?;
-    number(rt, end.place)?;
-    print!(rt; ", written ")?;
-    number(rt, end.written)?;
-    println!(rt)?;
+    println!(rt;
+        "number {}, place {}, written {}",
+        end.number, end.place, end.written
+    )?;
     rt.write_all(&out[..end.written as usize])?;
     Ok(end.place as usize)
 }

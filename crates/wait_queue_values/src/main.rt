@@ -1,53 +1,29 @@
 // 01's values for a read: one entry queued, length 100; two queued, length 100; and what an empty queue answers.
 #![tactic(auto)]
 
+use answer::Answer;
 use schemev2::{Args, Sqe};
 use std::io;
 use wait_queue_receive::Received;
 
-fn number(rt: &impl Print, n: u64) -> io::Result<()> {
-    print!(rt; "{n}")
-}
-
 // The answer, and how many entries are left.
 fn show(rt: &impl Print, received: Received) -> io::Result<()> {
-    let words = answer_words::words(received.answer);
-    match words.kind {
-        0 => {
-            print!(rt; "bytes ")?;
-            number(rt, words.value)?;
-        }
-        1 => {
-            print!(rt; "refused ")?;
-            number(rt, words.value)?;
-        }
-        _ => print!(rt; "would wait")?,
+    let left = received.queue.len;
+    match received.answer {
+        Answer::Bytes(n) => println!(rt; "bytes {n}, left {left}"),
+        Answer::WouldWait => println!(rt; "would wait, left {left}"),
+        refused => println!(rt;
+            "refused {}, left {left}",
+            answer_words::words(refused).value
+        ),
     }
-    print!(rt; ", left ")?;
-    number(rt, received.queue.len)?;
-    println!(rt)
 }
 
-fn wide(b: u8) -> u64 {
-    u64::from(b)
-}
-
-// The last byte of the first entry and the one after it.
-fn around(rt: &impl Print, out: &[u8]) -> io::Result<()> {
-    if out.len() < 65 {
-        return Ok(());
-    }
-    print!(rt; "  bytes ")?;
-    number(rt, wide(out[63]))?;
-    print!(rt; " and ")?;
-    number(rt, wide(out[64]))?;
-    println!(rt)
-}
-
+// A read that waits, with the last byte of the first entry and the one after it.
 fn shown(rt: &impl Print, s: &[u64; 2060]) -> io::Result<()> {
     let mut out = [255; 100];
     show(rt, queue_words::receive(s, &mut out, 0))?;
-    around(rt, &out)
+    println!(rt; "  bytes {} and {}", out[63], out[64])
 }
 
 // A non-blocking read.
