@@ -94,12 +94,10 @@ written_is scheme lent out ev out' r er eo h = go (eqb (left_of ev) 0) (leb (nee
 pub compared_is :
     (scheme lent : ℕ) (out ev told out' : List ℕ) (r : RunEnd) (k : ℕ) → r ≡ end_of scheme lent (length out) ev → out' ≡ out_after scheme lent out ev
     → r.written ≤ length out → k ≡ same_of (take r.written out') told
-    → record { number = r.number; place = r.place; written = r.written; same = k } ≡ compared_of scheme lent (length out) ev told
+    → record { end = r; same = k } ≡ compared_of scheme lent (length out) ev told
 compared_is scheme lent out ev told out' r k er eo h ek =
     λ i. record {
-      number = (er i).number;
-      place = (er i).place;
-      written = (er i).written;
+      end = er i;
       same = (ek ∙ ap (λ (l : List ℕ). same_of l told) (written_is scheme lent out ev out' r er eo h)) i;
     }
 
@@ -113,25 +111,6 @@ same_all (x ∷ xs) (y ∷ ys) h e = go (same_all xs ys (omega (arith, h))) (eqb
     go : (same_of xs ys ≡ length ys → xs ≡ ys) → (t : Bool) → eqb x y ≡ t → cond t (suc (same_of xs ys)) 0 ≡ suc (length ys) → x ∷ xs ≡ y ∷ ys
     go f true q p = ap₂ (λ (z : ℕ) (l : List ℕ). z ∷ l) (eqb-true x y q) (f (omega (arith, p)))
     go f false q p = absurd (let z : ⊥ = omega (arith, p) in z)
-
--- the tests of `as_recorded`, one after the other
-module _ (c : Compared) (n m : ℕ) where
-  abbrev tests : Bool → Bool → Bool → Bool
-  tests x y z = x && (y && (z && eqb c.same m))
-
-  pub not_number : (c.number ≡ 0 → ⊥) → false ≡ as_recorded_of c n m
-  not_number p = sym (ap (λ (x : Bool). tests x (eqb c.place n) (eqb c.written m)) (ne_eqb c.number 0 p))
-
-  pub not_place : c.number ≡ 0 → (c.place ≡ n → ⊥) → false ≡ as_recorded_of c n m
-  not_place p q = sym (ap₂ (λ (x y : Bool). tests x y (eqb c.written m)) (eq-eqb c.number 0 p) (ne_eqb c.place n q))
-
-  pub not_written : c.number ≡ 0 → c.place ≡ n → (c.written ≡ m → ⊥) → false ≡ as_recorded_of c n m
-  not_written p q r =
-      sym (λ i. tests (eq-eqb c.number 0 p i) (eq-eqb c.place n q i) (ne_eqb c.written m r i))
-
-  pub all_but_same : c.number ≡ 0 → c.place ≡ n → c.written ≡ m → eqb c.same m ≡ as_recorded_of c n m
-  all_but_same p q r =
-      sym (λ i. tests (eq-eqb c.number 0 p i) (eq-eqb c.place n q i) (eq-eqb c.written m r i))
 
 both_true : (a b : Bool) → a && b ≡ true → (a ≡ true) × (b ≡ true)
 both_true true b e = (refl, e)
@@ -155,16 +134,16 @@ Ended scheme lent ev a b =
 -- the run of all that the bytes hold is told as recorded
 recorded_is : (scheme lent most : ℕ) (ev told : List ℕ) → as_recorded_of (compared_of scheme lent most ev told) (length ev) (length told) ≡ true → Recorded scheme lent ev told
 recorded_is scheme lent most ev told e =
-    go (eqb (left_of ev) 0) (leb (needed ev) most) refl (eqb-true C.number 0 p.0) (eqb-true C.written (length told) q.0) (eqb-true C.same (length told) q.1)
+    go (eqb (left_of ev) 0) (leb (needed ev) most) refl (eqb-true C.end.number 0 p.0) (eqb-true C.end.written (length told) q.0) (eqb-true C.same (length told) q.1)
   where
     C : Compared
     C = compared_of scheme lent most ev told
 
-    p : (eqb C.number 0 ≡ true) × (eqb C.place (length ev) && (eqb C.written (length told) && eqb C.same (length told)) ≡ true)
-    p = both_true (eqb C.number 0) (eqb C.place (length ev) && (eqb C.written (length told) && eqb C.same (length told))) e
+    p : (eqb C.end.number 0 ≡ true) × (eqb C.end.place (length ev) && (eqb C.end.written (length told) && eqb C.same (length told)) ≡ true)
+    p = both_true (eqb C.end.number 0) (eqb C.end.place (length ev) && (eqb C.end.written (length told) && eqb C.same (length told))) e
 
-    q : (eqb C.written (length told) ≡ true) × (eqb C.same (length told) ≡ true)
-    q = both_true (eqb C.written (length told)) (eqb C.same (length told)) (both_true (eqb C.place (length ev)) (eqb C.written (length told) && eqb C.same (length told)) p.1).1
+    q : (eqb C.end.written (length told) ≡ true) × (eqb C.same (length told) ≡ true)
+    q = both_true (eqb C.end.written (length told)) (eqb C.same (length told)) (both_true (eqb C.end.place (length ev)) (eqb C.end.written (length told) && eqb C.same (length told)) p.1).1
 
     X : List ℕ
     X = output_of (run_of scheme lent ev)

@@ -21,16 +21,10 @@ written_of scheme lent most ev = cond (is_run most ev) (output_of (run_of scheme
 
 abbrev pub compared_of : ℕ → ℕ → ℕ → List ℕ → List ℕ → Compared
 compared_of scheme lent most ev told =
-    let e = end_of scheme lent most ev in
-    record {
-      number = e.number;
-      place = e.place;
-      written = e.written;
-      same = same_of (written_of scheme lent most ev) told;
-    }
+    record { end = end_of scheme lent most ev; same = same_of (written_of scheme lent most ev) told }
 
 abbrev pub as_recorded_of : Compared → ℕ → ℕ → Bool
-as_recorded_of c n m = c.number == 0 && (c.place == n && (c.written == m && c.same == m))
+as_recorded_of c n m = c.end.number == 0 && (c.end.place == n && (c.end.written == m && c.same == m))
 
 -- the bytes hold events and nothing else, and the run of these is told as recorded: each answer, effect and read byte, and the state
 abbrev pub Recorded : ℕ → ℕ → List ℕ → List ℕ → Type 0

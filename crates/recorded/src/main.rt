@@ -1,22 +1,22 @@
 // The recorded runs in data/, each run again and compared byte for byte with what was recorded: docs/RECORDED.md.
 #![tactic(auto)]
 
-ghost use Rattle.std.specs.Prelude.{◌≡◌, ℕ, ◌%◌, ◌≤◌, true, false, length, IfOk};
+ghost use Rattle.std.specs.Prelude.{◌≡◌, ℕ, ◌%◌, length, OnOk};
 ghost use Rattle.le.specs.Le.{word as word_of};
 ghost use Rattle.record.specs.Record.{decoded};
 ghost use Rattle.recorded.specs.Recorded.{check_of, same_of, compared_of, as_recorded_of, Recorded};
 
-use answer_words::AnswerWords;
+use answer::Answer;
+use run::RunEnd;
 use state_bytes::STATE_SIZE;
 use std::fs::File;
-use std::io;
 use std::io::Read;
 use std::rt::Files;
+use std::{fmt, io};
 
-// A file's runs so far, and the check number of its bytes. `good` until something differs or is not as it should be.
+// A file's runs so far, each as recorded, and the check number of its bytes.
 #[derive(Clone, Copy)]
 struct Tally {
-    good: bool,
     runs: u64,
     events: u64,
     event_bytes: u64,
@@ -27,16 +27,69 @@ struct Tally {
 // How a run ended, and how many of its bytes are as recorded, up to the first that is not.
 #[derive(Clone, Copy)]
 struct Compared {
-    number: u64,
-    place: u64,
-    written: u64,
-    same: u64,
+    end: RunEnd,
+    same: usize,
 }
 
-fn wide(b: u8) -> u64
-    ensures { (result ≡ b) × (result ≤ 255) }
-{
-    u64::from(b)
+// Why a file's runs are not all as recorded. `run` counts those before.
+#[derive(Drop)]
+enum Fault {
+    NoCount,
+    CutOff {
+        run: u64,
+    },
+    Differs {
+        run: u64,
+        compared: Compared,
+        recorded: usize,
+    },
+    More,
+    Input(io::Error),
+}
+
+// What each run of a file is read into and run in, lent: the arrays are large.
+#[derive(Drop)]
+struct Buffers<'a> {
+    events: &'a mut [u8],
+    recorded: &'a mut [u8],
+    out: &'a mut [u8],
+    fx: &'a mut [u64],
+}
+
+impl fmt::Display for Tally {
+    fn fmt<W: fmt::Write>(&self, f: &mut fmt::Formatter<W>) -> fmt::Result {
+        write!(
+            f,
+            "runs {}, events {}, bytes of events {}, bytes of answers {}, all as recorded; check {}",
+            self.runs, self.events, self.event_bytes, self.answer_bytes, self.check
+        )
+    }
+}
+
+impl fmt::Display for Fault {
+    fn fmt<W: fmt::Write>(&self, f: &mut fmt::Formatter<W>) -> fmt::Result {
+        match self {
+            Fault::NoCount => write!(f, "has no count of runs"),
+            Fault::CutOff { run } => write!(f, "run {run} is cut off or too long"),
+            Fault::Differs {
+                run,
+                compared,
+                recorded,
+            } => write!(
+                f,
+                "run {run} differs: number {}, place {}, bytes written {}, recorded {recorded}, the same up to byte {}",
+                compared.end.number, compared.end.place, compared.end.written, compared.same
+            ),
+            Fault::More => write!(f, "has bytes behind its last run"),
+            Fault::Input(e) => write!(f, "{e}"),
+        }
+    }
+}
+
+impl From<io::Error> for Fault {
+    fn from(e: io::Error) -> Self {
+        Fault::Input(e)
+    }
 }
 
 // The bytes as the digits of one number to the base 256, modulo a prime: a single changed byte always changes it.
@@ -45,7 +98,7 @@ fn check_number(before: u64, bytes: &[u8]) -> u64
 {
     let mut check = before % 4_294_967_291;
     for b in bytes {
-        check = (check * 256 + wide(*b)) % 4_294_967_291;
+        check = (check * 256 + u64::from(*b)) % 4_294_967_291;
     }
     check
 }
@@ -84,10 +137,8 @@ fn compare(scheme: u64, events: &[u8], recorded: &[u8], out: &mut [u8], fx: &mut
     let end = run::run(scheme, events, out, fx);
     let n = end.written as usize;
     Compared {
-        number: end.number,
-        place: end.place,
-        written: end.written,
-        same: same(&out[..n], recorded) as u64,
+        end: end,
+        same: same(&out[..n], recorded),
     }
 }
 
@@ -95,65 +146,32 @@ fn compare(scheme: u64, events: &[u8], recorded: &[u8], out: &mut [u8], fx: &mut
 fn as_recorded(c: Compared, events: usize, recorded: usize) -> bool
     ensures { result ≡ as_recorded_of c events recorded }
 {
-    if c.number != 0 {
-        return false;
-    }
-    if c.place != events as u64 {
-        return false;
-    }
-    if c.written != recorded as u64 {
-        return false;
-    }
-    c.same == recorded as u64
-}
-
-fn print_field(rt: &impl Print, name: &str, n: u64) -> io::Result<()> {
-    print!(rt; "{name}{n}")
-}
-
-fn print_difference(rt: &impl Print, run: u64, c: Compared, recorded: usize) -> io::Result<()> {
-    print_field(rt, " run ", run)?;
-    print_field(rt, " differs: number ", c.number)?;
-    print_field(rt, ", place ", c.place)?;
-    print_field(rt, ", bytes written ", c.written)?;
-    print_field(rt, ", recorded ", recorded as u64)?;
-    print_field(rt, ", the same up to byte ", c.same)?;
-    println!(rt)
-}
-
-fn bad(t: Tally) -> Tally
-    ensures { result.good ≡ false }
-{
-    let mut u = t;
-    u.good = false;
-    u
-}
-
-fn cut_off(rt: &impl Print, t: Tally) -> io::Result<Tally> {
-    print_field(rt, " run ", t.runs)?;
-    println!(rt; " is cut off or too long")?;
-    Ok(bad(t))
+    c.end.number == 0
+        && c.end.place == events as u64
+        && c.end.written == recorded as u64
+        && c.same == recorded
 }
 
 // One run more, its bytes already read.
 fn replay(
-    rt: &impl Print,
     t: Tally,
     head: &[u8],
     events: &[u8],
     recorded: &[u8],
     out: &mut [u8],
     fx: &mut [u64],
-) -> io::Result<Tally>
-    ensures { IfOk result (λ u. u.good ≡ true → Recorded (word_of head.now 0) (length fx.old) events.now recorded.now) }
+) -> Result<Tally, Fault>
+    ensures { OnOk result (Recorded (word_of head.now 0) (length fx.old) events.now recorded.now) }
 {
-    let c = compare(le::word(head, 0), events, recorded, out, fx);
-    if !as_recorded(c, events.len(), recorded.len()) {
-        print_difference(rt, t.runs, c, recorded.len())?;
-        return Ok(bad(t));
+    let compared = compare(le::word(head, 0), events, recorded, out, fx);
+    if !as_recorded(compared, events.len(), recorded.len()) {
+        return Err(Fault::Differs {
+            run: t.runs,
+            compared: compared,
+            recorded: recorded.len(),
+        });
     }
     Ok(Tally {
-        good: true,
         runs: t.runs.wrapping_add(1),
         events: t.events.wrapping_add(count_events(events) as u64),
         event_bytes: t.event_bytes.wrapping_add(events.len() as u64),
@@ -162,104 +180,62 @@ fn replay(
     })
 }
 
+// All that is lent is read, or the run is cut off.
+fn fill(file: &mut impl Read, into: &mut [u8], run: u64) -> Result<(), Fault> {
+    if input::read_full(file, into)? < into.len() {
+        return Err(Fault::CutOff { run: run });
+    }
+    Ok(())
+}
+
 // One run: scheme number and the two lengths, the events, what was recorded.
-fn read_run(
-    rt: &impl Print,
-    t: Tally,
-    file: &mut impl Read,
-    head: &mut [u8],
-    events: &mut [u8],
-    recorded: &mut [u8],
-    out: &mut [u8],
-    fx: &mut [u64],
-) -> io::Result<Tally> {
-    let got = input::read_full(file, head)?;
-    let n = le::word(head, 8);
-    let m = le::word(head, 16);
-    if got < 24 {
-        return cut_off(rt, t);
+fn read_run(t: Tally, file: &mut impl Read, lent: &mut Buffers) -> Result<Tally, Fault> {
+    let run = t.runs;
+    let mut head = [0; 24];
+    fill(file, &mut head, run)?;
+    let n = le::word(&head, 8);
+    let m = le::word(&head, 16);
+    if n > lent.events.len() as u64 || m > lent.recorded.len() as u64 {
+        return Err(Fault::CutOff { run: run });
     }
-    if n > events.len() as u64 {
-        return cut_off(rt, t);
-    }
-    if m > recorded.len() as u64 {
-        return cut_off(rt, t);
-    }
-    let e = n as usize;
-    let r = m as usize;
-    if input::read_full(file, &mut events[..e])? != e {
-        return cut_off(rt, t);
-    }
-    if input::read_full(file, &mut recorded[..r])? != r {
-        return cut_off(rt, t);
-    }
-    replay(rt, t, head, &events[..e], &recorded[..r], out, fx)
-}
-
-// The same with arrays, whose lengths no loop changes.
-fn next_run(
-    rt: &impl Print,
-    t: Tally,
-    file: &mut impl Read,
-    head: &mut [u8; 24],
-    events: &mut [u8; 65536],
-    recorded: &mut [u8; 65536],
-    out: &mut [u8; 262144],
-    fx: &mut [u64; 8192],
-) -> io::Result<Tally> {
-    read_run(rt, t, file, head, events, recorded, out, fx)
-}
-
-fn print_tally(rt: &impl Print, t: Tally) -> io::Result<()> {
-    print_field(rt, " runs ", t.runs)?;
-    print_field(rt, ", events ", t.events)?;
-    print_field(rt, ", bytes of events ", t.event_bytes)?;
-    print_field(rt, ", bytes of answers ", t.answer_bytes)?;
-    print_field(rt, ", all as recorded; check ", t.check)?;
-    println!(rt)
+    let events = &mut lent.events[..n as usize];
+    let recorded = &mut lent.recorded[..m as usize];
+    fill(file, events, run)?;
+    fill(file, recorded, run)?;
+    replay(t, &head, events, recorded, lent.out, lent.fx)
 }
 
 // A file: how many runs, then these, and nothing behind them.
-fn replay_file(rt: &impl Print, file: &mut impl Read) -> io::Result<()> {
+fn replay_file(file: &mut impl Read) -> Result<Tally, Fault> {
     let mut count = [0; 8];
-    let got = input::read_full(file, &mut count)?;
-    if got < 8 {
-        return println!(rt; " has no count of runs");
+    if input::read_full(file, &mut count)? < 8 {
+        return Err(Fault::NoCount);
     }
-    let runs = le::word(&count, 0);
-    let mut head = [0; 24];
     let mut events = [0; 65536];
     let mut recorded = [0; 65536];
     let mut out = [0; 262144];
     let mut fx = [0; 8192];
+    let mut lent = Buffers {
+        events: &mut events,
+        recorded: &mut recorded,
+        out: &mut out,
+        fx: &mut fx,
+    };
     let mut t = Tally {
-        good: true,
         runs: 0,
         events: 0,
         event_bytes: 0,
         answer_bytes: 0,
         check: check_number(0, &count),
     };
-    for _ in 0..runs {
-        t = next_run(
-            rt,
-            t,
-            file,
-            &mut head,
-            &mut events,
-            &mut recorded,
-            &mut out,
-            &mut fx,
-        )?;
-        if !t.good {
-            return Ok(());
-        }
+    for _ in 0..le::word(&count, 0) {
+        t = read_run(t, file, &mut lent)?;
     }
     let mut more = [0; 1];
     if input::read_full(file, &mut more)? != 0 {
-        return println!(rt; " has bytes behind its last run");
+        return Err(Fault::More);
     }
-    print_tally(rt, t)
+    Ok(t)
 }
 
 // A file that can't be opened is told on standard error, and the next one is taken.
@@ -267,36 +243,25 @@ fn replay_named(rt: &(impl Files + Print + Eprint), name: &str) -> io::Result<()
     match File::open(rt, name) {
         Ok(mut file) => {
             print!(rt; "{name}:")?;
-            replay_file(rt, &mut file)
+            match replay_file(&mut file) {
+                Ok(tally) => println!(rt; " {tally}"),
+                Err(Fault::Input(e)) => Err(e),
+                Err(fault) => println!(rt; " {fault}"),
+            }
         }
         Err(e) => eprintln!(rt; "{name}: {e}"),
     }
 }
 
-fn copied(s: &mut [u64; 2060]) -> AnswerWords {
-    let done = host::copy(s, 5);
-    answer_words::words(done.answer)
-}
-
-// Copies until one is refused, no more than 65,536.
-fn copied_on(s: &mut [u64; 2060]) -> AnswerWords {
-    let mut said = copied(s);
-    for _ in 0..65_536u64 {
-        if said.kind != 0 {
-            return said;
+// Copies until one is refused, no more than 65,537.
+fn copied_on(s: &mut [u64; 2060]) -> Answer {
+    for _ in 0..65_536 {
+        let answer = host::copy(s, 5).answer;
+        if !matches!(answer, Answer::Done) {
+            return answer;
         }
-        said = copied(s);
     }
-    said
-}
-
-fn print_limit(rt: &impl Print, kind: u64, value: u64, told: &[u8]) -> io::Result<()> {
-    print_field(rt, "207: kind ", kind)?;
-    print_field(rt, " number ", value)?;
-    print_field(rt, ", holds ", le::word(told, 48))?;
-    print_field(rt, ", outside ", le::word(told, 560))?;
-    print_field(rt, ", handle 0 ", le::word(told, 1032))?;
-    println!(rt)
+    host::copy(s, 5).answer
 }
 
 // 01's 207, which no file has, since a run to it has 65,536 events: description 5 is opened, copied, put into handle 0 and copied on
@@ -307,15 +272,21 @@ fn hold_limit(rt: &impl Print) -> io::Result<()> {
     host::open(&mut s, 5);
     host::copy(&mut s, 5);
     host::put(&mut s, 5, 0);
-    let answer = copied_on(&mut s);
+    let answer = answer_words::words(copied_on(&mut s));
     let mut told = [0; STATE_SIZE];
     state_bytes::put_state(&mut told, &s);
-    print_limit(rt, answer.kind, answer.value, &told)
+    let holds = le::word(&told, 48);
+    let outside = le::word(&told, 560);
+    let handle = le::word(&told, 1032);
+    println!(rt;
+        "207: kind {} number {}, holds {holds}, outside {outside}, handle 0 {handle}",
+        answer.kind, answer.value
+    )
 }
 
 fn main(rt: HostRuntime) -> io::Result<()> {
-    replay_named(&rt, "rust_scripts")?;
-    replay_named(&rt, "rust_drawn")?;
-    replay_named(&rt, "limits_of_01")?;
+    for name in ["rust_scripts", "rust_drawn", "limits_of_01"] {
+        replay_named(&rt, name)?;
+    }
     hold_limit(&rt)
 }

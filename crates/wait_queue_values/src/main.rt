@@ -12,10 +12,10 @@ fn show(rt: &impl Print, received: Received) -> io::Result<()> {
     match received.answer {
         Answer::Bytes(n) => println!(rt; "bytes {n}, left {left}"),
         Answer::WouldWait => println!(rt; "would wait, left {left}"),
-        refused => println!(rt;
-            "refused {}, left {left}",
-            answer_words::words(refused).value
-        ),
+        refused => {
+            let number = answer_words::words(refused).value;
+            println!(rt; "refused {number}, left {left}")
+        }
     }
 }
 

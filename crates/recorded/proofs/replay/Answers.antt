@@ -4,18 +4,18 @@ use Rattle.recorded.proofs.Laws.{as_compared}
 use Rattle.recorded.proofs.replay.Goals as goal
 
 pub returns : goal.returns
-returns g c =
+returns c =
     let yes : c.as_recorded.result ≡ true = search rules in
-    λ _. as_compared
+    as_compared
     (word c.args.head.now 0)
     c.word.result
     (length c.args.fx.now)
     (length c.args.out.now)
     c.args.events.now
     c.args.recorded.now
-    c.compare-c.result
+    c.compare-compared.result
     c.as_recorded.result
     c.word.ensures
-    c.compare-c.ensures
+    c.compare-compared.ensures
     c.as_recorded.ensures
     yes
