@@ -14,6 +14,8 @@ pub fn read_full<R: Read>(input: &mut R, into: &mut [u8]) -> io::Result<usize>
     ensures bytes { IfOk result (λ n. Consumes (R.remaining input.old) (R.remaining input.new) (take n into.new)) }
     ensures end { IfOk result (λ n. n < length into.new → IsAtEnd (R.remaining input.new)) }
 {
+    // The library has none with this promise: `read_exact` doesn't say how many were read where the input ends early, `io::copy` bounds its
+    // count only for readers whose bytes are known, and `read_to_end` takes the heap. The range lets a loop end that a read may not help on.
     let mut done = 0;
     for _ in 0..u64::MAX {
         if into.len() <= done {

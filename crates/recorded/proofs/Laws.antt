@@ -1,51 +1,26 @@
 -- The loops' laws, and what it means that a run is as recorded. Assumes nothing.
-use Rattle.std.proofs.Common.{◌≡◌, ℕ, zero, suc, ◌+◌, ◌-◌, ◌*◌, ◌%◌, ◌<◌, ◌≤◌, Bool, true, false, cond, ◌&&◌, eqb, leb, List, [], ◌∷◌, length, get_or, take, drop, sym, refl, ap, ◌∙◌, ap₂, true≢false, add-one, arith, length-drop, drop_of_length-le, length-take-le, take_all, drop-cons, drop-drop, take_at, eq-eqb, ne_eqb, eqb-true}
+use Rattle.std.proofs.Common.{◌≡◌, ℕ, zero, suc, ◌+◌, ◌-◌, ◌≤◌, Bool, true, false, cond, ◌&&◌, eqb, ◌==◌, leb, List, [], ◌∷◌, length, take, drop, sym, refl, ap, ◌∙◌, ap₂, true≢false, arith, length-drop, take_all, drop-drop, take_at, eqb-true}
 use lib.Seq.{sets, sets-eq}
+use Rattle.std.specs.List.{zip, prefix_len}
 use Rattle.record.specs.Record.{next_of, event_at, walk, Decoded, stops, before, decoded}
 use Rattle.record.proofs.Laws.{next_there, walk_ends, walk_goes_on}
 use Rattle.run.specs.declared.RunEnd.{RunEnd}
 use Rattle.run.specs.Run.{run_of, output_of, whole_end, end_of, out_after}
 use Rattle.run_room.specs.Room.{needed, left_of}
 use Rattle.recorded.specs.declared.Compared.{Compared}
-use Rattle.recorded.specs.Recorded.{check_of, same_of, written_of, compared_of, as_recorded_of, Recorded}
+use Rattle.recorded.specs.Recorded.{same_of, written_of, compared_of, as_recorded_of, Recorded}
 
 -- the part of a list from a place on, and a front that is there
 pub part_is : (bs : List ℕ) (k : ℕ) → take (length bs - k) (drop k bs) ≡ drop k bs
 part_is bs k = take_all (length bs - k) (drop k bs) (omega (arith, length-drop k bs))
 
-pub front_length : (l : List ℕ) (n : ℕ) → n ≤ length l → n ≡ length (take n l)
-front_length l n h = sym (length-take-le n l h)
-
--- the check number, a byte more and at the end
-pub check_on : (bs : List ℕ) (i c : ℕ) → i < length bs → check_of ((c * 256 + get_or bs i 0) % 4_294_967_291) (drop (i + 1) bs) ≡ check_of c (drop i bs)
-check_on bs i c h =
-    ap (λ (n : ℕ). check_of ((c * 256 + get_or bs i 0) % 4_294_967_291) (drop n bs)) (add-one i) ∙ sym (ap (check_of c) (drop-cons bs i 0 h))
-
-pub check_ends : (bs : List ℕ) (i c : ℕ) → length bs ≤ i → c ≡ check_of c (drop i bs)
-check_ends bs i c h = sym (ap (check_of c) (drop_of_length-le bs {i = i} h))
-
--- the same bytes: one more, one that differs, and the end of each
-module _ (a b : List ℕ) (i : ℕ) where
-  both : i < length a → i < length b → (t : Bool) → eqb (get_or a i 0) (get_or b i 0) ≡ t → same_of (drop i a) (drop i b) ≡ cond t (suc (same_of (drop (suc i) a) (drop (suc i) b))) 0
-  both h k t e =
-      ap₂ same_of (drop-cons a i 0 h) (drop-cons b i 0 k) ∙ ap (λ (x : Bool). cond x (suc (same_of (drop (suc i) a) (drop (suc i) b))) 0) e
-
-  pub same_on : i < length a → i < length b → get_or a i 0 ≡ get_or b i 0 → same_of (drop i a) (drop i b) ≡ suc (same_of (drop (i + 1) a) (drop (i + 1) b))
-  same_on h k e =
-      both h k true (eq-eqb (get_or a i 0) (get_or b i 0) e) ∙ ap (λ (n : ℕ). suc (same_of (drop n a) (drop n b))) (sym (add-one i))
-
-  pub same_differs : i < length a → i < length b → (get_or a i 0 ≡ get_or b i 0 → ⊥) → same_of (drop i a) (drop i b) ≡ 0
-  same_differs h k e = both h k false (ne_eqb (get_or a i 0) (get_or b i 0) e)
-
-  pub same_first_ends : length a ≤ i → same_of (drop i a) (drop i b) ≡ 0
-  same_first_ends h = ap (λ (l : List ℕ). same_of l (drop i b)) (drop_of_length-le a {i = i} h)
-
-  pub same_second_ends : length b ≤ i → same_of (drop i a) (drop i b) ≡ 0
-  same_second_ends h = ap (same_of (drop i a)) (drop_of_length-le b {i = i} h) ∙ none (drop i a)
-    where
-      none : (l : List ℕ) → same_of l [] ≡ 0
-      none [] = refl
-      none (x ∷ xs) = refl
+-- pairs that are the same, up to the first that are not
+pub pairs_same : (a b : List ℕ) → prefix_len (λ p. p.0 == p.1) (zip a b) ≡ same_of a b
+pairs_same [] b = refl
+pairs_same (x ∷ xs) [] = refl
+pairs_same (x ∷ xs) (y ∷ ys) =
+    let more : 1 + prefix_len (λ (p : ℕ × ℕ). p.0 == p.1) (zip xs ys) ≡ suc (same_of xs ys) = omega (arith, pairs_same xs ys) in
+    ap (λ (n : ℕ). cond (x == y) n 0) more
 
 -- how many events there are, one more and at the end
 counted_on : (lent : ℕ) (bs : List ℕ) → (next_of bs ≡ 0 → ⊥) → length (decoded lent bs).events ≡ suc (length (decoded lent (drop (next_of bs) bs)).events)

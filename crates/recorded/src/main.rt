@@ -107,19 +107,14 @@ fn check_number(before: u64, bytes: &[u8]) -> u64
 fn same(a: &[u8], b: &[u8]) -> usize
     ensures { result ≡ same_of a.now b.now }
 {
-    let n = a.len().min(b.len());
-    for i in 0..n {
-        if a[i] != b[i] {
-            return i;
-        }
-    }
-    n
+    a.iter().zip(b).take_while(|(x, y)| x == y).count()
 }
 
 // How many events the bytes hold, up to the first record that is none.
 fn count_events(events: &[u8]) -> usize
     ensures { (lent : ℕ) → result ≡ length (decoded lent events.now).events }
 {
+    // No `for`, and `n` counts no index: each turn steps by the size of the record that it finds, so an iterator would have to be written first.
     let mut n = 0;
     let mut at = 0;
     let mut size = record_next::next(events);
