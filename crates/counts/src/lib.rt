@@ -16,7 +16,8 @@ pub fn count_at(a: &[u64], d: Description) -> u64
     a.get(usize::from(d.0)).copied().unwrap_or(0)
 }
 
-// One hold less; says whether it was the last.
+// One hold less; says whether it was the last. Stored by index, here and below: nothing is known of the other counts after a store
+// through `get_mut`.
 pub fn lower(a: &mut [u64], d: Description) -> bool
     ensures value { result ≡ last a.old d.0 }
     ensures a_after { a.new ≡ less a.old d.0 }
@@ -41,7 +42,7 @@ pub fn higher(a: &mut [u64], d: Description)
     }
 }
 
-// One hold more for each entry of a list.
+// One hold more for each entry of a list. This and the next stay two: a call that is passed `higher` or `lower` would be as long.
 pub fn raise_all(a: &mut [u64], l: List)
     ensures { a.new ≡ more_all a.old (numbers l) }
 {

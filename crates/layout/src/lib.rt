@@ -25,7 +25,7 @@ pub const HANDLES: usize = 972;
 
 pub const QUEUE: usize = 1036;
 
-// As many words as there are.
+// As many words as there are: what the type says, under a name that callers' proofs cite.
 pub fn sized(s: &[u64; 2060])
     ensures { length s.now ≡ 2060 }
 {}

@@ -11,7 +11,7 @@ use ids::Tag;
 use slot::Slot;
 use state::State;
 
-// Each slot is read into its place.
+// Each slot is read into its place, by index: nothing is known of the slots after a loop over `iter_mut`.
 fn slots(s: &[u64; 2060], a: &mut [Slot; 64])
     ensures { a.new ≡ (table_of (plain_of s.now)).slots }
 {
