@@ -55,9 +55,6 @@ module _ (r : Record) (xs ys bs : List ℕ) (lent : ℕ) where
       ((λ z. refl) & never & never & never & never & never & never & never & never & never & never & never & never & never & never & never & never & never & never & (λ z. refl) & never & never & tt) (λ k z. refl) k
 
   module _ (ws vs : List ℕ) (a : Answer) (fx : List ℕ) where
-    pub as_kind : (n k : ℕ) → n ≡ k → Dispatched (tells_more k) ws vs (named k) a fx → Dispatched (tells_more n) ws vs (named n) a fx
-    as_kind n k e d = subst (λ (j : ℕ). Dispatched (tells_more j) ws vs (named j) a fx) (sym e) d
-
     pub as_supply : (n : ℕ) → (is_other n ≡ true) × (tells_more n ≡ false) → Does ws vs (supply_of r.words) a fx → Dispatched (tells_more n) ws vs (named n) a fx
     as_supply n h d =
         subst (λ (b : Bool). Dispatched b ws vs (named n) a fx) (sym h.1) (subst (λ (e : Event). Does ws vs e a fx) (sym (last n h.0)) d)

@@ -117,11 +117,9 @@ fn count_events(events: &[u8]) -> usize
     // No `for`, and `n` counts no index: each turn steps by the size of the record that it finds, so an iterator would have to be written first.
     let mut n = 0;
     let mut at = 0;
-    let mut size = record_next::next(events);
-    while size != 0 {
+    while let Some(size) = record_next::next(&events[at..]) {
         n += 1;
         at += size;
-        size = record_next::next(&events[at..]);
     }
     n
 }

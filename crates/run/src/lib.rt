@@ -12,7 +12,7 @@ ghost use Rattle.dispatch.specs.Dispatch.{tells_more};
 ghost use Rattle.run.specs.Run.{Told, wake_in, read_in, write_in, Turned, stored_by, run_of, output_of, lent_after, whole_end, end_of, out_after, fx_after};
 
 use ids::Tag;
-use record::Record;
+use record::{EventKind, Record};
 use state_bytes::STATE_SIZE;
 
 // The run's own answer: 0, 204 or 205, where it ended or the record begins that is no event, and how many bytes were written.
@@ -23,11 +23,6 @@ pub struct RunEnd {
     pub place: u64,
     pub written: u64,
 }
-
-// What the type of a caller's number says.
-fn is_half(x: u32)
-    ensures { x < 0x1_0000_0000 }
-{}
 
 // An event with at most one effect and no reply. Its lists stand in the first of the words lent for them.
 fn event_turn(
@@ -42,12 +37,10 @@ fn event_turn(
     ensures by_index { (bs : List ℕ) (lent : ℕ) → Told (plain_of s.old) (plain_of s.new) (event_named r.kind r (words_at rec.now (first_at r) r.first) (words_at rec.now (second_at r) r.second) bs lent) out.old out.new result }
     ensures upper_bound { result ≤ 192 }
 {
-    layout::sized(s);
-    is_half(r.number);
     record::first_list(rec, r, first);
     record::second_list(rec, r, second);
-    let n = r.first as usize;
-    let m = r.second as usize;
+    let n = usize::from(r.first);
+    let m = usize::from(r.second);
     let done = dispatch::event(s, r, &first[..n], &second[..m]);
     outcome_bytes::put_step(out, done)
 }
@@ -56,7 +49,6 @@ fn wake_turn(s: &mut [u64; 2060], r: Record, out: &mut [u8]) -> usize
     ensures told { Told (plain_of s.old) (plain_of s.new) (wake_in r) out.old out.new result }
     ensures upper_bound { result ≤ 192 }
 {
-    layout::sized(s);
     let a = r.words;
     let kept = call_inner::stored_reply(s, Tag(a.0));
     let done = call_inner::wake(s, Tag(a.0), r.number, a.1, a.2, a.3);
@@ -69,9 +61,8 @@ fn read_turn(s: &mut [u64; 2060], r: Record, out: &mut [u8]) -> usize
     ensures told { Told (plain_of s.old) (plain_of s.new) (read_in r) out.old out.new result }
     ensures upper_bound { result ≤ 192 + min r.words.0 8192 }
 {
-    layout::sized(s);
     let a = r.words;
-    let n = run_room::least(a.0, 8192);
+    let n = a.0.min(8192) as usize;
     let k = wait_queue_receive::copied(n, queue_words::unread(s));
     let answer = read::read(s, &mut out[32..32 + n], r.number);
     lent_bytes::put_head(out, answer, k);
@@ -86,7 +77,7 @@ fn write_turn(s: &mut [u64; 2060], rec: &[u8], r: Record, fx: &mut [u64], out: &
     ensures upper_bound { result ≤ 192 + 27 * tail_of r }
 {
     let a = r.words;
-    let n = run_room::least(a.0, fx.len());
+    let n = a.0.min(fx.len() as u64) as usize;
     let at = record::tail_at(r);
     let k = record::tail(r);
     let done = write::write(s, &mut fx[..n], &rec[at..at + k]);
@@ -108,11 +99,10 @@ fn turn(
     requires { WellFormed (plain_of s.old) × (0 < next_of rec.now) × (r ≡ record_of rec.now) × (255 ≤ length first.old) × (255 ≤ length second.old) × (room_of r ≤ length out.old) }
     ensures { Turned s.old s.new rec.now fx.old fx.new out.old out.new result }
 {
-    let kind = r.kind;
-    match kind {
-        14 => wake_turn(s, r, out),
-        15 => read_turn(s, r, out),
-        16 => write_turn(s, rec, r, fx, out),
+    match EventKind::try_from_raw(r.kind) {
+        Some(EventKind::Wake) => wake_turn(s, r, out),
+        Some(EventKind::Read) => read_turn(s, r, out),
+        Some(EventKind::Write) => write_turn(s, rec, r, fx, out),
         _ => event_turn(s, rec, r, first, second, out),
     }
 }
@@ -133,7 +123,7 @@ fn run_all(scheme: u64, events: &[u8], end: usize, out: &mut [u8], fx: &mut [u64
     let mut j = 0;
     while at < end {
         let r = record::record_at(&events[at..]);
-        let size = record::size_by(r.kind, r.first, r.second, r.number);
+        let size = record::size(r);
         let used = turn(
             &mut s,
             &events[at..],

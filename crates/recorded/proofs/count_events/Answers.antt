@@ -1,30 +1,32 @@
-use Rattle.std.proofs.Common.{◌+◌, ◌≤◌, length, ap, ◌∙◌, arith, rules}
+-- One event more, and where there is no more.
+use Rattle.std.proofs.Common.{◌≡◌, ◌<◌, ◌≤◌, ◌+◌, ℕ, Option, unwrap_or, length, drop, sym, ap, ◌∙◌, refl, arith, rules}
 use Rattle.record.specs.Record.{next_of}
-use Rattle.record.proofs.Laws.{some}
 use Rattle.recorded.proofs.Laws.{part_is, place_on, count_on, count_ends}
 use Rattle.recorded.proofs.count_events.Goals as goal
 
 pub overflow_add-at : goal.overflow_add-at
 overflow_add-at c =
-    let there : c.loop-size.at + c.loop-size.size ≤ length c.args.events.now = place_on c.args.events.now c.loop-size.n c.loop-size.at c.loop-size.size c.loop-size.invariant.at_within c.loop-size.invariant.size_is in
+    let ev = c.args.events.now in
+    let es : c.in-Some.size ≡ next_of (drop c.loop-size.at ev) = c.in-Some.ensures.value ∙ ap next_of (part_is ev c.loop-size.at) in
+    let there : c.loop-size.at + c.in-Some.size ≤ length ev = place_on ev c.loop-size.n c.loop-size.at c.in-Some.size c.loop-size.invariant.at_within es in
     search rules
 
-pub slice_bounds-next-count : goal.slice_bounds-next-count
-slice_bounds-next-count c =
-    place_on c.args.events.now c.loop-size.n c.loop-size.at c.loop-size.size c.loop-size.invariant.at_within c.loop-size.invariant.size_is
-
-pub slice_bounds-next-start : goal.slice_bounds-next-start
-slice_bounds-next-start c =
-    omega (arith, place_on c.args.events.now c.loop-size.n c.loop-size.at c.loop-size.size c.loop-size.invariant.at_within c.loop-size.invariant.size_is)
-
 pub loop-size-preserved : goal.loop-size-preserved
-loop-size-preserved c = record {
-  at_within = place_on c.args.events.now c.loop-size.n c.loop-size.at c.loop-size.size c.loop-size.invariant.at_within c.loop-size.invariant.size_is;
-  n_within = omega (arith, c.loop-size.invariant.n_within, some c.loop-size.size c.loop-size-test.true);
-  size_is = c.next-size-in-loop-size.ensures ∙ ap next_of (part_is c.args.events.now (c.loop-size.at + c.loop-size.size));
-  counted = count_on c.args.events.now c.loop-size.n c.loop-size.at c.loop-size.size c.loop-size.invariant.at_within c.loop-size.invariant.size_is c.loop-size-test.true c.loop-size.invariant.counted;
-}
+loop-size-preserved c =
+    let ev = c.args.events.now in
+    let l = c.loop-size in
+    let size = c.in-Some.size in
+    let es : size ≡ next_of (drop l.at ev) = c.in-Some.ensures.value ∙ ap next_of (part_is ev l.at) in
+    let more : 0 < size = c.in-Some.ensures.some in
+    record {
+      at_within = place_on ev l.n l.at size l.invariant.at_within es;
+      n_within = omega (arith, l.invariant.n_within, more);
+      counted = count_on ev l.n l.at size l.invariant.at_within es (λ z. omega (arith, z, more)) l.invariant.counted;
+    }
 
 pub returns : goal.returns
 returns c =
-    count_ends c.args.events.now c.loop-size.n c.loop-size.at c.loop-size.size c.loop-size.invariant.at_within c.loop-size.invariant.size_is c.loop-size-test.false c.loop-size.invariant.counted
+    let ev = c.args.events.now in
+    let l = c.loop-size in
+    let es : 0 ≡ next_of (drop l.at ev) = sym (ap (λ (o : Option ℕ). unwrap_or o 0) c.in_default.is) ∙ c.next.ensures.value ∙ ap next_of (part_is ev l.at) in
+    count_ends ev l.n l.at 0 l.invariant.at_within es refl l.invariant.counted

@@ -9,7 +9,7 @@ use Rattle.layout.specs.Layout.{plain_of}
 use lib.ListN.{length-replicate}
 use native.Mathlib.Omega.{arith}
 use mathlib.Core.Path.{ap, ◌∙◌}
-use Prim.Native.Nat.{ℕ, ◌-◌}
+use Prim.Native.Nat.{ℕ}
 use Rattle.run.proofs.run_all.Goals as goal
 
 pub loop-at-init : goal.loop-at-init
@@ -24,15 +24,15 @@ turn-used-requires c = let a = c.args in
       here,
       omega (arith, l.invariant.1),
       omega (arith, l.invariant.2),
-      omega (arith, ap room_of here, room_here a.scheme a.events.now a.out.now a.fx.now a.end l.out l.fx l.s l.at l.j l.invariant.0 c.loop-at-test.true c.size_by-size.result (c.size_by-size.ensures ∙ ap size_of here)),
+      omega (arith, ap room_of here, room_here a.scheme a.events.now a.out.now a.fx.now a.end l.out l.fx l.s l.at l.j l.invariant.0 c.loop-at-test.true c.size-size.result (c.size-size.ensures ∙ ap size_of here)),
     )
 
 pub loop-at-preserved : goal.loop-at-preserved
 loop-at-preserved c = let a = c.args in
     let l = c.loop-at in
     let inside = c.loop-at-test.true in
-    let size = c.size_by-size.result in
-    let is = c.size_by-size.ensures ∙ ap size_of c.record_at-r.ensures in
+    let size = c.size-size.result in
+    let is = c.size-size.ensures ∙ ap size_of c.record_at-r.ensures in
     let t = c.turn-used in
     (goes_on_turned a.scheme a.events.now a.out.now a.fx.now a.end l.out l.fx l.s l.at l.j l.invariant.0 inside size is _ _ _ t.result t.ensures, search rules, search rules)
 

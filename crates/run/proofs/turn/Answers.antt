@@ -1,12 +1,10 @@
 -- What `run::turn` leaves open. Assumes nothing.
-use Rattle.dispatch.proofs.ByKind.{no_more}
-use Rattle.run.proofs.ByKind.{turned_other}
+use Rattle.std.proofs.Common.{length, take, drop, rules}
 use Rattle.record.specs.Record.{tail_at, tail_of}
-use lib.ListN.{length, take, drop}
+use Rattle.run.proofs.ByKind.{turned_other}
 use Rattle.run.proofs.turn.Goals as goal
 
 pub returns-in_default : goal.returns-in_default
 returns-in_default c = let a = c.args in
-    let o = c.in_default.in_default-own.rest in
     let t = c.event_turn.ensures in
-    turned_other a.rec.now a.fx.now a.r c.requires.2 a.s.now _ a.out.now _ _ (no_more _ o.0.0.1 o.0.1 o.1) (t.by_index (take (tail_of a.r) (drop (tail_at a.r) a.rec.now)) (length a.fx.now)) t.upper_bound
+    turned_other a.rec.now a.fx.now a.r c.requires.2 a.s.now _ a.out.now _ _ (search rules) (t.by_index (take (tail_of a.r) (drop (tail_at a.r) a.rec.now)) (length a.fx.now)) t.upper_bound
