@@ -26,25 +26,11 @@ const ERROR_1: u32 = 0xffff_ffff;
 
 const ERROR_132: u32 = 0xffff_ff7c;
 
-// `-n`, with the lowest value apart: it has no counterpart and stays what it is.
-fn negated(n: i32) -> i32
-    ensures { result ≡ neg_i32 n }
-{
-    if n == -0x8000_0000 {
-        return n;
-    }
-    -n
-}
-
 // `n as usize`: the sign is extended.
 fn as_usize(n: i32) -> u64
     ensures { result ≡ as_usize n }
 {
-    if 0 <= n {
-        return n as u64;
-    }
-    let k = -1 - n;
-    0xffff_ffff_ffff_ffff - (k as u64)
+    i64::from(n).cast_unsigned()
 }
 
 impl Result {
@@ -70,7 +56,7 @@ impl Error {
     fn word(self) -> u64
         ensures { result ≡ as_usize (neg_i32 self.errno) }
     {
-        as_usize(negated(self.errno))
+        as_usize(self.errno.wrapping_neg())
     }
 
     pub fn mux(res: Result) -> u64

@@ -1,8 +1,14 @@
 // Flag bits and masks of the commit. A set of bits is known where no bit lies outside its mask, as `from_bits` has it.
 #![tactic(auto)]
 
-ghost use Rattle.std.specs.Prelude.{◌≡◌};
+ghost use Rattle.std.specs.Prelude.{◌≡◌, cond};
 ghost use Rattle.flag.specs.Flags.{within, event_read, event_hup, event_flags, fobtain_fd_flags, new_fd_flags, send_fd_flags, recv_fd_flags, sqe_oneway, sqe_multiple_ids};
+
+fn is_within(mask: u64, bits: u64) -> bool
+    ensures { result ≡ within mask bits }
+{
+    mask & bits == bits
+}
 
 // `EventFlags`: syscall/src/flag.rs, lines 46 to 53.
 const EVENT_READ: u64 = 1;
@@ -32,7 +38,7 @@ pub fn event_hup() -> u64
 pub fn event_flags_known(bits: u64) -> bool
     ensures { result ≡ within event_flags bits }
 {
-    EVENT_FLAGS & bits == bits
+    is_within(EVENT_FLAGS, bits)
 }
 
 // `FobtainFdFlags`: syscall/src/flag.rs, lines 83 to 101.
@@ -52,7 +58,7 @@ const FOBTAIN_FD_FLAGS: u64 = FOBTAIN_MANUAL_FD
 pub fn fobtain_fd_flags_known(bits: u64) -> bool
     ensures { result ≡ within fobtain_fd_flags bits }
 {
-    FOBTAIN_FD_FLAGS & bits == bits
+    is_within(FOBTAIN_FD_FLAGS, bits)
 }
 
 // `NewFdFlags`: syscall/src/schemev2.rs, lines 79 to 81.
@@ -63,7 +69,7 @@ const NEW_FD_FLAGS: u64 = NEW_FD_POSITIONED;
 pub fn new_fd_flags_known(bits: u64) -> bool
     ensures { result ≡ within new_fd_flags bits }
 {
-    NEW_FD_FLAGS & bits == bits
+    is_within(NEW_FD_FLAGS, bits)
 }
 
 // `CallFlags`: syscall/src/flag.rs, lines 493 and 495.
@@ -76,24 +82,25 @@ const SEND_FD_EXCLUSIVE: u64 = 1;
 
 const RECV_FD_UPPER_TBL: u64 = 2;
 
+// The flag that is told where all bits of a mask are among a call's.
+fn told(bits: u64, mask: u64, flag: u64) -> u64
+    ensures { result ≡ cond (within bits mask) flag 0 }
+{
+    if is_within(bits, mask) { flag } else { 0 }
+}
+
 // What a driver is told of a call's flags: one bit of them, and none of the others (src/scheme/user.rs, lines 1968 to 1971 and
 // 2005 to 2008).
 pub fn send_fd_flags(bits: u64) -> u64
     ensures { result ≡ send_fd_flags bits }
 {
-    if bits & FD_EXCLUSIVE == FD_EXCLUSIVE {
-        return SEND_FD_EXCLUSIVE;
-    }
-    0
+    told(bits, FD_EXCLUSIVE, SEND_FD_EXCLUSIVE)
 }
 
 pub fn recv_fd_flags(bits: u64) -> u64
     ensures { result ≡ recv_fd_flags bits }
 {
-    if bits & FD_UPPER == FD_UPPER {
-        return RECV_FD_UPPER_TBL;
-    }
-    0
+    told(bits, FD_UPPER, RECV_FD_UPPER_TBL)
 }
 
 // `SqeFlags`: syscall/src/schemev2.rs, lines 45 to 53.

@@ -63,25 +63,25 @@ pub fn description_of(word: u64) -> DescriptionFound
 pub fn descriptions_in(low: u64, high: u64) -> [Description; 16]
     ensures { result ≡ descriptions_in low high }
 {
-    let b = low / 0x1_0000_0000;
-    let d = high / 0x1_0000_0000;
+    let a = low.to_le_bytes();
+    let b = high.to_le_bytes();
     [
-        Description((low % 256) as u8),
-        Description((low / 0x100 % 256) as u8),
-        Description((low / 0x1_0000 % 256) as u8),
-        Description((low / 0x100_0000 % 256) as u8),
-        Description((b % 256) as u8),
-        Description((b / 0x100 % 256) as u8),
-        Description((b / 0x1_0000 % 256) as u8),
-        Description((b / 0x100_0000 % 256) as u8),
-        Description((high % 256) as u8),
-        Description((high / 0x100 % 256) as u8),
-        Description((high / 0x1_0000 % 256) as u8),
-        Description((high / 0x100_0000 % 256) as u8),
-        Description((d % 256) as u8),
-        Description((d / 0x100 % 256) as u8),
-        Description((d / 0x1_0000 % 256) as u8),
-        Description((d / 0x100_0000 % 256) as u8),
+        Description(a[0]),
+        Description(a[1]),
+        Description(a[2]),
+        Description(a[3]),
+        Description(a[4]),
+        Description(a[5]),
+        Description(a[6]),
+        Description(a[7]),
+        Description(b[0]),
+        Description(b[1]),
+        Description(b[2]),
+        Description(b[3]),
+        Description(b[4]),
+        Description(b[5]),
+        Description(b[6]),
+        Description(b[7]),
     ]
 }
 
