@@ -56,6 +56,8 @@ LAYER_LIMITS = {
 }
 RUST_LIMITS = {"ABI", "SLOTS", "QUEUE_ENTRIES", "DESCRIPTIONS", "HANDLES", "LIST", "HOLDS", "EFFECTS", "EFFECT_WORDS",
                "STATE_WORDS"}
+# the crates' names for structs that have another at a host
+HOST_NAMES = {"EffectWords": "Effect"}
 # the crates' names for the kinds of a completion entry
 CQE_KINDS = {"RespondRegular": "REGULAR", "RespondWithFd": "DESCRIPTOR", "SendFevent": "EVENT", "ObtainFd": "OBTAIN",
              "RespondWithMultipleFds": "MANY", "RespondAndNotifyOnDetach": "NOTICE"}
@@ -184,7 +186,11 @@ def layer_structs(texts):
             if name in everywhere and name not in crossing:
                 crossing[name] = everywhere[name]
                 todo += [of for _, of in everywhere[name]]
-    return crossing
+
+    def at_host(kind):
+        return re.sub(r"\b[A-Z]\w*", lambda of: HOST_NAMES.get(of[0], of[0]), kind)
+
+    return {at_host(name): [(field, at_host(kind)) for field, kind in fields] for name, fields in crossing.items()}
 
 
 def rust_structs(texts):
@@ -253,15 +259,18 @@ def tables(texts):
         inside = re.search(rf"^    {kind}\(\w+\) \{{\n(.*?)^    \}}$", texts[RUST + file], re.M | re.S)
         return {name: number(bits) for name, bits in re.findall(r"^ +(\w+) = (\w+);$", inside[1] if inside else "", re.M)}
 
-    answers = "crates/answer_words/src/lib.rt"
+    in_table = re.findall(r"^    Opcode::(\w+),$", texts["crates/opcode/src/lib.rt"], re.M)
+    answers, refusals = "crates/answer_words/src/lib.rt", "crates/answer/src/lib.rt"
     refused, errors, rust_errors = c("REFUSAL_"), c("ERRNO_"), constants(texts[RUST + "errno.rs"], "Errno")
     found = {
         "limit": {"the layer": limits, "tilgurap.h": {name: header.get(name) for name in limits}},
         "limit in Rust": {"the layer": {name: limits.get(name) for name in RUST_LIMITS | set(in_rust)}, "limits.rs": in_rust},
-        "opcode": {"the layer": listed("crates/opcode/src/lib.rt", r"^    (\d+), // (\w+)$"), "tilgurap.h": c("OP_"),
+        "opcode": {"the layer": listed("crates/opcode/src/lib.rt", r"^    (\w+) = (\d+),$"),
+                   "the layer's table": {capitals(name): 3 + place for place, name in enumerate(in_table)},
+                   "tilgurap.h": c("OP_"),
                    "opcode.rs": listed(RUST + "opcode.rs", r"^    (\w+) = (\d+),$")},
         "refusal": {"tilgurap.h": refused, "refusal.rs": listed(RUST + "refusal.rs", r"\(\s*Refusal::(\w+),\s*(\d+),")},
-        "refusal's number": {"the layer": {of: of for of in map(number, re.findall(r"=> refused\((\d+)\)", texts[answers]))},
+        "refusal's number": {"the layer": {of: of for of in map(number, re.findall(r"Refusal::\w+ => (\d+),", texts[refusals]))},
                              "tilgurap.h": {of: of for of in refused.values()}},
         "event flag": {"the layer": layer_flags("EVENT_"), "tilgurap.h": c("EVENT_"),
                        "effect.rs": rust_flags("effect.rs", "EventFlags")},
@@ -276,9 +285,9 @@ def tables(texts):
                                            "entry.rs": rust_flags("entry.rs", "RecvFdFlags")},
         "flag of a new file": {"the layer": layer_flags("NEW_FD_"), "tilgurap.h": c("NEW_FD_")},
         "answer's kind": {"the layer": {**listed(answers, r"pub fn (done|refused)\([^{]*\{ result ≡ record \{ kind = (\d)"),
-                                        **listed(answers, r"Answer::(\w+) => AnswerWords \{ kind: (\d)")},
+                                        **listed(answers, r"Ok\(Accepted::(\w+)\) => AnswerWords \{ kind: (\d)")},
                           "tilgurap.h": c("ANSWER_")},
-        "completion's kind": {"the layer": listed("crates/schemev2/src/lib.rt", r"(\d) => CqeOpcode::(\w+)"),
+        "completion's kind": {"the layer": listed("crates/schemev2/src/lib.rt", r"(\d) => Some\(CqeOpcode::(\w+)\)"),
                               "tilgurap.h": c("CQE_")},
         "slot's state": {"the layer": listed("crates/slot/src/lib.rt", r"(\d) => Phase::(\w+)"),
                          "tilgurap.h": c("SLOT_", {"VACANT"})},
@@ -420,10 +429,12 @@ EDITS = [
     ("missing limit", HEADER, "#define TILGURAP_HANDLES 64 ", "#define HANDLES 64 ", "limit HANDLES"),
     ("missing limit", LIMITS, "pub const HANDLES: usize = 64;", "", "limit in Rust HANDLES"),
     ("changed stack need", HEADER, "#define TILGURAP_STACK_STEP 1024", "#define TILGURAP_STACK_STEP 512", "limit STACK_STEP"),
-    ("changed opcode", "crates/opcode/src/lib.rt", "27, // CloseMsg", "26, // CloseMsg", "opcode CLOSE_MSG"),
+    ("changed opcode", "crates/opcode/src/lib.rt", "CloseMsg = 27", "CloseMsg = 26", "opcode CLOSE_MSG"),
+    ("changed opcode", "crates/opcode/src/lib.rt", "    Opcode::CloseMsg,\n    Opcode::Call,",
+     "    Opcode::Call,\n    Opcode::CloseMsg,", "opcode CLOSE_MSG"),
     ("changed opcode", HEADER, "TILGURAP_OP_DETACH 34", "TILGURAP_OP_DETACH 33", "opcode DETACH"),
     ("changed opcode", RUST + "opcode.rs", "Cancel = 25", "Cancel = 26", "opcode CANCEL"),
-    ("changed refusal", "crates/answer_words/src/lib.rt", "refused(207)", "refused(208)", "refusal's number 207"),
+    ("changed refusal", "crates/answer/src/lib.rt", "TooManyHolds => 207", "TooManyHolds => 208", "refusal's number 207"),
     ("changed refusal", HEADER, "QUEUE_FULL 203", "QUEUE_FULL 208", "refusal QUEUE_FULL"),
     ("changed refusal", RUST + "refusal.rs", "(Refusal::Ebadfd, 77,", "(Refusal::Ebadfd, 9,", "refusal EBADFD"),
     ("changed flag", "crates/flag/src/lib.rt", "SQE_ONEWAY: u8 = 1", "SQE_ONEWAY: u8 = 4", "entry flag ONEWAY"),
@@ -435,7 +446,7 @@ EDITS = [
     ("changed flag", "crates/flag/src/lib.rt", "SEND_FD_EXCLUSIVE: u64 = 1", "SEND_FD_EXCLUSIVE: u64 = 2",
      "flag of sent descriptions EXCLUSIVE"),
     ("changed flag", HEADER, "RECV_FD_UPPER_TBL 2", "RECV_FD_UPPER_TBL 4", "flag of descriptions asked for UPPER_TBL"),
-    ("changed kind", "crates/schemev2/src/lib.rt", "3 => CqeOpcode::ObtainFd", "6 => CqeOpcode::ObtainFd",
+    ("changed kind", "crates/schemev2/src/lib.rt", "3 => Some(CqeOpcode::ObtainFd)", "6 => Some(CqeOpcode::ObtainFd)",
      "completion's kind OBTAIN"),
     ("changed kind", HEADER, "TILGURAP_ANSWER_BLOCKED 3", "TILGURAP_ANSWER_BLOCKED 5", "answer's kind BLOCKED"),
     ("changed kind", RUST + "effect.rs", "2 => Effect::Unmap", "6 => Effect::Unmap", "effect's kind UNMAP"),

@@ -2,10 +2,14 @@
 // (events/specs/Outcome.antt).
 #![tactic(auto)]
 
+ghost use Rattle.std.specs.Prelude.{◌≡◌};
+ghost use Rattle.answer.specs.Numbered.{refusal_number};
+
 use ids::Tag;
 
-#[derive(Clone, Copy)]
-pub enum Answer {
+// What an event that is not refused comes to.
+#[derive(Clone, Copy, Debug, PartialEq, Eq)]
+pub enum Accepted {
     Done,
     // a slot was given out: reserve, `call`, map request
     Given(Tag),
@@ -19,6 +23,11 @@ pub enum Answer {
     // a wake: the call still waits, or its reply, which stands beside the answer, is handed over
     Blocked,
     Replied,
+}
+
+// Why an event is refused.
+#[derive(Clone, Copy, Debug, PartialEq, Eq)]
+pub enum Refusal {
     // numbers of the Rust's own
     NotFound,
     NoCaller,
@@ -35,4 +44,30 @@ pub enum Answer {
     BadArgument,
     TooManyFds,
     TooManyHolds,
+}
+
+pub type Answer = Result<Accepted, Refusal>;
+
+impl Refusal {
+    // 01's number.
+    pub fn number(self) -> u64
+        ensures { result ≡ refusal_number self }
+    {
+        match self {
+            Refusal::NotFound => 2,
+            Refusal::NoCaller => 3,
+            Refusal::Interrupted => 4,
+            Refusal::Again => 11,
+            Refusal::Invalid => 22,
+            Refusal::BadDescriptor => 77,
+            Refusal::NotSupported => 95,
+            Refusal::NotYours => 201,
+            Refusal::Full => 202,
+            Refusal::QueueFull => 203,
+            Refusal::ShortWords => 204,
+            Refusal::BadArgument => 205,
+            Refusal::TooManyFds => 206,
+            Refusal::TooManyHolds => 207,
+        }
+    }
 }

@@ -6,10 +6,11 @@ use lib.Dec.{eqb}
 use mathlib.Core.List.{List, [], ◌∷◌}
 use native.Mathlib.Omega.{arith}
 use borrow.Author.Tests.{eq-eqb, ne_eqb}
-use Rattle.answer.specs.declared.Answer.{Answer as Case}
-use Rattle.answer.specs.declared.Answer.TheVariants.{Done, Given, Submitted, Bytes, Descriptions, WouldWait, Blocked, Replied, NotFound, NoCaller, Interrupted, Again, Invalid, BadDescriptor, NotSupported, NotYours, Full, QueueFull, ShortWords, BadArgument, TooManyFds, TooManyHolds}
-use Rattle.effect.specs.declared.Effect.{Effect}
-use Rattle.effect.specs.Effect.{effect_words}
+use Rattle.std.specs.Prelude.{Result, Ok, Err}
+use Rattle.answer.specs.declared.Accepted.{Accepted}
+use Rattle.answer.specs.declared.Refusal.{Refusal}
+use Rattle.answer.specs.declared.Accepted.TheVariants.{Done, Given, Submitted, Bytes, Descriptions, WouldWait, Blocked, Replied}
+use Rattle.effect.specs.Effect.{effect_of, crossed}
 use Rattle.fd_list.specs.declared.List.{List as Fds}
 use Rattle.fd_list.specs.Lists.{list_of, numbers}
 use Rattle.slot.specs.declared.Reply.{Reply}
@@ -17,63 +18,50 @@ use Rattle.slot.specs.Slots.{no_reply}
 use Rattle.events.specs.Event.{Event}
 use Rattle.events.specs.Outcome.{Response, many, Answer, ok, no, wait, blocked, reply, said_with}
 use Rattle.events.specs.Wake.{response_by, response_from}
-use Rattle.step.specs.Does.{Does}
+use Rattle.step.specs.declared.Step.{Step}
+use Rattle.step.specs.Does.{answer_with, Does}
 use Rattle.answer_words.specs.declared.AnswerWords.{AnswerWords}
 use Rattle.answer_words.specs.declared.StepWords.{StepWords}
 use Rattle.answer_words.specs.declared.WakeWords.{WakeWords}
-use Rattle.answer_words.specs.Words.{words_of, response_words, reply_of, many_in, fds_of, effect_of, Settled, SettledWake}
-
--- the words of a case are those of the answer that is that case
-pub cased : (r : Response) (w : AnswerWords) (x a : Case) → w ≡ words_of (said_with r x) → a ≡ x → w ≡ words_of (said_with r a)
-cased r w x a p q = p ∙ sym (ap (λ (y : Case). words_of (said_with r y)) q)
+use Rattle.answer_words.specs.Words.{words_of, response_words, reply_of, many_in, fds_of, StepSays, Settled, SettledWake}
 
 -- the words of an answer and an effect settle the event that they are of
 module _ (ws xs : List ℕ) (e : Event) (a : Answer) (fx : List ℕ) (d : Does ws xs e a fx) where
-  pub settled : (r : StepWords) → r.answer ≡ words_of a → r.effect ≡ effect_of fx → effect_words r.effect ≡ fx → Settled r ws xs e
-  settled r p q all =
+  pub settled : (r : StepWords) → StepSays r a fx → Settled r ws xs e
+  settled r s =
       record {
-        answer = p ∙ ap words_of d.answer;
-        effect = q ∙ ap effect_of d.effects;
-        effects = all ∙ d.effects;
+        answer = s.answer ∙ ap words_of d.answer;
+        effect = s.effect ∙ ap effect_of d.effects;
+        effects = s.effects ∙ d.effects;
         words = d.words;
       }
 
   pub settled_wake :
-      (r : WakeWords) → r.answer ≡ words_of a → r.reply ≡ reply_of a → r.fds ≡ fds_of a → r.effect ≡ effect_of fx → effect_words r.effect ≡ fx → SettledWake r ws xs e
-  settled_wake r p m l q all =
+      (r : WakeWords) (t : StepWords) → StepSays t a fx → r.answer ≡ t.answer → r.effect ≡ t.effect → r.reply ≡ reply_of a → r.fds ≡ fds_of a → SettledWake r ws xs e
+  settled_wake r t s p q m l =
       record {
-        answer = p ∙ ap words_of d.answer;
+        answer = p ∙ s.answer ∙ ap words_of d.answer;
         reply = m ∙ ap reply_of d.answer;
         fds = l ∙ ap fds_of d.answer;
-        effect = q ∙ ap effect_of d.effects;
-        effects = all ∙ d.effects;
+        effect = q ∙ s.effect ∙ ap effect_of d.effects;
+        effects = ap crossed q ∙ s.effects ∙ d.effects;
         words = d.words;
       }
 
 -- a reply is handed over where the kind is 4
-pub is_reply_lem : (r : Response) (a : Case) → (words_of (said_with r a)).kind ≡ 4 → said_with r a ≡ reply r
-is_reply_lem r Done e = absurd (omega (arith, e))
-is_reply_lem r (Given t) e = absurd (omega (arith, e))
-is_reply_lem r (Submitted t) e = absurd (omega (arith, e))
-is_reply_lem r (Bytes n) e = absurd (omega (arith, e))
-is_reply_lem r (Descriptions n) e = absurd (omega (arith, e))
-is_reply_lem r WouldWait e = absurd (omega (arith, e))
-is_reply_lem r Blocked e = absurd (omega (arith, e))
-is_reply_lem r Replied e = refl
-is_reply_lem r NotFound e = absurd (omega (arith, e))
-is_reply_lem r NoCaller e = absurd (omega (arith, e))
-is_reply_lem r Interrupted e = absurd (omega (arith, e))
-is_reply_lem r Again e = absurd (omega (arith, e))
-is_reply_lem r Invalid e = absurd (omega (arith, e))
-is_reply_lem r BadDescriptor e = absurd (omega (arith, e))
-is_reply_lem r NotSupported e = absurd (omega (arith, e))
-is_reply_lem r NotYours e = absurd (omega (arith, e))
-is_reply_lem r Full e = absurd (omega (arith, e))
-is_reply_lem r QueueFull e = absurd (omega (arith, e))
-is_reply_lem r ShortWords e = absurd (omega (arith, e))
-is_reply_lem r BadArgument e = absurd (omega (arith, e))
-is_reply_lem r TooManyFds e = absurd (omega (arith, e))
-is_reply_lem r TooManyHolds e = absurd (omega (arith, e))
+pub is_reply_lem : (r : Response) (s : Result Step Refusal) → (words_of (answer_with r s)).kind ≡ 4 → answer_with r s ≡ reply r
+is_reply_lem r (Ok s) e = go s.accepted e
+  where
+    go : (a : Accepted) → (words_of (said_with r (Ok a))).kind ≡ 4 → said_with r (Ok a) ≡ reply r
+    go Done e = absurd (omega (arith, e))
+    go (Given t) e = absurd (omega (arith, e))
+    go (Submitted t) e = absurd (omega (arith, e))
+    go (Bytes n) e = absurd (omega (arith, e))
+    go (Descriptions n) e = absurd (omega (arith, e))
+    go WouldWait e = absurd (omega (arith, e))
+    go Blocked e = absurd (omega (arith, e))
+    go Replied e = refl
+is_reply_lem r (Err k) e = absurd (omega (arith, e))
 
 no_reply_lem : (x : Answer) → ((words_of x).kind ≡ 4 → ⊥) → (no_reply ≡ reply_of x) × (list_of [] ≡ fds_of x)
 no_reply_lem (ok v) z = (refl, refl)
@@ -82,12 +70,12 @@ no_reply_lem wait z = (refl, refl)
 no_reply_lem blocked z = (refl, refl)
 no_reply_lem (reply r) z = absurd (z refl)
 
-module _ (r : Response) (a : Case) (w : AnswerWords) (p : w ≡ words_of (said_with r a)) where
-  pub with_reply : w.kind ≡ 4 → said_with r a ≡ reply r
-  with_reply e = is_reply_lem r a (sym (ap (λ (x : AnswerWords). x.kind) p) ∙ e)
+module _ (r : Response) (s : Result Step Refusal) (w : AnswerWords) (p : w ≡ words_of (answer_with r s)) where
+  pub with_reply : w.kind ≡ 4 → answer_with r s ≡ reply r
+  with_reply e = is_reply_lem r s (sym (ap (λ (x : AnswerWords). x.kind) p) ∙ e)
 
-  pub without_reply : (w.kind ≡ 4 → ⊥) → (no_reply ≡ reply_of (said_with r a)) × (list_of [] ≡ fds_of (said_with r a))
-  without_reply z = no_reply_lem (said_with r a) (λ e. z (ap (λ (x : AnswerWords). x.kind) p ∙ e))
+  pub without_reply : (w.kind ≡ 4 → ⊥) → (no_reply ≡ reply_of (answer_with r s)) × (list_of [] ≡ fds_of (answer_with r s))
+  without_reply z = no_reply_lem (answer_with r s) (λ e. z (ap (λ (x : AnswerWords). x.kind) p ∙ e))
 
 -- a stored reply by its kind
 module _ (r : Reply) (l : Fds) where
@@ -126,17 +114,3 @@ module _ (r : Reply) (l : Fds) where
 
   pub many_list : 3 ≤ r.kind → list_of (numbers l) ≡ list_of (many_in (response_from r l))
   many_list b = ap (λ (v : Response). list_of (many_in v)) (others r.kind (λ e. omega (arith, b, e)) (λ e. omega (arith, b, e)) (λ e. omega (arith, b, e)))
-
--- effects
-pub same_effect : (e : Effect) → effect_words (effect_of (effect_words e)) ≡ effect_words e
-same_effect e = go (eqb e.kind 0) refl
-  where
-    go : (b : Bool) → eqb e.kind 0 ≡ b → effect_words (effect_of (cond b [] (e.kind ∷ e.a ∷ e.b ∷ []))) ≡ cond b [] (e.kind ∷ e.a ∷ e.b ∷ [])
-    go true p = refl
-    go false p = ap (λ (x : Bool). cond x [] (e.kind ∷ e.a ∷ e.b ∷ [])) p
-
-pub no_effect : (e : Effect) → e.kind ≡ 0 → record { kind = 0; a = 0; b = 0 } ≡ effect_of (effect_words e)
-no_effect e z = sym (ap (λ (b : Bool). effect_of (cond b [] (e.kind ∷ e.a ∷ e.b ∷ []))) (eq-eqb e.kind 0 z))
-
-pub an_effect : (e : Effect) → (e.kind ≡ 0 → ⊥) → e ≡ effect_of (effect_words e)
-an_effect e z = sym (ap (λ (b : Bool). effect_of (cond b [] (e.kind ∷ e.a ∷ e.b ∷ []))) (ne_eqb e.kind 0 z))

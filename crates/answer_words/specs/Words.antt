@@ -1,7 +1,6 @@
 -- An answer as the words that are handed to a host: from the answer to each of them, what it does not use is 0.
 use Rattle.std.specs.Prelude.{ℕ, ◌≡◌, false, List, [], ◌∷◌}
-use Rattle.effect.specs.declared.Effect.{Effect}
-use Rattle.effect.specs.Effect.{effect_words}
+use Rattle.effect.specs.Effect.{effect_of, crossed}
 use Rattle.fd_list.specs.declared.List.{List as Fds}
 use Rattle.fd_list.specs.Lists.{list_of}
 use Rattle.slot.specs.declared.Reply.{Reply}
@@ -50,18 +49,17 @@ fds_of wait = list_of []
 fds_of blocked = list_of []
 fds_of (reply r) = list_of (many_in r)
 
--- the one effect, 0 for none
-abbrev pub effect_of : List ℕ → Effect
-effect_of [] = record { kind = 0; a = 0; b = 0 }
-effect_of (k ∷ []) = record { kind = 0; a = 0; b = 0 }
-effect_of (k ∷ x ∷ []) = record { kind = 0; a = 0; b = 0 }
-effect_of (k ∷ x ∷ y ∷ fx) = record { kind = k; a = x; b = y }
+-- the words of an answer and of its effects
+pub record StepSays (r : StepWords) (a : Answer) (fx : List ℕ) : Type 0 where
+  pub answer : r.answer ≡ words_of a
+  pub effect : r.effect ≡ effect_of fx
+  pub effects : crossed r.effect ≡ fx
 
 -- an event with at most one effect: answer, effect and every word of the state are settled
 pub record Settled (r : StepWords) (ws xs : List ℕ) (e : Event) : Type 0 where
   pub answer : r.answer ≡ words_of (step (plain_of ws) e).answer
   pub effect : r.effect ≡ effect_of (step (plain_of ws) e).effects
-  pub effects : effect_words r.effect ≡ (step (plain_of ws) e).effects
+  pub effects : crossed r.effect ≡ (step (plain_of ws) e).effects
   pub words : xs ≡ words_after ws e
 
 -- a wake: reply and list as well
@@ -70,5 +68,5 @@ pub record SettledWake (r : WakeWords) (ws xs : List ℕ) (e : Event) : Type 0 w
   pub reply : r.reply ≡ reply_of (step (plain_of ws) e).answer
   pub fds : r.fds ≡ fds_of (step (plain_of ws) e).answer
   pub effect : r.effect ≡ effect_of (step (plain_of ws) e).effects
-  pub effects : effect_words r.effect ≡ (step (plain_of ws) e).effects
+  pub effects : crossed r.effect ≡ (step (plain_of ws) e).effects
   pub words : xs ≡ words_after ws e

@@ -2,15 +2,14 @@
 #![tactic(auto)]
 
 ghost use Rattle.std.specs.Prelude.{◌≡◌, false, List as Words, ℕ};
-ghost use Rattle.effect.specs.Effect.{effect_words};
-ghost use Rattle.events.specs.Outcome.{Response, reply as replied, said_with, said};
+ghost use Rattle.events.specs.Outcome.{Response, reply as replied, said_with};
 ghost use Rattle.events.specs.Event.{Event};
 ghost use Rattle.events.specs.Wake.{response_from};
-ghost use Rattle.step.specs.Does.{Does};
-ghost use Rattle.answer_words.specs.Words.{words_of, reply_of, fds_of, effect_of, Settled, SettledWake};
+ghost use Rattle.step.specs.Does.{answer_of, answer_with, effects_of, Does};
+ghost use Rattle.answer_words.specs.Words.{words_of, reply_of, fds_of, StepSays, Settled, SettledWake};
 
-use answer::Answer;
-use effect::Effect;
+use answer::{Accepted, Answer, Refusal};
+use effect::EffectWords;
 use fd_list::List;
 use slot::Reply;
 use step::Step;
@@ -28,7 +27,7 @@ pub struct AnswerWords {
 #[derive(Clone, Copy)]
 pub struct StepWords {
     pub answer: AnswerWords,
-    pub effect: Effect,
+    pub effect: EffectWords,
 }
 
 #[repr(C)]
@@ -37,7 +36,7 @@ pub struct WakeWords {
     pub answer: AnswerWords,
     pub reply: Reply,
     pub fds: List,
-    pub effect: Effect,
+    pub effect: EffectWords,
 }
 
 pub fn done(value: u64) -> AnswerWords
@@ -62,28 +61,15 @@ pub fn words(a: Answer) -> AnswerWords
     ensures { (r : Response) → result ≡ words_of (said_with r a) }
 {
     match a {
-        Answer::Done => done(0),
-        Answer::Given(tag) => done(tag.0),
-        Answer::Submitted(tag) => done(tag.0),
-        Answer::Bytes(n) => done(n),
-        Answer::Descriptions(n) => done(n),
-        Answer::WouldWait => AnswerWords { kind: 2, value: 0 },
-        Answer::Blocked => AnswerWords { kind: 3, value: 0 },
-        Answer::Replied => AnswerWords { kind: 4, value: 0 },
-        Answer::NotFound => refused(2),
-        Answer::NoCaller => refused(3),
-        Answer::Interrupted => refused(4),
-        Answer::Again => refused(11),
-        Answer::Invalid => refused(22),
-        Answer::BadDescriptor => refused(77),
-        Answer::NotSupported => refused(95),
-        Answer::NotYours => refused(201),
-        Answer::Full => refused(202),
-        Answer::QueueFull => refused(203),
-        Answer::ShortWords => refused(204),
-        Answer::BadArgument => refused(205),
-        Answer::TooManyFds => refused(206),
-        Answer::TooManyHolds => refused(207),
+        Ok(Accepted::Done) => done(0),
+        Ok(Accepted::Given(tag)) => done(tag.0),
+        Ok(Accepted::Submitted(tag)) => done(tag.0),
+        Ok(Accepted::Bytes(n)) => done(n),
+        Ok(Accepted::Descriptions(n)) => done(n),
+        Ok(Accepted::WouldWait) => AnswerWords { kind: 2, value: 0 },
+        Ok(Accepted::Blocked) => AnswerWords { kind: 3, value: 0 },
+        Ok(Accepted::Replied) => AnswerWords { kind: 4, value: 0 },
+        Err(refusal) => refused(refusal.number()),
     }
 }
 
@@ -102,14 +88,11 @@ fn lone(kind: u8, word: u64) -> Reply
 fn reply_words(r: Reply, fds: List) -> Reply
     ensures { result ≡ reply_of (replied (response_from r fds)) }
 {
-    let kind = r.kind;
-    if kind < 2 {
-        return r;
+    match r.kind {
+        0 | 1 => r,
+        2 => lone(2, r.word),
+        _ => lone(3, 0),
     }
-    if kind == 2 {
-        return lone(2, r.word);
-    }
-    lone(3, 0)
 }
 
 // Its list: only many descriptors have one, of at most 16.
@@ -122,56 +105,45 @@ fn list_words(r: Reply, fds: List) -> List
     fd_list::without(fds, 0)
 }
 
-fn effect_words(e: Effect) -> Effect
-    ensures { (result ≡ effect_of (effect_words e)) × (effect_words result ≡ effect_words e) }
+// The answer and the effect of what an event's function returns.
+fn parts(done: Result<Step, Refusal>) -> StepWords
+    ensures { (r : Response) → StepSays result (answer_with r done) (effects_of done) }
 {
-    if e.kind == 0 {
-        return Effect {
-            kind: 0,
-            a: 0,
-            b: 0,
-        };
+    match done {
+        Ok(step) => StepWords {
+            answer: words(Ok(step.accepted)),
+            effect: effect::words(step.effect),
+        },
+        Err(refusal) => StepWords {
+            answer: words(Err(refusal)),
+            effect: effect::words(None),
+        },
     }
-    e
 }
 
-pub fn step_words(done: Step) -> StepWords
-    ensures { (ws xs : Words ℕ) (e : Event) → Does ws xs e (said done.answer) (effect_words done.effect) → Settled result ws xs e }
+pub fn step_words(done: Result<Step, Refusal>) -> StepWords
+    ensures { (ws xs : Words ℕ) (e : Event) → Does ws xs e (answer_of done) (effects_of done) → Settled result ws xs e }
 {
-    let a = done.answer;
-    let e = done.effect;
-    let answer = words(a);
-    let fx = effect_words(e);
-    StepWords {
-        answer: answer,
-        effect: fx,
-    }
+    parts(done)
 }
 
 // The reply and its list count where one was handed over.
-pub fn wake_words(done: Step, r: Reply, fds: List) -> WakeWords
-    ensures { (ws xs : Words ℕ) (v : Event) → Does ws xs v (said_with (response_from r fds) done.answer) (effect_words done.effect) → SettledWake result ws xs v }
+pub fn wake_words(done: Result<Step, Refusal>, r: Reply, fds: List) -> WakeWords
+    ensures { (ws xs : Words ℕ) (v : Event) → Does ws xs v (answer_with (response_from r fds) done) (effects_of done) → SettledWake result ws xs v }
 {
-    let a = done.answer;
-    let e = done.effect;
-    let answer = words(a);
-    let fx = effect_words(e);
-    if answer.kind == 4 {
-        let said = reply_words(r, fds);
-        let list = list_words(r, fds);
+    let told = parts(done);
+    if told.answer.kind == 4 {
         return WakeWords {
-            answer: answer,
-            reply: said,
-            fds: list,
-            effect: fx,
+            answer: told.answer,
+            reply: reply_words(r, fds),
+            fds: list_words(r, fds),
+            effect: told.effect,
         };
     }
-    let blank = lone(0, 0);
-    let none = fd_list::empty();
     WakeWords {
-        answer: answer,
-        reply: blank,
-        fds: none,
-        effect: fx,
+        answer: told.answer,
+        reply: lone(0, 0),
+        fds: fd_list::empty(),
+        effect: told.effect,
     }
 }

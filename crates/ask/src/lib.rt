@@ -3,65 +3,30 @@
 
 ghost use Rattle.std.specs.Prelude.{◌≡◌};
 ghost use Rattle.layout.specs.Layout.{plain_of};
-ghost use Rattle.ask.specs.Asked.{refused_as, asked_of};
+ghost use Rattle.ask.specs.Asked.{asked_of};
 
-use answer::Answer;
+use answer::Refusal;
 use fd_list::List;
-use opcode::RawOpcode;
-use take_holds::TakeAnswer;
+use opcode::Opcode;
 
-// Opcode and list of a good one; else its refusal.
+// Its opcode's number and its list.
 #[derive(Clone, Copy)]
 pub struct Asked {
-    pub good: bool,
-    pub answer: Answer,
     pub opcode: u8,
     pub list: List,
 }
 
-fn refused(answer: Answer) -> Asked
-    ensures { result ≡ refused_as answer }
-{
-    let none = fd_list::empty();
-    Asked {
-        good: false,
-        answer: answer,
-        opcode: 0,
-        list: none,
-    }
-}
-
-pub fn ask(s: &[u64; 2060], opcode: u64, fds: &[u64]) -> Asked
+pub fn ask(s: &[u64; 2060], opcode: u64, fds: &[u64]) -> Result<Asked, Refusal>
     ensures { result ≡ asked_of (plain_of s.now) opcode fds.now }
 {
-    let raw = opcode::try_from_raw(opcode);
-    match raw {
-        RawOpcode::Unknown => refused(Answer::BadArgument),
-        RawOpcode::Opcode(op) => {
-            if fds.len() == 0 {
-                let none = fd_list::empty();
-                return Asked {
-                    good: true,
-                    answer: Answer::Done,
-                    opcode: op,
-                    list: none,
-                };
-            }
-            let looked = hold_words::look(s, &fds[..]);
-            let answer = looked.answer;
-            match answer {
-                TakeAnswer::BadArgument => refused(Answer::BadArgument),
-                TakeAnswer::TooMany => refused(Answer::TooManyFds),
-                TakeAnswer::Taken => {
-                    let list = looked.list;
-                    return Asked {
-                        good: true,
-                        answer: Answer::Done,
-                        opcode: op,
-                        list: list,
-                    };
-                }
-            }
-        }
+    let op = Opcode::try_from_raw(opcode).ok_or(Refusal::BadArgument)?;
+    let opcode = op.raw();
+    if fds.is_empty() {
+        return Ok(Asked {
+            opcode,
+            list: fd_list::empty(),
+        });
     }
+    let list = hold_words::look(s, &fds[..])?;
+    Ok(Asked { opcode, list })
 }

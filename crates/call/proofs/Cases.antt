@@ -4,7 +4,9 @@ use mathlib.Core.Path.{◌≡◌, refl, sym, ap, ◌∙◌}
 use mathlib.Core.Bool.{true, false, ◌||◌}
 use mathlib.Core.List.{List, [], ◌∷◌}
 use lib.ListN.{length}
-use Rattle.ask.specs.declared.Asked.{Asked}
+use Rattle.std.specs.Prelude.{Err}
+use Rattle.answer.specs.declared.Refusal.{Refusal}
+use Rattle.answer.specs.Numbered.{refusal_number}
 use Rattle.ask.specs.Asked.{asked_of}
 use Rattle.ask.proofs.Cases.{asked_turned, taken_is}
 use Rattle.counts.specs.Counts.{less_all}
@@ -17,7 +19,7 @@ use Rattle.slot.specs.declared.Slot.{Slot}
 use Rattle.slot.specs.Slots.{waiting_of}
 use Rattle.user_args.specs.Args.{merge_of}
 use Rattle.events.specs.World.{World, table_of, holds_of, queue_full}
-use Rattle.events.specs.Outcome.{Answer, ok, no, said, row, readable}
+use Rattle.events.specs.Outcome.{Answer, ok, no, row, readable}
 use Rattle.events.specs.Submit.{args6, sqe, bad_opcode, bad_list, long_list, table_full, taken_holds, begun, call_entry, call_rows}
 use Rattle.events.specs.Event.{Event, on, call}
 use Rattle.layout.specs.Layout.{plain_of}
@@ -49,7 +51,7 @@ module _ (ws : List ℕ) (c op : ℕ) (args : Args) (uid gid pid : ℕ) (ds : Li
   abbrev ss : List Store
   ss = taken w ds ∷ give v ∷ send (f (table_of w).head) ∷ []
 
-  pub refused : (r : Asked) → r ≡ asked_of w op ds → r.good ≡ false → (a : Answer) (fx : List ℕ) → a ≡ said r.answer → fx ≡ [] → Does ws ws e a fx
+  pub refused : (r : Refusal) → Err r ≡ asked_of w op ds → Does ws ws e (no (refusal_number r)) []
   refused = asked_turned ws e op ds (row 202 (table_full w) ∷ row 203 (queue_full w) ∷ []) (begun w v (taken_holds w ds) f) ss refl refl
 
   module _ (p : bad_opcode op || bad_list w ds ≡ false) (r : long_list ds ≡ false) where

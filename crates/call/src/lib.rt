@@ -2,14 +2,13 @@
 // overwritten with uid and gid.
 #![tactic(auto)]
 
-ghost use Rattle.effect.specs.Effect.{effect_words};
-ghost use Rattle.events.specs.Outcome.{said};
-ghost use Rattle.step.specs.Does.{Does};
+ghost use Rattle.step.specs.Does.{answer_of, effects_of, Does};
 ghost use Rattle.events.specs.Event.{on, call as callEvent};
 
-use answer::Answer;
+use answer::Refusal;
 use schemev2::{Args, Sqe};
 use step::Step;
+use user_args::CallerCtx;
 
 pub fn call(
     s: &mut [u64; 2060],
@@ -17,36 +16,30 @@ pub fn call(
     caller: u32,
     opcode: u64,
     args: Args,
-    uid: u32,
-    gid: u32,
-    pid: u64,
-) -> Step
-    ensures { Does s.old s.new (on (callEvent caller opcode args uid gid pid fds.now)) (said result.answer) (effect_words result.effect) }
+    ctx: CallerCtx,
+) -> Result<Step, Refusal>
+    ensures { Does s.old s.new (on (callEvent caller opcode args ctx.uid ctx.gid ctx.pid fds.now)) (answer_of result) (effects_of result) }
 {
     // lent anew: its pointer and length are then loaded apart, and not as one right after they were stored
-    let asked = ask::ask(s, opcode, &fds[..]);
-    if !asked.good {
-        let no = asked.answer;
-        return step::answered(no);
-    }
+    let asked = ask::ask(s, opcode, &fds[..])?;
     if slot_load::is_full(s) {
-        return step::answered(Answer::Full);
+        return Err(Refusal::Full);
     }
     if queue_words::queue_full(s) {
-        return step::answered(Answer::QueueFull);
+        return Err(Refusal::QueueFull);
     }
     let n = slot_load::head(s);
     let list = asked.list;
     let v = slot::waiting(caller, list);
-    let who = user_args::uid_gid_hack_merge(uid, gid);
+    let who = user_args::uid_gid_hack_merge(ctx.uid, ctx.gid);
     let a = Args(args.0, args.1, args.2, args.3, args.4, who);
     let e = Sqe {
         opcode: asked.opcode,
         sqe_flags: 0,
         tag: n.0 as u32,
         args: a,
-        caller: pid,
+        caller: ctx.pid,
     };
     hold_words::take(s, list);
-    step::begun(s, v, e)
+    Ok(step::begun(s, v, e))
 }

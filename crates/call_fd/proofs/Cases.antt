@@ -22,8 +22,12 @@ use Rattle.slot.specs.declared.Slot.{Slot}
 use Rattle.slot.specs.Slots.{phase_of, no_fds, vacant_slot, with_fds_of}
 use Rattle.slot.specs.contracts.Phase.{the_type}
 use Rattle.table.specs.Table.{no_slot}
-use Rattle.take_holds.specs.declared.TakeAnswer.TheVariants as take
-use Rattle.take_holds.specs.Take.{taken_as}
+use Rattle.std.specs.Prelude.{Ok, Err}
+use Rattle.answer.specs.declared.Refusal.TheVariants.{BadArgument, TooManyFds}
+use Rattle.answer.specs.declared.Refusal.{Refusal}
+use Rattle.answer.specs.Numbered.{refusal_number}
+use Rattle.take_holds.specs.declared.Taken.{Taken}
+use Rattle.take_holds.specs.Take.{taken_as, take_of}
 use Rattle.events.specs.World.{World, table_of, holds_of, slot_in, phase_in}
 use Rattle.events.specs.Outcome.{Answer, ok, no, Outcome, refuse}
 use Rattle.events.specs.Submit.{bad_list, long_list, taken_holds}
@@ -191,15 +195,32 @@ module _ (ws ms ds : List ℕ) where
   abbrev em : Event
   em = on (move ms ds)
 
-  pub bad_list_lem : bad_list (plain_of ws) ds ≡ true → (a : Answer) (fx : List ℕ) → a ≡ no 205 → fx ≡ [] → Does ws ws em a fx
-  bad_list_lem q = turned ws em (list_rows (plain_of ws) ds) (moved_of (plain_of ws) ms ds) (moved_stores (plain_of ws) ms ds) refl refl 205 (rw q refl)
+  -- the list's two tests, the bad one first
+  abbrev by : Bool → Bool → Taken
+  by x y = cond x (taken_as (Err BadArgument) (holds_of (plain_of ws))) (cond y (taken_as (Err TooManyFds) (holds_of (plain_of ws))) (taken_as (Ok (list_of ds)) (holds_with (holds_of (plain_of ws)).holds (less_all (holds_of (plain_of ws)).outside ds))))
 
-  pub long_list_lem : bad_list (plain_of ws) ds ≡ false → long_list ds ≡ true → (a : Answer) (fx : List ℕ) → a ≡ no 206 → fx ≡ [] → Does ws ws em a fx
-  long_list_lem q r = turned ws em (list_rows (plain_of ws) ds) (moved_of (plain_of ws) ms ds) (moved_stores (plain_of ws) ms ds) refl refl 206 (rw (q, r) refl)
+  pub list_refused : (k : Refusal) → Err k ≡ (take_of (holds_of (plain_of ws)) ds).list → Does ws ws em (no (refusal_number k)) []
+  list_refused k is = go (bad_list (plain_of ws) ds) (long_list ds) refl refl is
+    where
+      turn : Due (list_rows (plain_of ws) ds) (refusal_number k) → Does ws ws em (no (refusal_number k)) []
+      turn d = turned ws em (list_rows (plain_of ws) ds) (moved_of (plain_of ws) ms ds) (moved_stores (plain_of ws) ms ds) refl refl (refusal_number k) d _ _ refl refl
+
+      go : (x y : Bool) → bad_list (plain_of ws) ds ≡ x → long_list ds ≡ y → Err k ≡ (by x y).list → Does ws ws em (no (refusal_number k)) []
+      go true y ex ey e = let z : k ≡ BadArgument = cc in turn (rw (ex, z) refl)
+      go false true ex ey e = let z : k ≡ TooManyFds = cc in turn (rw (ex, ey, z) refl)
+      go false false ex ey e = absurd (let z : ◌≡◌ {A = ℕ} 0 1 = cc in omega (arith, z))
+
+  pub list_taken : (l : Fds) → Ok l ≡ (take_of (holds_of (plain_of ws)) ds).list → (bad_list (plain_of ws) ds ≡ false) × (long_list ds ≡ false) × (l ≡ list_of ds)
+  list_taken l is = go (bad_list (plain_of ws) ds) (long_list ds) is
+    where
+      go : (x y : Bool) → Ok l ≡ (by x y).list → (x ≡ false) × (y ≡ false) × (l ≡ list_of ds)
+      go true y e = absurd (let z : ◌≡◌ {A = ℕ} 0 1 = cc in omega (arith, z))
+      go false true e = absurd (let z : ◌≡◌ {A = ℕ} 0 1 = cc in omega (arith, z))
+      go false false e = (refl, refl, cc)
 
   pub good_list : bad_list (plain_of ws) ds ≡ false → long_list ds ≡ false → (l : Fds) → l ≡ list_of ds → Good (plain_of ws) ds l
   good_list q r l is =
-      record { list = is; numbers = ap numbers is ∙ numbers_list_of ds (ltb-false 16 (length ds) r); taken = ap₂ (λ (x y : Bool). (cond x (taken_as take.BadArgument [] (holds_of (plain_of ws))) (cond y (taken_as take.TooMany [] (holds_of (plain_of ws))) (taken_as take.Taken ds (holds_with (holds_of (plain_of ws)).holds (less_all (holds_of (plain_of ws)).outside ds))))).holds.outside) q r }
+      record { list = is; numbers = ap numbers is ∙ numbers_list_of ds (ltb-false 16 (length ds) r); taken = ap₂ (λ (x y : Bool). (cond x (taken_as (Err BadArgument) (holds_of (plain_of ws))) (cond y (taken_as (Err TooManyFds) (holds_of (plain_of ws))) (taken_as (Ok (list_of ds)) (holds_with (holds_of (plain_of ws)).holds (less_all (holds_of (plain_of ws)).outside ds))))).holds.outside) q r }
 
   pub went : bad_list (plain_of ws) ds ≡ false → long_list ds ≡ false → (xs : List ℕ) (a : Answer) (fx : List ℕ) → Moves ws xs ms ds a fx → Does ws xs em a fx
   went q r xs a fx m =

@@ -2,13 +2,12 @@
 // comes to it with opcode StdFsCall.
 #![tactic(auto)]
 
-ghost use Rattle.effect.specs.Effect.{effect_words};
-ghost use Rattle.events.specs.Outcome.{said};
-ghost use Rattle.step.specs.Does.{Does};
+ghost use Rattle.step.specs.Does.{answer_of, effects_of, Does};
 ghost use Rattle.events.specs.Event.{on, generic, stdfs};
 ghost use Rattle.call_generic.specs.Generic.{DoesWith};
 
-use answer::Answer;
+use answer::Refusal;
+use opcode::Opcode;
 use step::Step;
 
 fn call_with(
@@ -20,26 +19,26 @@ fn call_with(
     base: u64,
     len: u64,
     metadata: &[u64],
-) -> Step
-    ensures { DoesWith op s.old s.new caller pid fds.now base len metadata.now (said result.answer) (effect_words result.effect) }
+) -> Result<Step, Refusal>
+    ensures { DoesWith op s.old s.new caller pid fds.now base len metadata.now (answer_of result) (effects_of result) }
 {
     if fds.len() == 0 {
-        return step::answered(Answer::Invalid);
+        return Err(Refusal::Invalid);
     }
     if 2 < fds.len() {
-        return step::answered(Answer::Invalid);
+        return Err(Refusal::Invalid);
     }
     if slot_load::is_full(s) {
-        return step::answered(Answer::Full);
+        return Err(Refusal::Full);
     }
     if queue_words::queue_full(s) {
-        return step::answered(Answer::QueueFull);
+        return Err(Refusal::QueueFull);
     }
     let n = slot_load::head(s);
     let none = fd_list::empty();
     let v = slot::waiting(caller, none);
     let e = generic_entry::entry(op, n.0 as u32, pid, fds, base, len, metadata);
-    step::begun(s, v, e)
+    Ok(step::begun(s, v, e))
 }
 
 pub fn call_generic(
@@ -50,10 +49,10 @@ pub fn call_generic(
     base: u64,
     len: u64,
     metadata: &[u64],
-) -> Step
-    ensures { Does s.old s.new (on (generic caller pid fds.now base len metadata.now)) (said result.answer) (effect_words result.effect) }
+) -> Result<Step, Refusal>
+    ensures { Does s.old s.new (on (generic caller pid fds.now base len metadata.now)) (answer_of result) (effects_of result) }
 {
-    call_with(s, opcode::call(), caller, pid, fds, base, len, metadata)
+    call_with(s, Opcode::Call.raw(), caller, pid, fds, base, len, metadata)
 }
 
 // The kind is the low byte of the first of three words.
@@ -65,20 +64,20 @@ pub fn translate_std_fs_call(
     base: u64,
     len: u64,
     metadata: &[u64],
-) -> Step
-    ensures { Does s.old s.new (on (stdfs caller pid fds.now base len metadata.now)) (said result.answer) (effect_words result.effect) }
+) -> Result<Step, Refusal>
+    ensures { Does s.old s.new (on (stdfs caller pid fds.now base len metadata.now)) (answer_of result) (effects_of result) }
 {
     if metadata.len() < 3 {
-        return step::answered(Answer::Invalid);
+        return Err(Refusal::Invalid);
     }
     let kind = metadata[0] % 256;
     if generic_entry::is_wrong_kind(kind) {
-        return step::answered(Answer::NotSupported);
+        return Err(Refusal::NotSupported);
     }
     let three = [kind, metadata[1], metadata[2]];
     call_with(
         s,
-        opcode::std_fs_call(),
+        Opcode::StdFsCall.raw(),
         caller,
         pid,
         fds,

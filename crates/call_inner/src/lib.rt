@@ -2,16 +2,14 @@
 #![tactic(auto)]
 
 ghost use Rattle.std.specs.Prelude.{◌≡◌};
-ghost use Rattle.effect.specs.Effect.{effect_words};
-ghost use Rattle.events.specs.Outcome.{said_with};
 ghost use Rattle.events.specs.Wake.{response_of};
 ghost use Rattle.events.specs.Event.{on, wake as wakeEvent};
 ghost use Rattle.events.specs.World.{slot_in};
 ghost use Rattle.layout.specs.Layout.{plain_of};
-ghost use Rattle.step.specs.Does.{Does};
+ghost use Rattle.step.specs.Does.{answer_with, effects_of, Does};
 ghost use Rattle.call_inner.specs.Stored.{kept_in};
 
-use answer::Answer;
+use answer::{Accepted, Refusal};
 use fd_list::List;
 use ids::Tag;
 use slot::{PageSpan, Reply};
@@ -45,40 +43,40 @@ pub fn stored_reply(s: &[u64; 2060], tag: Tag) -> Stored
     }
 }
 
-pub fn wake(s: &mut [u64; 2060], tag: Tag, caller: u32, killed: u64, base: u64, count: u64) -> Step
-    ensures { Does s.old s.new (on (wakeEvent tag.0 caller killed base count)) (said_with (response_of (slot_in (plain_of s.old) tag.0)) result.answer) (effect_words result.effect) }
+pub fn wake(
+    s: &mut [u64; 2060],
+    tag: Tag,
+    caller: u32,
+    killed: u64,
+    base: u64,
+    count: u64,
+) -> Result<Step, Refusal>
+    ensures { Does s.old s.new (on (wakeEvent tag.0 caller killed base count)) (answer_with (response_of (slot_in (plain_of s.old) tag.0)) result) (effects_of result) }
 {
     if 1 < killed {
-        return step::answered(Answer::BadArgument);
+        return Err(Refusal::BadArgument);
     }
     let n = ids::slot_of(tag);
     let v = slot_load::load(s, n);
     let unread = queue_words::unread(s);
-    let decided = wake_decision::decide(v, caller, killed, unread);
-    let answer = decided.answer;
-    let turn = decided.turn;
-    match turn {
-        Turn::Stay => step::answered(answer),
+    match wake_decision::decide(v, caller, killed, unread)? {
+        Turn::Stay => Ok(step::answered(Accepted::Blocked)),
         Turn::Interrupt => {
-            let span = PageSpan {
-                base: base,
-                count: count,
-            };
-            let w = slot::interrupted(v, span);
+            let w = slot::interrupted(v, PageSpan { base, count });
             slot_store::put(s, n, w);
-            return step::answered(Answer::Interrupted);
+            Err(Refusal::Interrupted)
         }
         Turn::Cancel => {
             let w = slot::canceled(v);
             let e = wake_decision::cancel_entry(n);
-            return step::went_on(s, n, w, e, Answer::Blocked);
+            Ok(step::went_on(s, n, w, e, Accepted::Blocked))
         }
         Turn::HandOver => {
             let out = wake_decision::holds_in(v.reply, v.fds);
             layout::sized(s);
             hold_words::to_outside(s, out);
             slot_store::vacate(s, n);
-            return step::answered(Answer::Replied);
+            Ok(step::answered(Accepted::Replied))
         }
     }
 }

@@ -1,7 +1,8 @@
 -- A plan carried out: its effects one run after the other, and its stores. Assumes nothing.
 use Prim.Native.Nat.{ℕ, ◌+◌, ◌*◌, ◌≤◌, min}
 use mathlib.Core.Path.{◌≡◌, refl, sym, ap, ap₂, ◌∙◌}
-use mathlib.Core.Bool.{Bool, true, false, cond}
+use mathlib.Core.Bool.{Bool, true, false}
+use Rattle.std.specs.Prelude.{Option, Some, None}
 use mathlib.Core.List.{List, [], ◌∷◌, ◌++◌, append_assoc}
 use native.Mathlib.Omega.{arith}
 use lib.Dec.{eqb, leb}
@@ -15,8 +16,7 @@ use Rattle.counts.specs.Counts.{lasts, less_all}
 use Rattle.counts.proofs.Laws.{less_all_length}
 use Rattle.effect.specs.Effect.{effect_words}
 use Rattle.fd_list.specs.Lists.{numbers}
-use Rattle.slot.specs.declared.Act.{Act}
-use Rattle.slot.specs.declared.Slot.{Slot}
+use Rattle.slot.specs.declared.PageSpan.{PageSpan}
 use Rattle.word_put.proofs.Stores.{sets_then, sets_past}
 use Rattle.events.specs.World.{World, holds_of, handles_of}
 use Rattle.events.specs.Entry.{closes_of, unmap_of}
@@ -24,7 +24,7 @@ use Rattle.layout.specs.Layout.{plain_of}
 use Rattle.layout.specs.Store.{outside, all, handles, stored, stored_all}
 use Rattle.layout.proofs.Regions.{same_part}
 use Rattle.layout.proofs.Worlds.{outside_is, handles_is, plain_fits, stored_plain}
-use Rattle.packed.specs.Stores.{act_stores}
+use Rattle.plan.specs.declared.Change.{Change}
 use Rattle.plan.specs.declared.Plan.{Plan}
 use Rattle.plan.specs.Plans.{effects_by, handles_by, decision_by}
 use Rattle.step.proofs.Frames.{handles_all}
@@ -38,20 +38,17 @@ in_place fx xs at m e = go (leb at (length fx)) refl
     go true q = ap (λ (k : ℕ). sets fx k xs) (let z : m ≡ at = omega (arith, e, leb-true at (length fx) q) in z)
     go false q = let h = leb-false at (length fx) q in sym (sets_past xs fx m (omega (arith, e, h))) ∙ sets_past xs fx at (omega (arith, h))
 
--- the slot
-pub acted : (ws xs : List ℕ) (a b : Act) (n : ℕ) (v : Slot) → a ≡ b → xs ≡ stored_all ws (act_stores b n v) → xs ≡ stored_all ws (act_stores a n v)
-acted ws xs a b n v e q = q ∙ ap (λ (x : Act). stored_all ws (act_stores x n v)) (sym e)
+-- no handle changes
+pub handle_stays : (ws : List ℕ) → length ws ≡ 2060 → (c : Option Change) → c ≡ None → ws ≡ stored ws (handles (handles_by c (handles_of (plain_of ws))).at)
+handle_stays ws size c e =
+    sym (same_part ws 972 64 (omega (arith, size)))
+    ∙ ap (λ (l : List ℕ). stored ws (handles l)) (handles_is ws)
+    ∙ ap (λ (x : Option Change). stored ws (handles (handles_by x (handles_of (plain_of ws))).at)) (sym e)
 
--- the handle
-module _ (ws : List ℕ) (size : length ws ≡ 2060) (p : Plan) where
-  pub handle_moved : p.moves ≡ true → (xs : List ℕ) → xs ≡ stored ws (handles (set (handles_of (plain_of ws)).at p.handle.0 p.held)) → xs ≡ stored ws (handles (handles_by p (handles_of (plain_of ws))).at)
-  handle_moved q xs e = e ∙ ap (λ (b : Bool). stored ws (handles (cond b (record { at = set (handles_of (plain_of ws)).at p.handle.0 p.held }) (handles_of (plain_of ws))).at)) (sym q)
-
-  pub handle_stays : p.moves ≡ false → ws ≡ stored ws (handles (handles_by p (handles_of (plain_of ws))).at)
-  handle_stays q =
-      sym (same_part ws 972 64 (omega (arith, size)))
-      ∙ ap (λ (l : List ℕ). stored ws (handles l)) (handles_is ws)
-      ∙ ap (λ (b : Bool). stored ws (handles (cond b (record { at = set (handles_of (plain_of ws)).at p.handle.0 p.held }) (handles_of (plain_of ws))).at)) (sym q)
+pub handle_moved :
+    (ws xs : List ℕ) (c : Option Change) (d : Change) → c ≡ Some d → xs ≡ stored ws (handles (set (handles_of (plain_of ws)).at d.handle.0 d.held))
+    → xs ≡ stored ws (handles (handles_by c (handles_of (plain_of ws))).at)
+handle_moved ws xs c d e q = q ∙ ap (λ (x : Option Change). stored ws (handles (handles_by x (handles_of (plain_of ws))).at)) (sym e)
 
 -- words stored twice at one place
 sets_again : (l : List ℕ) (k : ℕ) (us vs : List ℕ) → length us ≡ length vs → k + length vs ≤ length l → sets (sets l k us) k vs ≡ sets l k vs
@@ -104,8 +101,8 @@ module _ (ws : List ℕ) (size : length ws ≡ 2060) (p : Plan) where
           ∙ ap (λ (l : List ℕ). stored l (all (less_all lower own))) (sym (same_part ws 904 64 (omega (arith, size))) ∙ ap (λ (o : List ℕ). stored ws (outside o)) (outside_is ws))
 
       pub all_stored :
-          (zs : List ℕ) → zs ≡ stored ys (handles (handles_by p (handles_of (plain_of ys))).at) → zs ≡ stored_all ws (held_stores (decision_by p (holds_of w) (handles_of w)))
-      all_stored zs ez = ez ∙ ap₂ (λ (l k : List ℕ). stored l (handles (handles_by p (record { at = k })).at)) outside_first handles_behind
+          (zs : List ℕ) → zs ≡ stored ys (handles (handles_by p.change (handles_of (plain_of ys))).at) → zs ≡ stored_all ws (held_stores (decision_by p (holds_of w) (handles_of w)))
+      all_stored zs ez = ez ∙ ap₂ (λ (l k : List ℕ). stored l (handles (handles_by p.change (record { at = k })).at)) outside_first handles_behind
 
   -- the effects, one run after the other
   module _ (fx : List ℕ) (at : ℕ) where

@@ -17,12 +17,11 @@ use slot::Act;
 
 // The handle that a plan moves.
 fn move_handle(s: &mut [u64; 2060], p: Plan)
-    ensures { s.new ≡ stored s.old (handlesStore (handles_by p (handles_of (plain_of s.old))).at) }
+    ensures { s.new ≡ stored s.old (handlesStore (handles_by p.change (handles_of (plain_of s.old))).at) }
 {
     layout::sized(s);
-    if p.moves {
-        let k = p.handle;
-        handle_words::set_handle(s, k, p.held);
+    if let Some(change) = p.change {
+        handle_words::set_handle(s, change.handle, change.held);
     }
 }
 
@@ -30,11 +29,9 @@ fn move_handle(s: &mut [u64; 2060], p: Plan)
 pub fn act_on(s: &mut [u64; 2060], n: SlotNo, p: Plan)
     ensures { s.new ≡ stored_all s.old (act_stores p.act n.0 p.slot) }
 {
-    let act = p.act;
-    let v = p.slot;
-    match act {
+    match p.act {
         Act::Leave => {}
-        Act::Store => slot_store::put(s, n, v),
+        Act::Store => slot_store::put(s, n, p.slot),
         Act::Vacate => slot_store::vacate(s, n),
     }
 }

@@ -1,51 +1,49 @@
 // `close` and `detach` (src/scheme/user.rs, lines 1641 and 1663): an entry of its own in the queue, with tag 0 and no slot.
 #![tactic(auto)]
 
-ghost use Rattle.effect.specs.Effect.{effect_words};
-ghost use Rattle.events.specs.Outcome.{said};
-ghost use Rattle.step.specs.Does.{Does};
+ghost use Rattle.std.specs.Prelude.{◌≡◌};
+ghost use Rattle.opcode.specs.Opcodes.{raw_of};
+ghost use Rattle.events.specs.Submit.{sqe};
+ghost use Rattle.step.specs.Does.{answer_of, effects_of, Does};
 ghost use Rattle.events.specs.Event.{on, close as closeEvent, detach as detachEvent};
 
-use answer::Answer;
+use answer::Refusal;
+use opcode::Opcode;
 use schemev2::{Args, Sqe};
 use step::Step;
 
-// READ and HUP, pid 0.
-pub fn close(s: &mut [u64; 2060], id: u64) -> Step
-    ensures { Does s.old s.new (on (closeEvent id)) (said result.answer) (effect_words result.effect) }
+// It names a number of the driver's own, and who asks.
+fn entry(opcode: Opcode, id: u64, pid: u64) -> Sqe
+    ensures { result ≡ sqe (raw_of opcode) 0 0 (record { 0 = id; 1 = 0; 2 = 0; 3 = 0; 4 = 0; 5 = 0 }) pid }
 {
-    if queue_words::queue_full(s) {
-        return step::answered(Answer::QueueFull);
-    }
-    let a = Args(id, 0, 0, 0, 0, 0);
-    let op = opcode::close_msg();
-    let e = Sqe {
-        opcode: op,
+    Sqe {
+        opcode: opcode.raw(),
         sqe_flags: 0,
         tag: 0,
-        args: a,
-        caller: 0,
-    };
-    let read = flag::event_read();
-    let hup = flag::event_hup();
-    step::notified(s, e, read + hup)
+        args: Args(id, 0, 0, 0, 0, 0),
+        caller: pid,
+    }
 }
 
-pub fn detach(s: &mut [u64; 2060], id: u64, pid: u64) -> Step
-    ensures { Does s.old s.new (on (detachEvent id pid)) (said result.answer) (effect_words result.effect) }
+// READ and HUP, pid 0.
+pub fn close(s: &mut [u64; 2060], id: u64) -> Result<Step, Refusal>
+    ensures { Does s.old s.new (on (closeEvent id)) (answer_of result) (effects_of result) }
 {
     if queue_words::queue_full(s) {
-        return step::answered(Answer::QueueFull);
+        return Err(Refusal::QueueFull);
     }
-    let a = Args(id, 0, 0, 0, 0, 0);
-    let op = opcode::detach();
-    let e = Sqe {
-        opcode: op,
-        sqe_flags: 0,
-        tag: 0,
-        args: a,
-        caller: pid,
-    };
+    let e = entry(Opcode::CloseMsg, id, 0);
     let read = flag::event_read();
-    step::notified(s, e, read)
+    let hup = flag::event_hup();
+    Ok(step::notified(s, e, read + hup))
+}
+
+pub fn detach(s: &mut [u64; 2060], id: u64, pid: u64) -> Result<Step, Refusal>
+    ensures { Does s.old s.new (on (detachEvent id pid)) (answer_of result) (effects_of result) }
+{
+    if queue_words::queue_full(s) {
+        return Err(Refusal::QueueFull);
+    }
+    let e = entry(Opcode::Detach, id, pid);
+    Ok(step::notified(s, e, flag::event_read()))
 }

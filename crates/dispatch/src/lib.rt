@@ -1,21 +1,32 @@
 // The dispatch by kind: the function of the event that a record holds.
 #![tactic(auto)]
 
-ghost use Rattle.std.specs.Prelude.{List, ℕ};
-ghost use Rattle.effect.specs.Effect.{effect_words};
-ghost use Rattle.events.specs.Outcome.{said};
+ghost use Rattle.std.specs.Prelude.{◌≡◌, List, ℕ};
 ghost use Rattle.record.specs.Record.{event_named};
+ghost use Rattle.step.specs.Does.{answer_of, effects_of};
 ghost use Rattle.dispatch.specs.Dispatch.{tells_more, Dispatched};
 
-use answer::Answer;
+use answer::Refusal;
 use ids::Tag;
 use record::{EventKind, Record};
 use schemev2::Args;
 use step::Step;
+use user_args::CallerCtx;
+
+// Who calls.
+fn ctx(r: Record, pid: u64) -> CallerCtx
+    ensures { result ≡ record { pid = pid; uid = r.uid; gid = r.gid } }
+{
+    CallerCtx {
+        pid,
+        uid: r.uid,
+        gid: r.gid,
+    }
+}
 
 // The event of a record with its two lists. A wake, a read and a write tell more than an answer and an effect, and are none here.
-pub fn event(s: &mut [u64; 2060], r: Record, first: &[u64], second: &[u64]) -> Step
-    ensures { (bs : List ℕ) (lent : ℕ) → Dispatched (tells_more r.kind) s.old s.new (event_named r.kind r first.now second.now bs lent) (said result.answer) (effect_words result.effect) }
+pub fn event(s: &mut [u64; 2060], r: Record, first: &[u64], second: &[u64]) -> Result<Step, Refusal>
+    ensures { (bs : List ℕ) (lent : ℕ) → Dispatched (tells_more r.kind) s.old s.new (event_named r.kind r first.now second.now bs lent) (answer_of result) (effects_of result) }
 {
     let a = r.words;
     let c = r.number;
@@ -44,22 +55,18 @@ pub fn event(s: &mut [u64; 2060], r: Record, first: &[u64], second: &[u64]) -> S
             c,
             a.0,
             Args(a.1, a.2, a.3, a.4, a.5, a.6),
-            r.uid,
-            r.gid,
-            a.7,
+            ctx(r, a.7),
         ),
         EventKind::Generic => call_generic::call_generic(s, c, a.0, first, a.1, a.2, second),
         EventKind::StdFs => call_generic::translate_std_fs_call(s, c, a.0, first, a.1, a.2, second),
-        EventKind::Fmap => request_fmap::request_fmap(s, c, a.0, a.1, a.2, r.uid, r.gid, a.3),
+        EventKind::Fmap => request_fmap::request_fmap(s, c, a.0, a.1, a.2, ctx(r, a.3)),
         EventKind::Close => close::close(s, a.0),
         EventKind::Detach => close::detach(s, a.0, a.1),
-        EventKind::Wake | EventKind::Read | EventKind::Write => {
-            step::answered(Answer::BadArgument)
-        }
+        EventKind::Wake | EventKind::Read | EventKind::Write => { Err(Refusal::BadArgument) }
         EventKind::Move => call_fd::call_fdwrite(s, first, second),
         EventKind::Obtain => call_fd::call_fdread(s, first),
-        EventKind::FdWrite => kfd::kfdwrite(s, second, first, c, a.0, a.1, r.uid, r.gid, a.2),
-        EventKind::FdRead => kfd::kfdread(s, first, c, a.0, a.1, a.2, r.uid, r.gid, a.3),
+        EventKind::FdWrite => kfd::kfdwrite(s, second, first, c, a.0, a.1, ctx(r, a.2)),
+        EventKind::FdRead => kfd::kfdread(s, first, c, a.0, a.1, a.2, ctx(r, a.3)),
         EventKind::Supply => provide_mmap::provide_mmap(s, Tag(a.0), a.1, a.2, a.3),
     }
 }

@@ -1,54 +1,72 @@
-// An effect: three 64-bit words that the host acts on (01, "What changes shape"). Kind 0 is none.
+// What the host is asked to do: an effect, and the three 64-bit words in which it crosses (01, "What changes shape").
 #![tactic(auto)]
 
-ghost use Rattle.std.specs.Prelude.{◌≡◌, [], ◌≤◌, eqb, length};
+ghost use Rattle.std.specs.Prelude.{◌≡◌, ◌≤◌, eqb, length};
 ghost use Rattle.std.proofs.lemmas.List.Edits.{sets};
-ghost use Rattle.events.specs.Outcome.{root_words};
 ghost use Rattle.events.specs.Entry.{unmap_of};
-ghost use Rattle.effect.specs.Effect.{effect_words};
+ghost use Rattle.effect.specs.Effect.{effect_words, effect_of, crossed};
 
 use slot::PageSpan;
 
+#[derive(Clone, Copy, Debug, PartialEq, Eq)]
+pub enum Effect {
+    // the caller of a call that is replied to
+    Wake { caller: u32, tag: u64 },
+    // what an event entry announces
+    Event { number: u64, flags: u64 },
+    // the root's event for the queue
+    Root { scheme: u64, flags: u64 },
+}
+
+// As it crosses. Kind 0 is none.
 #[repr(C)]
 #[derive(Clone, Copy)]
-pub struct Effect {
+pub struct EffectWords {
     pub kind: u64,
     pub a: u64,
     pub b: u64,
 }
 
-pub fn none() -> Effect
-    ensures { effect_words result ≡ [] }
+// An effect's words, or those of none.
+pub fn words(e: Option<Effect>) -> EffectWords
+    ensures value { result ≡ effect_of (effect_words e) }
+    ensures same { crossed result ≡ effect_words e }
 {
-    Effect {
-        kind: 0,
-        a: 0,
-        b: 0,
+    match e {
+        None => EffectWords {
+            kind: 0,
+            a: 0,
+            b: 0,
+        },
+        Some(Effect::Wake { caller, tag }) => EffectWords {
+            kind: 1,
+            a: caller as u64,
+            b: tag,
+        },
+        Some(Effect::Event { number, flags }) => EffectWords {
+            kind: 4,
+            a: number,
+            b: flags,
+        },
+        Some(Effect::Root { scheme, flags }) => EffectWords {
+            kind: 5,
+            a: scheme,
+            b: flags,
+        },
     }
 }
 
-// The root's event for the queue.
-pub fn root(scheme: u64, flags: u64) -> Effect
-    ensures { effect_words result ≡ root_words scheme flags }
-{
-    Effect {
-        kind: 5,
-        a: scheme,
-        b: flags,
-    }
-}
-
-// The three words of an effect, where it is one, from word `at` on; says how many words these are.
-pub fn put(e: Effect, fx: &mut [u64], at: usize) -> usize
+// The three words of an effect, where there is one, from word `at` on; says how many words these are.
+pub fn put(e: Option<Effect>, fx: &mut [u64], at: usize) -> usize
     ensures value { result ≡ length (effect_words e) }
     ensures upper_bound { result ≤ 3 }
     ensures fx_after { fx.new ≡ sets fx.old at (effect_words e) }
 {
-    let kind = e.kind;
-    if kind == 0 {
+    if e.is_none() {
         return 0;
     }
-    word_put::put3(fx, at, kind, e.a, e.b);
+    let w = words(e);
+    word_put::put3(fx, at, w.kind, w.a, w.b);
     3
 }
 

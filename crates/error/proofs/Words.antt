@@ -11,7 +11,7 @@ use mir.Val.{SFits, to_z, of_z}
 use mir.Facts.{to_z_pos, to_z-neg, to_z-of_z}
 use Rattle.error.specs.Reference.{as_i32, as_usize, neg_i32}
 use Rattle.error.specs.Errors.{is_errno, err_if, demux_of, mux_of}
-use Rattle.error.specs.declared.Result.TheVariants.{Ok, Err}
+use Rattle.std.specs.Prelude.{Ok, Err}
 use Rattle.error.proofs.Signed.{neg_fits}
 
 -- in the upper half of the 32 bits a word reads as negative,

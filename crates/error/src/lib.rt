@@ -9,17 +9,13 @@ ghost use Rattle.error.specs.Errors.{demux_of, mux_of, result_answer};
 // Line 81.
 pub const EINVAL: u64 = 22;
 
-#[derive(Clone, Copy)]
+#[derive(Clone, Copy, Debug, PartialEq, Eq)]
 pub struct Error {
     pub errno: i32,
 }
 
 // The Rust's `Result<usize>`.
-#[derive(Clone, Copy)]
-pub enum Result {
-    Ok(u64),
-    Err(Error),
-}
+pub type Result = std::result::Result<u64, Error>;
 
 // The low 32 bits of an error word are 2^32 less its errno. Errors are 1 to 132: `STR_ERROR.len()` is 133 (line 193).
 const ERROR_1: u32 = 0xffff_ffff;
@@ -33,20 +29,18 @@ fn as_usize(n: i32) -> u64
     i64::from(n).cast_unsigned()
 }
 
-impl Result {
-    // 01's number: 0 for a success, else the errno.
-    pub fn number(self) -> u64
-        ensures { result ≡ number_of (result_answer self) }
-    {
-        match self {
-            Result::Ok(_) => 0,
-            Result::Err(error) => error.number(),
-        }
+// 01's number: 0 for a success, else the errno.
+pub fn number(res: Result) -> u64
+    ensures { result ≡ number_of (result_answer res) }
+{
+    match res {
+        Ok(_) => 0,
+        Err(error) => error.number(),
     }
 }
 
 impl Error {
-    fn number(self) -> u64
+    pub fn number(self) -> u64
         ensures { result ≡ as_usize self.errno }
     {
         as_usize(self.errno)
@@ -63,8 +57,8 @@ impl Error {
         ensures { result ≡ mux_of res }
     {
         match res {
-            Result::Ok(value) => value,
-            Result::Err(error) => error.word(),
+            Ok(value) => value,
+            Err(error) => error.word(),
         }
     }
 
@@ -76,10 +70,10 @@ impl Error {
         match low {
             ERROR_132..=ERROR_1 => {
                 let errno = (0x1_0000_0000 - (low as u64)) as i32;
-                Result::Err(Error { errno })
+                Err(Error { errno })
             }
-            0x8000_0000 => Result::Ok(value),
-            _ => Result::Ok(value),
+            0x8000_0000 => Ok(value),
+            _ => Ok(value),
         }
     }
 }

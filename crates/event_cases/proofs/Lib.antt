@@ -1,2 +1,1 @@
 pub mod Opcodes
-pub mod Taken

@@ -1,33 +1,25 @@
 -- What a number names, and when an opcode is refused. Assumes nothing.
 use Prim.Native.Nat.{ℕ}
-use mathlib.Core.Path.{◌≡◌, refl, ap}
+use mathlib.Core.Path.{◌≡◌, refl, sym, ap, ◌∙◌}
 use mathlib.Core.Bool.{Bool, true, false, not, ◌&&◌}
 use native.Mathlib.Omega.{arith}
 use lib.Dec.{leb}
-use Rattle.opcode.specs.declared.RawOpcode.{RawOpcode}
-use Rattle.opcode.specs.declared.RawOpcode.TheVariants.{Opcode, Unknown}
-use Rattle.opcode.specs.Opcodes.{opcode_if, opcode_of}
+use Rattle.std.specs.Prelude.{Option, Some, None}
+use Rattle.opcode.specs.declared.Opcode.{Opcode}
+use Rattle.opcode.specs.Opcodes.{opcode_if, opcode_of, raw_of, raw_in}
 use Rattle.events.specs.Submit.{bad_opcode}
 
--- told apart, and what is named
-abbrev which : RawOpcode → ℕ
-which (Opcode n) = 0
-which Unknown = 1
+module _ (n : ℕ) (r : Option Opcode) (is : raw_in r ≡ opcode_of n) where
+  pub unknown_bad : r ≡ None → bad_opcode n ≡ true
+  unknown_bad e = go (leb 3 n && leb n 34) (ap raw_in (sym e) ∙ is)
+    where
+      go : (b : Bool) → None ≡ opcode_if b n → not b ≡ true
+      go true e = absurd (let z : ◌≡◌ {A = ℕ} 0 1 = cc in omega arith)
+      go false e = refl
 
-abbrev named : RawOpcode → ℕ
-named (Opcode n) = n
-named Unknown = 0
-
-pub unknown_bad : (n : ℕ) → opcode_of n ≡ Unknown → bad_opcode n ≡ true
-unknown_bad n = go (leb 3 n && leb n 34)
-  where
-    go : (b : Bool) → opcode_if b n ≡ Unknown → not b ≡ true
-    go true e = absurd (omega (arith, ap which e))
-    go false e = refl
-
-pub known_good : (n m : ℕ) → opcode_of n ≡ Opcode m → (bad_opcode n ≡ false) × (n ≡ m)
-known_good n m = go (leb 3 n && leb n 34)
-  where
-    go : (b : Bool) → opcode_if b n ≡ Opcode m → (not b ≡ false) × (n ≡ m)
-    go true e = (refl, ap named e)
-    go false e = absurd (omega (arith, ap which e))
+  pub known_good : (o : Opcode) → r ≡ Some o → (bad_opcode n ≡ false) × (raw_of o ≡ n)
+  known_good o e = go (leb 3 n && leb n 34) (ap raw_in (sym e) ∙ is)
+    where
+      go : (b : Bool) → Some (raw_of o) ≡ opcode_if b n → (not b ≡ false) × (raw_of o ≡ n)
+      go true e = (refl, cc)
+      go false e = absurd (let z : ◌≡◌ {A = ℕ} 0 1 = cc in omega arith)

@@ -1,4 +1,5 @@
 -- Each completion entry keeps the invariant, leaves the queue alone and wakes whom it has to. Assumes nothing.
+use Rattle.std.specs.Prelude.{Option, Some, None, Ok, Err}
 use Prim.Native.Nat.{ℕ, ◌<◌}
 use mathlib.Core.Path.{◌≡◌, refl, sym, ap, ◌∙◌}
 use mathlib.Core.Bool.{Bool, true, false, not, cond, ◌||◌}
@@ -9,7 +10,6 @@ use lib.ListN.{length}
 use Rattle.closes.specs.Closes.{closing, only}
 use Rattle.closes.specs.declared.Reason.TheVariants.{Replied, Ended, Refused}
 use Rattle.counts.specs.Counts.{lasts}
-use Rattle.error.specs.declared.Result.TheVariants.{Ok, Err}
 use Rattle.fd_list.specs.declared.List.{List as Fds}
 use Rattle.fd_list.specs.Lists.{numbers}
 use Rattle.flag.specs.Flags.{within, event_flags, fobtain_fd_flags}
@@ -18,7 +18,7 @@ use Rattle.handles.specs.Handles.{held_at, emptied, obtain_of, obtain_lasts}
 use Rattle.parse_cqe.specs.Parsed.{parsed_by, event_if, obtain_if}
 use Rattle.schemev2.specs.declared.Cqe.{Cqe}
 use Rattle.schemev2.specs.declared.CqeOpcode.{CqeOpcode}
-use Rattle.schemev2.specs.declared.CqeOpcode.TheVariants.{RespondRegular, RespondWithFd, SendFevent, ObtainFd, RespondWithMultipleFds, RespondAndNotifyOnDetach, Unknown}
+use Rattle.schemev2.specs.declared.CqeOpcode.TheVariants.{RespondRegular, RespondWithFd, SendFevent, ObtainFd, RespondWithMultipleFds, RespondAndNotifyOnDetach}
 use Rattle.schemev2.specs.Entry.{kind_of, extra_of, cqe_opcode_of}
 use Rattle.slot.specs.declared.PageSpan.{PageSpan}
 use Rattle.slot.specs.declared.Phase.{Phase}
@@ -161,7 +161,7 @@ module _ (w : World) (h : List Fact) (whole : WellFormed w) (i : InvOf w h) wher
 
   module _ (e j : ℕ) (c : Cqe) where
     -- told of an entry of this kind
-    abbrev told_by : CqeOpcode → List Fact
+    abbrev told_by : Option CqeOpcode → List Fact
     told_by k = map (λ o. to c.tag (serve e j (response_to (slot_in w c.tag) o))) (offers k w c)
 
     event_go : (b : Bool) → Entered-ok w h [] (entry_by (event_if b c) w c.tag)
@@ -182,7 +182,7 @@ module _ (w : World) (h : List Fact) (whole : WellFormed w) (i : InvOf w h) wher
     -- is the handle empty
     handle_go :
         (b : Bool)
-        → Entered-ok w h (told_by RespondWithFd)
+        → Entered-ok w h (told_by (Some RespondWithFd))
         (carried w c.tag (cond b (refused_in w c.tag 22) (by_descriptor (slot_in w c.tag) c.tag c.result (holds_of w) (handles_of w))))
     handle_go true = (i, same, silent_none)
     handle_go false =
@@ -191,14 +191,14 @@ module _ (w : World) (h : List Fact) (whole : WellFormed w) (i : InvOf w h) wher
         (taken_out (slot_in w c.tag) c.result (holds_of w) (handles_of w)) (i, record { queue = refl; scheme = refl }, s) (i, record { queue = refl; scheme = refl }, s)
         (phase_in w c.tag) refl
 
-    kind_go : (k : CqeOpcode) → Entered-ok w h (told_by k) (entry_by (parsed_by k c) w c.tag)
-    kind_go RespondRegular = regular_go _
-    kind_go RespondWithFd = handle_go (eqb (held_at (handles_of w) c.result) 0)
-    kind_go SendFevent = event_go (within event_flags c.tag)
-    kind_go ObtainFd = obtain_go (within fobtain_fd_flags (extra_of c))
-    kind_go RespondWithMultipleFds = regular_go listed
-    kind_go RespondAndNotifyOnDetach = regular_go _
-    kind_go Unknown = (i, same, silent_none)
+    kind_go : (k : Option CqeOpcode) → Entered-ok w h (told_by k) (entry_by (parsed_by k c) w c.tag)
+    kind_go (Some RespondRegular) = regular_go _
+    kind_go (Some RespondWithFd) = handle_go (eqb (held_at (handles_of w) c.result) 0)
+    kind_go (Some SendFevent) = event_go (within event_flags c.tag)
+    kind_go (Some ObtainFd) = obtain_go (within fobtain_fd_flags (extra_of c))
+    kind_go (Some RespondWithMultipleFds) = regular_go listed
+    kind_go (Some RespondAndNotifyOnDetach) = regular_go _
+    kind_go None = (i, same, silent_none)
 
     pub entry_ok : Entered-ok w h (served e j w c) (entry_of w c)
     entry_ok = kind_go (cqe_opcode_of (kind_of c))

@@ -1,4 +1,5 @@
 -- What each event answers, by the rows of the claim and by what happened. Assumes nothing.
+use Rattle.std.specs.Prelude.{Result, Ok, Err}
 use Prim.Native.Nat.{ℕ, zero, suc, min, ◌+◌, ◌*◌, ◌/◌, ◌%◌, ◌≤◌}
 use mathlib.Core.Path.{◌≡◌, refl, sym, ap, ap₂, ◌∙◌}
 use mathlib.Core.Bool.{Bool, true, false, not, cond, ◌||◌, ◌&&◌, true≢false, false≢true}
@@ -7,7 +8,8 @@ use native.Mathlib.Omega.{arith}
 use lib.Dec.{ltb, eqb}
 use lib.ListN.{length, length-append, drop}
 use borrow.Author.Tests.{lt-ltb, ltb-false, eqb-true}
-use Rattle.answer.specs.declared.Answer.TheVariants.{Done, BadArgument, TooManyHolds}
+use Rattle.answer.specs.declared.Accepted.TheVariants.{Done}
+use Rattle.answer.specs.declared.Refusal.TheVariants.{BadArgument, TooManyHolds}
 use Rattle.counts.specs.Counts.{lasts}
 use Rattle.closes.specs.declared.Reason.TheVariants.{Replied, Ended, Unusable}
 use Rattle.closes.specs.Closes.{closing, only, closes}
@@ -19,11 +21,12 @@ use Rattle.handles.specs.declared.Handles.{Handles}
 use Rattle.handles.specs.Handles.{is_free, obtain_lasts, obtain_closes}
 use Rattle.holds.specs.declared.Holds.{Holds}
 use Rattle.holds.specs.Holds.{discarded_of, unheld}
-use Rattle.host_holds.specs.Host.{opened_as, copied_as, dropped_as}
+use Rattle.host_holds.specs.Host.{left_as}
 use Rattle.host_put.specs.Put.{put}
 use Rattle.parse_cqe.specs.Parsed.{parsed_of}
 use Rattle.parse_cqe.specs.declared.ParsedCqe.{ParsedCqe}
 use Rattle.parse_cqe.specs.declared.ParsedCqe.TheVariants as parsed
+use Rattle.parse_cqe.specs.declared.CqeError.{CqeError}
 use Rattle.schemev2.specs.declared.Args.{Args}
 use Rattle.schemev2.specs.declared.Cqe.{Cqe}
 use Rattle.slot.specs.declared.PageSpan.{PageSpan}
@@ -128,20 +131,18 @@ module _ (w : World) (i : WellFormed w) where
       go [] = omega arith
       go (d ∷ ds) = by (is_free k n) d
 
-entry_most : (w : World) → WellFormed w → (p : ParsedCqe) (n : ℕ) → length (decision_of p (slot_in w n) (holds_of w) (handles_of w)).effects ≤ 54
-entry_most w i (parsed.TriggerFevent number flags) n = omega arith
-entry_most w i (parsed.RegularResponse t r x) n = respond_most w i (refused_in w n) n t.0 (result r x false) (handles_of w) (λ m. omega arith) (phase_in w n)
-entry_most w i (parsed.ResponseWithFd t k) n =
+entry_most : (w : World) → WellFormed w → (p : Result ParsedCqe CqeError) (n : ℕ) → length (decision_of p (slot_in w n) (holds_of w) (handles_of w)).effects ≤ 54
+entry_most w i (Ok (parsed.TriggerFevent number flags)) n = omega arith
+entry_most w i (Ok (parsed.RegularResponse t r x)) n = respond_most w i (refused_in w n) n t.0 (result r x false) (handles_of w) (λ m. omega arith) (phase_in w n)
+entry_most w i (Ok (parsed.ResponseWithFd t k)) n =
     checked_cases (λ (d : Decision). length d.effects ≤ 54) (refused_in w n) (handle_rows (handles_of w) k.0) _ (λ k. omega arith)
     (λ p. respond_most w i _ n t.0 (one (in_handle (handles_of w) k.0)) _ (λ m. omega arith) (phase_in w n))
-entry_most w i (parsed.ResponseWithMultipleFds t c) n = respond_most w i (refused_in w n) n t.0 listed (handles_of w) (λ m. omega arith) (phase_in w n)
-entry_most w i (parsed.ObtainFd t flags k) n =
+entry_most w i (Ok (parsed.ResponseWithMultipleFds t c)) n = respond_most w i (refused_in w n) n t.0 listed (handles_of w) (λ m. omega arith) (phase_in w n)
+entry_most w i (Ok (parsed.ObtainFd t flags k)) n =
     checked_cases (λ (d : Decision). length d.effects ≤ 54) (refused_in w n) (obtain_rows (slot_in w n)) _ (λ k. omega arith)
     (λ p. obtain_most w i (holds_of w) (handles_of w) (slot_in w n).fds k.0)
-entry_most w i (parsed.RespondAndNotifyOnDetach t r x) n = respond_most w i (refused_in w n) n t.0 (result r x true) (handles_of w) (λ m. omega arith) (phase_in w n)
-entry_most w i parsed.UnknownKind n = omega arith
-entry_most w i parsed.UnknownEventFlags n = omega arith
-entry_most w i parsed.UnknownObtainFlags n = omega arith
+entry_most w i (Ok (parsed.RespondAndNotifyOnDetach t r x)) n = respond_most w i (refused_in w n) n t.0 (result r x true) (handles_of w) (λ m. omega arith) (phase_in w n)
+entry_most w i (Err e) n = omega arith
 
 entered_most : (w : World) → WellFormed w → (e : Cqe) → length (entry_effects (entry_of w e)) ≤ 54
 entered_most w i e =
@@ -191,25 +192,25 @@ row_same k {b} {c} {x} {y} e f = ap (λ (z : Bool). cond z (no k) x) e ∙ go c 
     go false f = f refl
 
 -- the host's events
-open_answer : (b : Bool) (h k : Holds) → said (cond b (opened_as BadArgument h) (opened_as Done k)).answer ≡ ruled (row 205 b ∷ []) (ok 0)
+open_answer : (b : Bool) (h k : Holds) → said (cond b (left_as (Err BadArgument) h) (left_as (Ok Done) k)).answer ≡ ruled (row 205 b ∷ []) (ok 0)
 open_answer true h k = refl
 open_answer false h k = refl
 
 copy_answer :
     (b c : Bool) (h k l : Holds)
-    → said (cond b (copied_as BadArgument h) (cond c (copied_as TooManyHolds k) (copied_as Done l))).answer
+    → said (cond b (left_as (Err BadArgument) h) (cond c (left_as (Err TooManyHolds) k) (left_as (Ok Done) l))).answer
     ≡ ruled (row 205 b ∷ row 207 c ∷ []) (ok 0)
 copy_answer true c h k l = refl
 copy_answer false true h k l = refl
 copy_answer false false h k l = refl
 
-drop_answer : (b : Bool) (h k : Holds) → said (cond b (dropped_as BadArgument h) (dropped_as Done k)).answer ≡ ruled (row 205 b ∷ []) (ok 0)
+drop_answer : (b : Bool) (h k : Holds) → said (cond b (left_as (Err BadArgument) h) (left_as (Ok Done) k)).answer ≡ ruled (row 205 b ∷ []) (ok 0)
 drop_answer true h k = refl
 drop_answer false h k = refl
 
 put_answer :
     (b : Bool) (n m : Handles) (h k : Holds)
-    → said (cond b (put BadArgument n h) (put Done m k)).answer ≡ ruled (row 205 b ∷ []) (ok 0)
+    → said (cond b (put (Err BadArgument) n h) (put (Ok Done) m k)).answer ≡ ruled (row 205 b ∷ []) (ok 0)
 put_answer true n m h k = refl
 put_answer false n m h k = refl
 

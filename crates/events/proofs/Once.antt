@@ -1,5 +1,6 @@
 -- What a history alone says of its entries: none is accepted twice, no call is served twice, and a reply has its source.
 -- Assumes nothing.
+use Rattle.std.specs.Prelude.{Option, Some as Kind, None}
 use Prim.Native.Nat.{ℕ, zero, suc, ◌/◌, ◌≤◌, ◌<◌}
 use mathlib.Core.Path.{◌≡◌, refl, sym, ap, ◌∙◌, subst}
 use mathlib.Core.Logic.{inl, inr}
@@ -10,7 +11,7 @@ use lib.Dec.{eqb}
 use borrow.Author.Tests.{eq-eqb, eqb-true}
 use Rattle.schemev2.specs.declared.Cqe.{Cqe}
 use Rattle.schemev2.specs.declared.CqeOpcode.{CqeOpcode}
-use Rattle.schemev2.specs.declared.CqeOpcode.TheVariants.{RespondRegular, RespondWithFd, SendFevent, ObtainFd, RespondWithMultipleFds, RespondAndNotifyOnDetach, Unknown}
+use Rattle.schemev2.specs.declared.CqeOpcode.TheVariants.{RespondRegular, RespondWithFd, SendFevent, ObtainFd, RespondWithMultipleFds, RespondAndNotifyOnDetach}
 use Rattle.schemev2.specs.Entry.{kind_of, cqe_opcode_of}
 use Rattle.events.specs.World.{World, slot_in}
 use Rattle.events.specs.Outcome.{Response, success, Answer, ok, no, wait, blocked, reply, on_ok}
@@ -153,14 +154,14 @@ module _ (e : ℕ) where
   entry_sorted : (q : ℕ) (w : World) (c : Cqe) (h : List Fact) → Sorted e q h → Sorted e (suc q) (served e q w c ++ h)
   entry_sorted q w c h s = go (cqe_opcode_of (kind_of c))
     where
-      go : (k : CqeOpcode) → Sorted e (suc q) (map (λ o. to c.tag (serve e q (response_to (slot_in w c.tag) o))) (offers k w c) ++ h)
-      go RespondRegular = served_at q c.tag _ h s
-      go RespondWithFd = served_at q c.tag _ h s
-      go SendFevent = more q h s
-      go ObtainFd = more q h s
-      go RespondWithMultipleFds = served_at q c.tag _ h s
-      go RespondAndNotifyOnDetach = served_at q c.tag _ h s
-      go Unknown = more q h s
+      go : (k : Option CqeOpcode) → Sorted e (suc q) (map (λ o. to c.tag (serve e q (response_to (slot_in w c.tag) o))) (offers k w c) ++ h)
+      go (Kind RespondRegular) = served_at q c.tag _ h s
+      go (Kind RespondWithFd) = served_at q c.tag _ h s
+      go (Kind SendFevent) = more q h s
+      go (Kind ObtainFd) = more q h s
+      go (Kind RespondWithMultipleFds) = served_at q c.tag _ h s
+      go (Kind RespondAndNotifyOnDetach) = served_at q c.tag _ h s
+      go None = more q h s
 
   poured_sorted : (m : ℕ) (bs : List ℕ) (w : World) (h : List Fact) → Sorted e 0 h → Sorted e m (poured e bs w m ++ h)
   poured_sorted zero bs w h s = s

@@ -1,5 +1,6 @@
 -- A refusal changes nothing but in the four cases that 01 names, and a read that would wait nothing at all (demand 1).
 -- Assumes nothing.
+use Rattle.std.specs.Prelude.{Option, Some, None, Result}
 use Prim.Native.Nat.{ℕ, zero, suc, ◌+◌, ◌*◌, ◌/◌, ◌<◌}
 use mathlib.Core.Path.{◌≡◌, refl, sym, ap, ◌∙◌, subst}
 use mathlib.Core.Bool.{Bool, true, false, not, cond, ◌||◌}
@@ -9,16 +10,15 @@ use lib.Dec.{ltb, eqb}
 use lib.ListN.{get_or, take, length, drop}
 use borrow.Author.Tests.{eqb-true, lt-ltb, le-ltb}
 use Rattle.error.specs.Errors.{demux_of}
-use Rattle.answer.specs.declared.Answer.{Answer as Case}
+use Rattle.answer.specs.declared.Accepted.{Accepted}
+use Rattle.answer.specs.declared.Refusal.{Refusal}
 use Rattle.fd_list.specs.Lists.{numbers}
 use Rattle.flag.specs.Flags.{within, event_flags, fobtain_fd_flags}
 use Rattle.handles.specs.declared.Handles.{Handles}
 use Rattle.handles.specs.Handles.{held_at, emptied, is_free}
 use Rattle.holds.specs.declared.Holds.{Holds}
 use Rattle.holds.specs.Holds.{unheld}
-use Rattle.host_holds.specs.declared.HoldOpened.{HoldOpened}
-use Rattle.host_holds.specs.declared.HoldCopied.{HoldCopied}
-use Rattle.host_holds.specs.declared.HoldDropped.{HoldDropped}
+use Rattle.host_holds.specs.declared.HoldsLeft.{HoldsLeft}
 use Rattle.host_holds.specs.Host.{open_of, copy_of, drop_of}
 use Rattle.host_put.specs.declared.HoldPut.{HoldPut}
 use Rattle.host_put.specs.Put.{put_of}
@@ -26,7 +26,7 @@ use Rattle.parse_cqe.specs.Parsed.{event_if, obtain_if, parsed_by}
 use Rattle.schemev2.specs.declared.Args.{Args}
 use Rattle.schemev2.specs.declared.Cqe.{Cqe}
 use Rattle.schemev2.specs.declared.CqeOpcode.{CqeOpcode}
-use Rattle.schemev2.specs.declared.CqeOpcode.TheVariants.{RespondRegular, RespondWithFd, SendFevent, ObtainFd, RespondWithMultipleFds, RespondAndNotifyOnDetach, Unknown}
+use Rattle.schemev2.specs.declared.CqeOpcode.TheVariants.{RespondRegular, RespondWithFd, SendFevent, ObtainFd, RespondWithMultipleFds, RespondAndNotifyOnDetach}
 use Rattle.schemev2.specs.Entry.{kind_of, extra_of, cqe_opcode_of}
 use Rattle.slot.specs.declared.PageSpan.{PageSpan}
 use Rattle.slot.specs.declared.Phase.{Phase}
@@ -129,16 +129,16 @@ module _ (w : World) (e : Cqe) where
       (taken_out (slot_in w e.tag) e.result (holds_of w) (handles_of w))
       e.tag (one (in_handle (handles_of w) e.result)) (emptied (handles_of w) e.result) (refl, refl) (refl, refl) (phase_in w e.tag)
 
-  turned_by : (op : CqeOpcode) → Turned (left_by op w e) (entry_by (parsed_by op e) w e.tag)
-  turned_by RespondRegular =
+  turned_by : (op : Option CqeOpcode) → Turned (left_by op w e) (entry_by (parsed_by op e) w e.tag)
+  turned_by (Some RespondRegular) =
       turned_respond w (refused_in w e.tag) e.tag (result (demux_of e.result) e.extra_raw.0 false) (handles_of w) (refl, refl) (refl, refl) (phase_in w e.tag)
-  turned_by RespondWithFd = turned_descriptor (eqb (held_at (handles_of w) e.result) 0)
-  turned_by SendFevent = turned_event (within event_flags e.tag)
-  turned_by ObtainFd = turned_obtain (within fobtain_fd_flags (extra_of e))
-  turned_by RespondWithMultipleFds = turned_respond w (refused_in w e.tag) e.tag listed (handles_of w) (refl, refl) (refl, refl) (phase_in w e.tag)
-  turned_by RespondAndNotifyOnDetach =
+  turned_by (Some RespondWithFd) = turned_descriptor (eqb (held_at (handles_of w) e.result) 0)
+  turned_by (Some SendFevent) = turned_event (within event_flags e.tag)
+  turned_by (Some ObtainFd) = turned_obtain (within fobtain_fd_flags (extra_of e))
+  turned_by (Some RespondWithMultipleFds) = turned_respond w (refused_in w e.tag) e.tag listed (handles_of w) (refl, refl) (refl, refl) (phase_in w e.tag)
+  turned_by (Some RespondAndNotifyOnDetach) =
       turned_respond w (refused_in w e.tag) e.tag (result (demux_of e.result) e.extra_raw.0 true) (handles_of w) (refl, refl) (refl, refl) (phase_in w e.tag)
-  turned_by Unknown = (refl, refl)
+  turned_by None = (refl, refl)
 
   turned : Turned (left_entry w e) (entry_of w e)
   turned = turned_by (cqe_opcode_of (kind_of e))
@@ -288,23 +288,23 @@ module _ (w : World) where
   read_spares n flags false e = went refl
 
   -- the host's events
-  abbrev Leaves : Case → Holds → Handles → Type 0
+  abbrev Leaves : Result Accepted Refusal → Holds → Handles → Type 0
   Leaves a h k = Spares w (λ k. w) (outcome (said a) [] (with_handles (with_holds w h) k))
 
   open_spares : (d : ℕ) → Leaves (open_of (holds_of w) d).answer (open_of (holds_of w) d).holds (handles_of w)
   open_spares d =
-      either (λ (o : HoldOpened). Leaves o.answer o.holds (handles_of w))
+      either (λ (o : HoldsLeft). Leaves o.answer o.holds (handles_of w))
       (ltb 63 d || not (eqb (get_or (holds_of w).holds d 0) 0)) (same (λ k. refl) refl refl refl) (went refl)
 
   copy_spares : (d : ℕ) → Leaves (copy_of (holds_of w) d).answer (copy_of (holds_of w) d).holds (handles_of w)
   copy_spares d =
-      let P : HoldCopied → Type 0 = λ o. Leaves o.answer o.holds (handles_of w) in
+      let P : HoldsLeft → Type 0 = λ o. Leaves o.answer o.holds (handles_of w) in
       either P (unheld (holds_of w).holds (holds_of w).outside d) (same (λ k. refl) refl refl refl)
       (either P (eqb (get_or (holds_of w).holds d 0) 65535) (same (λ k. refl) refl refl refl) (went refl))
 
   drop_spares : (d : ℕ) → Leaves (drop_of (holds_of w) d).answer (drop_of (holds_of w) d).holds (handles_of w)
   drop_spares d =
-      either (λ (o : HoldDropped). Leaves o.answer o.holds (handles_of w))
+      either (λ (o : HoldsLeft). Leaves o.answer o.holds (handles_of w))
       (unheld (holds_of w).holds (holds_of w).outside d) (same (λ k. refl) refl refl refl) (went refl)
 
   put_spares : (d k : ℕ) → let o = put_of (holds_of w) (handles_of w) d k in Leaves o.answer o.holds o.handles

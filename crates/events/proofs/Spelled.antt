@@ -1,4 +1,5 @@
 -- The definitions that the claims take over are as they are spelled out. Assumes nothing.
+use Rattle.std.specs.Prelude.{Err}
 use Prim.Native.Nat.{ℕ, zero, suc, ◌+◌, ◌-◌, ◌*◌, ◌/◌, ◌%◌}
 use mathlib.Core.Path.{◌≡◌, refl, ap}
 use mathlib.Core.Bool.{Bool, true, false, not, cond}
@@ -8,7 +9,6 @@ use lib.Dec.{eqb, ltb}
 use lib.ListN.{length, get_or, replicate}
 use borrow.Author.Tests.{eq-eqb, ne_eqb}
 use Rattle.error.specs.declared.Error.{Error}
-use Rattle.error.specs.declared.Result.TheVariants.{Err}
 use Rattle.error.specs.Reference.{as_usize}
 use Rattle.flag.specs.Flags.{recv_fd_flags}
 use Rattle.handles.specs.Handles.{held_at}

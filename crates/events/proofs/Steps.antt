@@ -1,4 +1,5 @@
 -- Each event keeps the invariant and does what it owes: hand-over, queue, bytes, effects. Assumes nothing.
+use Rattle.std.specs.Prelude.{Ok as Accepts, Err as Refuses}
 use Prim.Native.Nat.{ℕ, ◌+◌, ◌/◌, ◌%◌, ◌<◌}
 use mathlib.Core.Path.{◌≡◌, refl, sym, ap, ap₂, ◌∙◌, subst}
 use mathlib.Core.Bool.{Bool, true, false, not, cond, ◌||◌, ◌&&◌}
@@ -8,7 +9,8 @@ use lib.Dec.{eqb, leb, ltb}
 use lib.ListN.{take, length, get_or}
 use lib.Seq.{sets}
 use borrow.Author.Tests.{eqb-true, leb-false, ltb-true, ltb-false, lt-leb, le-leb, not-true, not-false}
-use Rattle.answer.specs.declared.Answer.TheVariants.{Done, BadArgument, TooManyHolds}
+use Rattle.answer.specs.declared.Accepted.TheVariants.{Done}
+use Rattle.answer.specs.declared.Refusal.TheVariants.{BadArgument, TooManyHolds}
 use Rattle.fd_list.specs.declared.List.{List as Fds}
 use Rattle.fd_list.specs.Lists.{list_of}
 use Rattle.flag.specs.Flags.{event_read, event_hup, sqe_oneway}
@@ -16,7 +18,7 @@ use Rattle.handles.specs.declared.Handles.{Handles}
 use Rattle.handles.specs.Handles.{is_free, into}
 use Rattle.holds.specs.declared.Holds.{Holds}
 use Rattle.holds.specs.Holds.{unheld}
-use Rattle.host_holds.specs.Host.{one_more, one_fewer, opened_as, open_of, copied_as, copy_of, dropped_as, drop_of}
+use Rattle.host_holds.specs.Host.{one_more, one_fewer, left_as, open_of, copy_of, drop_of}
 use Rattle.host_put.specs.Put.{inside as taken_in, put, put_of}
 use Rattle.le.specs.Le.{bytes_of}
 use Rattle.schemev2.specs.declared.Args.{Args}
@@ -60,14 +62,14 @@ module _ (h : Holds) (d : ℕ) where
   open_quiet : is_reply (said (open_of h d).answer) ≡ false
   open_quiet = go (ltb 63 d || not (eqb (get_or h.holds d 0) 0))
     where
-      go : (b : Bool) → is_reply (said (cond b (opened_as BadArgument h) (opened_as Done (one_more h d))).answer) ≡ false
+      go : (b : Bool) → is_reply (said (cond b (left_as (Refuses BadArgument) h) (left_as (Accepts Done) (one_more h d))).answer) ≡ false
       go true = refl
       go false = refl
 
   copy_quiet : is_reply (said (copy_of h d).answer) ≡ false
   copy_quiet = go (unheld h.holds h.outside d) (eqb (get_or h.holds d 0) 65535)
     where
-      go : (b c : Bool) → is_reply (said (cond b (copied_as BadArgument h) (cond c (copied_as TooManyHolds h) (copied_as Done (one_more h d)))).answer) ≡ false
+      go : (b c : Bool) → is_reply (said (cond b (left_as (Refuses BadArgument) h) (cond c (left_as (Refuses TooManyHolds) h) (left_as (Accepts Done) (one_more h d)))).answer) ≡ false
       go true c = refl
       go false true = refl
       go false false = refl
@@ -75,14 +77,14 @@ module _ (h : Holds) (d : ℕ) where
   drop_quiet : is_reply (said (drop_of h d).answer) ≡ false
   drop_quiet = go (unheld h.holds h.outside d)
     where
-      go : (b : Bool) → is_reply (said (cond b (dropped_as BadArgument h) (dropped_as Done (one_fewer h d))).answer) ≡ false
+      go : (b : Bool) → is_reply (said (cond b (left_as (Refuses BadArgument) h) (left_as (Accepts Done) (one_fewer h d))).answer) ≡ false
       go true = refl
       go false = refl
 
   put_quiet : (n : Handles) (k : ℕ) → is_reply (said (put_of h n d k).answer) ≡ false
   put_quiet n k = go (unheld h.holds h.outside d || not (is_free n k))
     where
-      go : (b : Bool) → is_reply (said (cond b (put BadArgument n h) (put Done (into n k d) (taken_in h d))).answer) ≡ false
+      go : (b : Bool) → is_reply (said (cond b (put (Refuses BadArgument) n h) (put (Accepts Done) (into n k d) (taken_in h d))).answer) ≡ false
       go true = refl
       go false = refl
 

@@ -1,4 +1,5 @@
 -- Every event keeps a state well-formed, so the state of every run is. Assumes nothing.
+use Rattle.std.specs.Prelude.{Result, Ok, Err}
 use Prim.Native.Nat.{ℕ, zero, suc, ◌<◌, ◌≤◌}
 use mathlib.Core.Path.{◌≡◌, refl, sym, ap, ◌∙◌}
 use mathlib.Core.Bool.{Bool, true, false, not, cond, ◌||◌, ◌&&◌, true≢false, false≢true}
@@ -16,11 +17,13 @@ use Rattle.handles.specs.declared.Handles.{Handles}
 use Rattle.handles.specs.Handles.{into, is_free, obtain_by, obtain_in, obtain_of}
 use Rattle.holds.specs.declared.Holds.{Holds}
 use Rattle.holds.specs.Holds.{unheld}
-use Rattle.answer.specs.declared.Answer.TheVariants.{Done, BadArgument}
+use Rattle.answer.specs.declared.Accepted.TheVariants.{Done}
+use Rattle.answer.specs.declared.Refusal.TheVariants.{BadArgument}
 use Rattle.host_put.specs.Put.{inside, put, put_of}
 use Rattle.host_ended.specs.Ended.{marked_by, marked_of, ended_table}
 use Rattle.parse_cqe.specs.declared.ParsedCqe.{ParsedCqe}
 use Rattle.parse_cqe.specs.declared.ParsedCqe.TheVariants as parsed
+use Rattle.parse_cqe.specs.declared.CqeError.{CqeError}
 use Rattle.parse_cqe.specs.Parsed.{parsed_of}
 use Rattle.schemev2.specs.declared.Args.{Args}
 use Rattle.schemev2.specs.declared.Cqe.{Cqe}
@@ -192,7 +195,7 @@ obtained_handles h n l k = go (numbers l)
 put_handles : (h : Holds) (n : Handles) (d k : ℕ) → length (put_of h n d k).handles.at ≡ length n.at
 put_handles h n d k = go (unheld h.holds h.outside d || not (is_free n k))
   where
-    go : (b : Bool) → length (cond b (put BadArgument n h) (put Done (into n k d) (inside h d))).handles.at ≡ length n.at
+    go : (b : Bool) → length (cond b (put (Err BadArgument) n h) (put (Ok Done) (into n k d) (inside h d))).handles.at ≡ length n.at
     go true = refl
     go false = length-set n.at k (suc d)
 
@@ -272,24 +275,22 @@ module _ (w : World) (i : WellFormed w) where
   kept_entry : (rows : List Row) (n : ℕ) (d : Decision) → (Passed rows → WellFormed (after w n d)) → WellFormed (after w n (checked (refused_in w n) rows d))
   kept_entry rows n d good = checked_cases (λ (x : Decision). WellFormed (after w n x)) (refused_in w n) rows d (λ k. i) good
 
-formed_parsed : (w : World) (p : ParsedCqe) (n : ℕ) → WellFormed w → WellFormed (after w n (decision_of p (slot_in w n) (holds_of w) (handles_of w)))
-formed_parsed w (parsed.TriggerFevent number flags) n i = i
-formed_parsed w (parsed.RegularResponse t r x) n i = formed_respond w i (refused_in w n) n t.0 (result r x false) (handles_of w) i.handles (λ m. i) _ refl
-formed_parsed w (parsed.ResponseWithFd t k) n i =
+formed_parsed : (w : World) (p : Result ParsedCqe CqeError) (n : ℕ) → WellFormed w → WellFormed (after w n (decision_of p (slot_in w n) (holds_of w) (handles_of w)))
+formed_parsed w (Ok (parsed.TriggerFevent number flags)) n i = i
+formed_parsed w (Ok (parsed.RegularResponse t r x)) n i = formed_respond w i (refused_in w n) n t.0 (result r x false) (handles_of w) i.handles (λ m. i) _ refl
+formed_parsed w (Ok (parsed.ResponseWithFd t k)) n i =
     kept_entry w i (handle_rows (handles_of w) k.0) n _
     (λ p. formed_respond w i _ n t.0 (one (in_handle (handles_of w) k.0)) _ (length-set (handles_of w).at k.0 0 ∙ i.handles)
     (λ m. formed_handles _ (formed_holds w i _) _ (length-set (handles_of w).at k.0 0 ∙ i.handles)) _ refl)
-formed_parsed w (parsed.ResponseWithMultipleFds t c) n i = formed_respond w i (refused_in w n) n t.0 listed (handles_of w) i.handles (λ m. i) _ refl
-formed_parsed w (parsed.ObtainFd t flags k) n i =
+formed_parsed w (Ok (parsed.ResponseWithMultipleFds t c)) n i = formed_respond w i (refused_in w n) n t.0 listed (handles_of w) i.handles (λ m. i) _ refl
+formed_parsed w (Ok (parsed.ObtainFd t flags k)) n i =
     kept_entry w i (obtain_rows (slot_in w n)) n _
     (λ p.
     formed_handles _
     (formed_list w i n _ _ (or_left _ _ p.1.0) (obtained_full (holds_of w) (handles_of w) (slot_in w n).fds k.0 (i.lists n))) _
     (obtained_handles (holds_of w) (handles_of w) (slot_in w n).fds k.0 ∙ i.handles))
-formed_parsed w (parsed.RespondAndNotifyOnDetach t r x) n i = formed_respond w i (refused_in w n) n t.0 (result r x true) (handles_of w) i.handles (λ m. i) _ refl
-formed_parsed w parsed.UnknownKind n i = i
-formed_parsed w parsed.UnknownEventFlags n i = i
-formed_parsed w parsed.UnknownObtainFlags n i = i
+formed_parsed w (Ok (parsed.RespondAndNotifyOnDetach t r x)) n i = formed_respond w i (refused_in w n) n t.0 (result r x true) (handles_of w) i.handles (λ m. i) _ refl
+formed_parsed w (Err e) n i = i
 
 pub formed_entry : (w : World) (e : Cqe) → WellFormed w → WellFormed (world_of (entry_of w e))
 formed_entry w e i = let j = formed_parsed w (parsed_of e) e.tag i in carried_cases (λ (x : Entered). WellFormed (world_of x)) w e.tag (decision_of (parsed_of e) (slot_in w e.tag) (holds_of w) (handles_of w)) j j

@@ -1,5 +1,6 @@
 -- A write, entry after entry by their places: which entries it accepts, what it answers, what it leaves and whom it wakes.
 -- Assumes nothing.
+use Rattle.std.specs.Prelude.{Option, Some, None}
 use Prim.Native.Nat.{ℕ, zero, suc, ◌+◌, ◌*◌, ◌/◌}
 use mathlib.Core.Path.{◌≡◌, refl, sym, ap, ap₂, ◌∙◌, subst}
 use mathlib.Core.Bool.{Bool, true, false, not, cond, ◌||◌, true≢false}
@@ -17,7 +18,7 @@ use Rattle.le.specs.Le.{half, word}
 use Rattle.parse_cqe.specs.Parsed.{event_if, obtain_if, parsed_by}
 use Rattle.schemev2.specs.declared.Cqe.{Cqe}
 use Rattle.schemev2.specs.declared.CqeOpcode.{CqeOpcode}
-use Rattle.schemev2.specs.declared.CqeOpcode.TheVariants.{RespondRegular, RespondWithFd, SendFevent, ObtainFd, RespondWithMultipleFds, RespondAndNotifyOnDetach, Unknown}
+use Rattle.schemev2.specs.declared.CqeOpcode.TheVariants.{RespondRegular, RespondWithFd, SendFevent, ObtainFd, RespondWithMultipleFds, RespondAndNotifyOnDetach}
 use Rattle.schemev2.specs.Entry.{kind_of, extra_of, cqe_opcode_of, cqe_of}
 use Rattle.slot.specs.declared.Phase.{Phase}
 use Rattle.slot.specs.declared.Phase.TheVariants.{Vacant, Placeholder, Waiting, Responded, Fmap}
@@ -140,13 +141,13 @@ module _ (w : World) (h : List Fact) (formed : WellFormed w) (i : InvOf w h) whe
     handle_number false =
         respond_number (taken_out (slot_in w c.tag) c.result (holds_of w) (handles_of w)) c.tag (one (in_handle (handles_of w) c.result)) (emptied (handles_of w) c.result) refl refl
 
-    entry_number_by : (op : CqeOpcode) → entry_answer (entry_by (parsed_by op c) w c.tag) ≡ ruled (entry_rows_by op h w c) (ok 0)
-    entry_number_by RespondRegular = respond_number (refused_in w c.tag) c.tag _ (handles_of w) refl refl
-    entry_number_by RespondWithFd =
+    entry_number_by : (op : Option CqeOpcode) → entry_answer (entry_by (parsed_by op c) w c.tag) ≡ ruled (entry_rows_by op h w c) (ok 0)
+    entry_number_by (Some RespondRegular) = respond_number (refused_in w c.tag) c.tag _ (handles_of w) refl refl
+    entry_number_by (Some RespondWithFd) =
         handle_number (eqb (held_at (handles_of w) c.result) 0)
         ∙ ap (λ (b : Bool). ruled (row 22 b ∷ respond_rows h c.tag) (ok 0)) (empty_same (handles_of w) c.result formed.handles)
-    entry_number_by SendFevent = event_number (within event_flags c.tag)
-    entry_number_by ObtainFd =
+    entry_number_by (Some SendFevent) = event_number (within event_flags c.tag)
+    entry_number_by (Some ObtainFd) =
         obtain_number (within fobtain_fd_flags (extra_of c))
         ∙ ap (λ (rs : List Row). ruled rs (ok 0))
         (λ j.
@@ -154,9 +155,9 @@ module _ (w : World) (h : List Fact) (formed : WellFormed w) (i : InvOf w h) whe
         ∷ row 22 ((slot_named w h i c.tag).vacant j)
         ∷ row 2 (not ((slot_named w h i c.tag).waiting j) || eqb (length (numbers (slot_in w c.tag).fds)) 0)
         ∷ [])
-    entry_number_by RespondWithMultipleFds = respond_number (refused_in w c.tag) c.tag listed (handles_of w) refl refl
-    entry_number_by RespondAndNotifyOnDetach = respond_number (refused_in w c.tag) c.tag _ (handles_of w) refl refl
-    entry_number_by Unknown = refl
+    entry_number_by (Some RespondWithMultipleFds) = respond_number (refused_in w c.tag) c.tag listed (handles_of w) refl refl
+    entry_number_by (Some RespondAndNotifyOnDetach) = respond_number (refused_in w c.tag) c.tag _ (handles_of w) refl refl
+    entry_number_by None = refl
 
     entry_number : entry_answer (entry_of w c) ≡ ruled (entry_rows_by (cqe_opcode_of (kind_of c)) h w c) (ok 0)
     entry_number = entry_number_by (cqe_opcode_of (kind_of c))

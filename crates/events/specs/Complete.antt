@@ -1,6 +1,7 @@
 -- The driver writes completions: each entry's decision carried out (01, "Completions"; src/scheme/user.rs, lines 743 to 755).
-use Rattle.std.specs.Prelude.{ℕ, zero, suc, ◌*◌, ◌/◌, Bool, cond, List, [], ◌∷◌, ◌++◌, ltb, eqb, length, drop}
+use Rattle.std.specs.Prelude.{ℕ, zero, suc, ◌*◌, ◌/◌, Bool, cond, List, [], ◌∷◌, ◌++◌, ltb, eqb, length, drop, Result}
 use Rattle.parse_cqe.specs.declared.ParsedCqe.{ParsedCqe}
+use Rattle.parse_cqe.specs.declared.CqeError.{CqeError}
 use Rattle.parse_cqe.specs.Parsed.{parsed_of}
 use Rattle.schemev2.specs.declared.Cqe.{Cqe}
 use Rattle.schemev2.specs.Entry.{cqe_of}
@@ -37,7 +38,7 @@ carried w n d =
     cond (eqb d.number 0) (accepted d.effects (after w n d)) (rejected d.number d.effects (after w n d))
 
 -- an entry with tag n, by what it asks for
-abbrev pub entry_by : ParsedCqe → World → ℕ → Entered
+abbrev pub entry_by : Result ParsedCqe CqeError → World → ℕ → Entered
 entry_by p w n = carried w n (decision_of p (slot_in w n) (holds_of w) (handles_of w))
 
 abbrev pub entry_of : World → Cqe → Entered

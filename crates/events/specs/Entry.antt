@@ -1,12 +1,11 @@
 -- A completion entry as a decision on the slot that its tag names, the hold counts and the driver's handles (01, "Completions";
 -- src/scheme/user.rs: `handle_parsed` 792 to 848 and 920 to 925, `respond` 926 to 1008).
-use Rattle.std.specs.Prelude.{ℕ, ◌-◌, Bool, true, false, not, cond, ◌||◌, List, [], ◌∷◌, ◌++◌, ltb, eqb, length}
+use Rattle.std.specs.Prelude.{ℕ, ◌-◌, Bool, true, false, not, cond, ◌||◌, List, [], ◌∷◌, ◌++◌, ltb, eqb, length, Result, Ok, Err}
 use Rattle.closes.specs.declared.Reason.{Reason}
 use Rattle.closes.specs.declared.Reason.TheVariants.{Replied, Ended, Refused}
 use Rattle.closes.specs.Closes.{closing, only, closes}
 use Rattle.counts.specs.Counts.{lasts}
-use Rattle.error.specs.declared.Result.{Result}
-use Rattle.error.specs.declared.Result.TheVariants.{Ok, Err}
+use Rattle.error.specs.declared.Error.{Error}
 use Rattle.error.specs.Reference.{as_usize}
 use Rattle.fd_list.specs.declared.List.{List as Fds}
 use Rattle.fd_list.specs.Lists.{numbers, list_of}
@@ -16,6 +15,7 @@ use Rattle.holds.specs.declared.Holds.{Holds}
 use Rattle.holds.specs.Holds.{discarded_of}
 use Rattle.parse_cqe.specs.declared.ParsedCqe.{ParsedCqe}
 use Rattle.parse_cqe.specs.declared.ParsedCqe.TheVariants as parsed
+use Rattle.parse_cqe.specs.declared.CqeError.{CqeError}
 use Rattle.slot.specs.declared.Act.{Act}
 use Rattle.slot.specs.declared.Act.TheVariants.{Leave, Store, Vacate}
 use Rattle.slot.specs.declared.PageSpan.{PageSpan}
@@ -52,7 +52,7 @@ closes_of why h ds = closes (only (closing why) (lasts h.holds ds))
 
 -- what a reply entry brings: a result with extra0 and the notice, a description out of a handle, or the slot's own list
 pub data Offer : Type 0 where
-  result : Result → ℕ → Bool → Offer
+  result : Result ℕ Error → ℕ → Bool → Offer
   one : ℕ → Offer
   listed : Offer
 
@@ -61,7 +61,7 @@ abbrev pub stored_errno : Bool → ℕ → ℕ
 stored_errno true e = cond (eqb e 125) 4 e
 stored_errno false e = cond (eqb e 4) 5 e
 
-abbrev pub stored_result : Bool → Result → ℕ → Bool → Response
+abbrev pub stored_result : Bool → Result ℕ Error → ℕ → Bool → Response
 stored_result canceling (Ok w) x b = success w x b
 stored_result canceling (Err e) x b = error (stored_errno canceling (as_usize e.errno)) x b
 
@@ -180,13 +180,11 @@ abbrev pub obtain_entry_of : Slot → ℕ → Holds → Handles → Decision
 obtain_entry_of v k h n = checked (refused_of v h n) (obtain_rows v) (obtained v k h n)
 
 -- `handle_parsed`
-abbrev pub decision_of : ParsedCqe → Slot → Holds → Handles → Decision
-decision_of (parsed.TriggerFevent number flags) v h n = decided 0 Leave v h n (event_effect number flags)
-decision_of (parsed.RegularResponse t r x) v h n = respond_of v t.0 (result r x false) h n
-decision_of (parsed.ResponseWithFd t k) v h n = descriptor_of v t.0 k.0 h n
-decision_of (parsed.ResponseWithMultipleFds t c) v h n = respond_of v t.0 listed h n
-decision_of (parsed.ObtainFd t flags k) v h n = obtain_entry_of v k.0 h n
-decision_of (parsed.RespondAndNotifyOnDetach t r x) v h n = respond_of v t.0 (result r x true) h n
-decision_of parsed.UnknownKind v h n = refused_of v h n 22
-decision_of parsed.UnknownEventFlags v h n = refused_of v h n 22
-decision_of parsed.UnknownObtainFlags v h n = refused_of v h n 22
+abbrev pub decision_of : Result ParsedCqe CqeError → Slot → Holds → Handles → Decision
+decision_of (Ok (parsed.TriggerFevent number flags)) v h n = decided 0 Leave v h n (event_effect number flags)
+decision_of (Ok (parsed.RegularResponse t r x)) v h n = respond_of v t.0 (result r x false) h n
+decision_of (Ok (parsed.ResponseWithFd t k)) v h n = descriptor_of v t.0 k.0 h n
+decision_of (Ok (parsed.ResponseWithMultipleFds t c)) v h n = respond_of v t.0 listed h n
+decision_of (Ok (parsed.ObtainFd t flags k)) v h n = obtain_entry_of v k.0 h n
+decision_of (Ok (parsed.RespondAndNotifyOnDetach t r x)) v h n = respond_of v t.0 (result r x true) h n
+decision_of (Err e) v h n = refused_of v h n 22

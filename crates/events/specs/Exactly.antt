@@ -1,13 +1,13 @@
 -- What each event answers (01, "Where each refusal is checked"): the number of the first row whose condition holds, and where
 -- none does, what follows from what happened. Conditions are told by the history and by the queue's bytes; those on holds,
 -- handles and lists by the state. What else an event does stands in Effects.antt.
-use Rattle.std.specs.Prelude.{ℕ, zero, suc, min, ◌*◌, ◌/◌, ◌%◌, ◌≤◌, ◌≡◌, Bool, true, false, not, cond, ◌||◌, ◌&&◌, List, [], ◌∷◌, ◌++◌, ltb, leb, eqb, length, get_or, drop}
+use Rattle.std.specs.Prelude.{ℕ, zero, suc, min, ◌*◌, ◌/◌, ◌%◌, ◌≤◌, ◌≡◌, Bool, true, false, not, cond, ◌||◌, ◌&&◌, List, [], ◌∷◌, ◌++◌, ltb, leb, eqb, length, get_or, drop, Option, Some, None}
 use Rattle.counts.specs.Counts.{times, any}
 use Rattle.fd_list.specs.Lists.{numbers}
 use Rattle.flag.specs.Flags.{within, event_flags, fobtain_fd_flags}
 use Rattle.schemev2.specs.declared.Cqe.{Cqe}
 use Rattle.schemev2.specs.declared.CqeOpcode.{CqeOpcode}
-use Rattle.schemev2.specs.declared.CqeOpcode.TheVariants.{RespondRegular, RespondWithFd, SendFevent, ObtainFd, RespondWithMultipleFds, RespondAndNotifyOnDetach, Unknown}
+use Rattle.schemev2.specs.declared.CqeOpcode.TheVariants.{RespondRegular, RespondWithFd, SendFevent, ObtainFd, RespondWithMultipleFds, RespondAndNotifyOnDetach}
 use Rattle.schemev2.specs.Entry.{kind_of, extra_of, cqe_opcode_of}
 use Rattle.table.specs.Table.{rising}
 use Rattle.events.specs.World.{World, holds_of, handles_of, slot_in, unread_in}
@@ -107,18 +107,18 @@ abbrev pub respond_rows : List Fact → ℕ → List Row
 respond_rows h n = row 77 (in_state 0 h n || in_state 1 h n) ∷ row 22 (in_state 3 h n || in_state 4 h n) ∷ []
 
 -- a completion entry, by its kind
-abbrev pub entry_rows_by : CqeOpcode → List Fact → World → Cqe → List Row
-entry_rows_by RespondRegular h w e = respond_rows h e.tag
-entry_rows_by RespondWithFd h w e = row 22 (ltb 63 e.result || eqb (handle_at w e.result) 0) ∷ respond_rows h e.tag
-entry_rows_by SendFevent h w e = row 22 (not (within event_flags e.tag)) ∷ []
-entry_rows_by ObtainFd h w e =
+abbrev pub entry_rows_by : Option CqeOpcode → List Fact → World → Cqe → List Row
+entry_rows_by (Some RespondRegular) h w e = respond_rows h e.tag
+entry_rows_by (Some RespondWithFd) h w e = row 22 (ltb 63 e.result || eqb (handle_at w e.result) 0) ∷ respond_rows h e.tag
+entry_rows_by (Some SendFevent) h w e = row 22 (not (within event_flags e.tag)) ∷ []
+entry_rows_by (Some ObtainFd) h w e =
     row 22 (not (within fobtain_fd_flags (extra_of e)))
     ∷ row 22 (in_state 0 h e.tag)
     ∷ row 2 (not (in_state 2 h e.tag) || eqb (length (list_at w e.tag)) 0)
     ∷ []
-entry_rows_by RespondWithMultipleFds h w e = respond_rows h e.tag
-entry_rows_by RespondAndNotifyOnDetach h w e = respond_rows h e.tag
-entry_rows_by Unknown h w e = row 22 true ∷ []
+entry_rows_by (Some RespondWithMultipleFds) h w e = respond_rows h e.tag
+entry_rows_by (Some RespondAndNotifyOnDetach) h w e = respond_rows h e.tag
+entry_rows_by None h w e = row 22 true ∷ []
 
 -- entry j of a write, after those before it
 abbrev pub entry_rows : Run → List ℕ → ℕ → List Row

@@ -1,13 +1,13 @@
 -- What happened in a run, newest first, and what that says of each tag's call (01, "Runs"). It is told by the events and their
 -- answers; a state is looked at for one thing alone, the reading of an accepted reply entry, which 01 leaves to demand 2.
-use Rattle.std.specs.Prelude.{ℕ, zero, suc, ◌+◌, ◌*◌, ◌/◌, Bool, true, false, cond, ◌||◌, List, [], ◌∷◌, ◌++◌, map, eqb}
+use Rattle.std.specs.Prelude.{ℕ, zero, suc, ◌+◌, ◌*◌, ◌/◌, Bool, true, false, cond, ◌||◌, List, [], ◌∷◌, ◌++◌, map, eqb, Option, Some, None}
 use Rattle.error.specs.Errors.{demux_of}
 use Rattle.flag.specs.Flags.{event_read, event_hup}
 use Rattle.le.specs.Le.{byte, half, word}
 use Rattle.opcode.specs.Opcodes as opcode
 use Rattle.schemev2.specs.declared.Cqe.{Cqe}
 use Rattle.schemev2.specs.declared.CqeOpcode.{CqeOpcode}
-use Rattle.schemev2.specs.declared.CqeOpcode.TheVariants.{RespondRegular, RespondWithFd, SendFevent, ObtainFd, RespondWithMultipleFds, RespondAndNotifyOnDetach, Unknown}
+use Rattle.schemev2.specs.declared.CqeOpcode.TheVariants.{RespondRegular, RespondWithFd, SendFevent, ObtainFd, RespondWithMultipleFds, RespondAndNotifyOnDetach}
 use Rattle.schemev2.specs.declared.Sqe.{Sqe}
 use Rattle.schemev2.specs.Entry.{kind_of, cqe_opcode_of}
 use Rattle.slot.specs.declared.PageSpan.{PageSpan}
@@ -134,14 +134,14 @@ after_entries bs w zero = w
 after_entries bs w (suc j) = world_of (entry_of (after_entries bs w j) (entry_at bs j))
 
 -- "Reply entries are kinds 0, 1, 4 and 5": what one brings, its handle looked up in the state before it; any other entry brings nothing
-abbrev pub offers : CqeOpcode → World → Cqe → List Offer
-offers RespondRegular w e = result (demux_of e.result) e.extra_raw.0 false ∷ []  -- success word or errno, extra's first byte, no notice
-offers RespondWithFd w e = one (in_handle (handles_of w) e.result) ∷ []  -- the description in that handle
-offers SendFevent w e = []
-offers ObtainFd w e = []
-offers RespondWithMultipleFds w e = listed ∷ []  -- the call's own list
-offers RespondAndNotifyOnDetach w e = result (demux_of e.result) e.extra_raw.0 true ∷ []
-offers Unknown w e = []
+abbrev pub offers : Option CqeOpcode → World → Cqe → List Offer
+offers (Some RespondRegular) w e = result (demux_of e.result) e.extra_raw.0 false ∷ []  -- success word or errno, extra's first byte, no notice
+offers (Some RespondWithFd) w e = one (in_handle (handles_of w) e.result) ∷ []  -- the description in that handle
+offers (Some SendFevent) w e = []
+offers (Some ObtainFd) w e = []
+offers (Some RespondWithMultipleFds) w e = listed ∷ []  -- the call's own list
+offers (Some RespondAndNotifyOnDetach) w e = result (demux_of e.result) e.extra_raw.0 true ∷ []
+offers None w e = []
 
 -- what happens by entry j of event i on state w: its reading is the reply that demand 2's definition (`response_to`) stores for it
 abbrev pub served : ℕ → ℕ → World → Cqe → List Fact

@@ -1,8 +1,10 @@
 -- What an event answers and leaves: its answer, effects, the bytes that it stored and the state; and how refusals are
 -- written down, as rows in 01's order.
-use Rattle.std.specs.Prelude.{ℕ, Bool, true, false, cond, List, [], ◌∷◌}
-use Rattle.answer.specs.declared.Answer.{Answer as Case}
-use Rattle.answer.specs.declared.Answer.TheVariants.{Done, Given, Submitted, Bytes, Descriptions, WouldWait, Blocked, Replied, NotFound, NoCaller, Interrupted, Again, Invalid, BadDescriptor, NotSupported, NotYours, Full, QueueFull, ShortWords, BadArgument, TooManyFds, TooManyHolds}
+use Rattle.std.specs.Prelude.{ℕ, Bool, true, false, cond, List, [], ◌∷◌, Result, Ok, Err}
+use Rattle.answer.specs.declared.Accepted.{Accepted}
+use Rattle.answer.specs.declared.Refusal.{Refusal}
+use Rattle.answer.specs.declared.Accepted.TheVariants.{Done, Given, Submitted, Bytes, Descriptions, WouldWait, Blocked, Replied}
+use Rattle.answer.specs.Numbered.{refusal_number}
 use Rattle.flag.specs.Flags.{event_read}
 use Rattle.events.specs.World.{World, scheme_of}
 
@@ -52,32 +54,19 @@ abbrev pub outcome : Answer → List ℕ → World → Outcome
 outcome a fx w = record { answer = a; effects = fx; bytes = []; world = w }
 
 -- 01's number and value of each case of the code's answer; a reply handed over stands beside it
-abbrev pub said_with : Response → Case → Answer
-said_with r Done = ok 0
-said_with r (Given t) = ok t.0
-said_with r (Submitted t) = ok t.0
-said_with r (Bytes n) = ok n
-said_with r (Descriptions n) = ok n
-said_with r WouldWait = wait
-said_with r Blocked = blocked
-said_with r Replied = reply r
-said_with r NotFound = no 2
-said_with r NoCaller = no 3
-said_with r Interrupted = no 4
-said_with r Again = no 11
-said_with r Invalid = no 22
-said_with r BadDescriptor = no 77
-said_with r NotSupported = no 95
-said_with r NotYours = no 201
-said_with r Full = no 202
-said_with r QueueFull = no 203
-said_with r ShortWords = no 204
-said_with r BadArgument = no 205
-said_with r TooManyFds = no 206
-said_with r TooManyHolds = no 207
+abbrev pub said_with : Response → Result Accepted Refusal → Answer
+said_with r (Ok Done) = ok 0
+said_with r (Ok (Given t)) = ok t.0
+said_with r (Ok (Submitted t)) = ok t.0
+said_with r (Ok (Bytes n)) = ok n
+said_with r (Ok (Descriptions n)) = ok n
+said_with r (Ok WouldWait) = wait
+said_with r (Ok Blocked) = blocked
+said_with r (Ok Replied) = reply r
+said_with r (Err e) = no (refusal_number e)
 
 -- of an event that hands nothing over
-abbrev pub said : Case → Answer
+abbrev pub said : Result Accepted Refusal → Answer
 said a = said_with (success 0 0 false) a
 
 -- refused: nothing changes

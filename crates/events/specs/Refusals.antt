@@ -1,11 +1,11 @@
 -- Demand 1: a refusal changes no state and no lent buffer, but for the four cases that 01 names ("Where each refusal is checked",
 -- last lines); "would wait" changes nothing either. Over every event and every state, reached by a run or not.
-use Rattle.std.specs.Prelude.{ℕ, ◌*◌, ◌/◌, ◌≡◌, cond, ◌||◌, List, [], eqb, ltb, length}
+use Rattle.std.specs.Prelude.{ℕ, ◌*◌, ◌/◌, ◌≡◌, cond, ◌||◌, List, [], eqb, ltb, length, Option, Some, None}
 use Rattle.fd_list.specs.Lists.{numbers}
 use Rattle.handles.specs.Handles.{held_at, emptied}
 use Rattle.schemev2.specs.declared.Cqe.{Cqe}
 use Rattle.schemev2.specs.declared.CqeOpcode.{CqeOpcode}
-use Rattle.schemev2.specs.declared.CqeOpcode.TheVariants.{RespondRegular, RespondWithFd, SendFevent, ObtainFd, RespondWithMultipleFds, RespondAndNotifyOnDetach, Unknown}
+use Rattle.schemev2.specs.declared.CqeOpcode.TheVariants.{RespondRegular, RespondWithFd, SendFevent, ObtainFd, RespondWithMultipleFds, RespondAndNotifyOnDetach}
 use Rattle.schemev2.specs.Entry.{kind_of, cqe_opcode_of}
 use Rattle.slot.specs.Slots.{interrupted_of}
 use Rattle.table.specs.Table.{put_at, vacate_at}
@@ -24,16 +24,16 @@ pub record Nothing (o : Outcome) : Type 0 where
 
 -- what a refused entry leaves: the state as it was, but "a descriptor response refused by its tag has emptied the handle and
 -- dropped the hold"; with an empty handle it is refused before its tag is looked at
-abbrev pub left_by : CqeOpcode → World → Cqe → World
-left_by RespondRegular w e = w
-left_by RespondWithFd w e =
+abbrev pub left_by : Option CqeOpcode → World → Cqe → World
+left_by (Some RespondRegular) w e = w
+left_by (Some RespondWithFd) w e =
     cond (eqb (held_at (handles_of w) e.result) 0) w
     (with_handles (with_holds w (dropped (holds_of w) (numbers (named_of (in_handle (handles_of w) e.result))))) (emptied (handles_of w) e.result))
-left_by SendFevent w e = w
-left_by ObtainFd w e = w
-left_by RespondWithMultipleFds w e = w
-left_by RespondAndNotifyOnDetach w e = w
-left_by Unknown w e = w
+left_by (Some SendFevent) w e = w
+left_by (Some ObtainFd) w e = w
+left_by (Some RespondWithMultipleFds) w e = w
+left_by (Some RespondAndNotifyOnDetach) w e = w
+left_by None w e = w
 
 abbrev pub left_entry : World → Cqe → World
 left_entry w e = left_by (cqe_opcode_of (kind_of e)) w e

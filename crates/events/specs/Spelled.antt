@@ -1,9 +1,8 @@
 -- What the claims take over from the definitions, spelled out by itself: the state at the start, the entry that each event queues,
 -- which `call` two events are and how their reply is read, how a reply entry is read, and what EINTR leaves in a slot. A wrong one
 -- of these would be wrong on both sides of a claim.
-use Rattle.std.specs.Prelude.{ℕ, suc, ◌+◌, ◌*◌, ◌%◌, ◌<◌, ◌≡◌, Bool, true, cond, List, [], ◌∷◌, eqb, length, get_or, replicate}
+use Rattle.std.specs.Prelude.{ℕ, suc, ◌+◌, ◌*◌, ◌%◌, ◌<◌, ◌≡◌, Bool, true, cond, List, [], ◌∷◌, eqb, length, get_or, replicate, Ok, Err}
 use Rattle.error.specs.declared.Error.{Error}
-use Rattle.error.specs.declared.Result.TheVariants.{Ok, Err}
 use Rattle.error.specs.Reference.{as_usize}
 use Rattle.fd_list.specs.Lists.{numbers}
 use Rattle.flag.specs.Flags.{within, fd_exclusive, fd_upper, send_fd_exclusive, recv_fd_upper_tbl, sqe_multiple_ids}

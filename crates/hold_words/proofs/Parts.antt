@@ -6,10 +6,10 @@ use mathlib.Core.List.{List, [], ◌∷◌, ◌++◌}
 use native.Mathlib.Omega.{arith}
 use lib.ListN.{take, drop, length}
 use lib.Seq.{sets}
+use Rattle.std.specs.Prelude.{Result}
+use Rattle.answer.specs.declared.Refusal.{Refusal}
 use Rattle.fd_list.specs.declared.List.{List as Fds}
 use Rattle.holds.specs.Holds.{holds_with}
-use Rattle.take_holds.specs.declared.Taken.{Taken}
-use Rattle.take_holds.specs.declared.TakeAnswer.{TakeAnswer}
 use Rattle.take_holds.specs.Take.{take_of}
 use Rattle.events.specs.World.{holds_of}
 use Rattle.layout.specs.Layout.{part, plain_of}
@@ -27,12 +27,9 @@ module _ (ws : List ℕ) where
   outside_lent = refl
 
   pub looked :
-      (ds xs ys : List ℕ) (a : TakeAnswer) (l : Fds) → xs ≡ (holds_of (plain_of ws)).holds → ys ≡ (holds_of (plain_of ws)).outside
-      → (a ≡ (take_of (holds_with xs ys) ds).answer) × (l ≡ (take_of (holds_with xs ys) ds).list)
-      → (a ≡ (take_of (holds_of (plain_of ws)) ds).answer) × (l ≡ (take_of (holds_of (plain_of ws)) ds).list)
-  looked ds xs ys a l ea eo e =
-      let q : take_of (holds_with xs ys) ds ≡ take_of (holds_of (plain_of ws)) ds = λ i. take_of (holds_with (ea i) (eo i)) ds in
-      (e.0 ∙ ap (λ (t : Taken). t.answer) q, e.1 ∙ ap (λ (t : Taken). t.list) q)
+      (ds xs ys : List ℕ) (l : Result Fds Refusal) → xs ≡ (holds_of (plain_of ws)).holds → ys ≡ (holds_of (plain_of ws)).outside
+      → l ≡ (take_of (holds_with xs ys) ds).list → l ≡ (take_of (holds_of (plain_of ws)) ds).list
+  looked ds xs ys l ea eo e = e ∙ λ i. (take_of (holds_with (ea i) (eo i)) ds).list
 
   module _ (size : length ws ≡ 2060) where
     part_long : (a : ℕ) → a + 64 ≤ 2060 → length (take 64 (drop a ws)) ≡ 64

@@ -13,13 +13,13 @@ ghost use Rattle.layout.specs.Layout.{all_place, outside_place, plain_of};
 ghost use Rattle.layout.specs.Store.{stored, outside as outsideStore, all as allStore};
 ghost use Rattle.hold_words.specs.Counts.{counts_of, counts_store};
 
+use answer::Refusal;
 use fd_list::List;
-use ids::{Description, DescriptionFound};
-use take_holds::Looked;
+use ids::Description;
 
-// A list against the counts: what it is refused for, or the list; nothing is taken yet.
-pub fn look(s: &[u64; 2060], fds: &[u64]) -> Looked
-    ensures { (result.answer ≡ (take_of (holds_of (plain_of s.now)) fds.now).answer) × (result.list ≡ (take_of (holds_of (plain_of s.now)) fds.now).list) }
+// A list against the counts: the list, or what it is refused for; nothing is taken yet.
+pub fn look(s: &[u64; 2060], fds: &[u64]) -> Result<List, Refusal>
+    ensures { result ≡ (take_of (holds_of (plain_of s.now)) fds.now).list }
 {
     layout::sized(s);
     let t = &s[..];
@@ -29,7 +29,7 @@ pub fn look(s: &[u64; 2060], fds: &[u64]) -> Looked
 }
 
 // The description that a word names, if it is open and has an outside hold.
-pub fn held(s: &[u64; 2060], word: u64) -> DescriptionFound
+pub fn held(s: &[u64; 2060], word: u64) -> Option<Description>
     ensures { result ≡ held_of (holds_of (plain_of s.now)).holds (holds_of (plain_of s.now)).outside word }
 {
     layout::sized(s);

@@ -1,4 +1,5 @@
 -- What the parts of an answer come to, and what a word names. Assumes nothing.
+use Rattle.std.specs.Prelude.{Option, Some, None}
 use Prim.Native.Nat.{ℕ, ◌<◌}
 use mathlib.Core.Path.{◌≡◌, refl, sym, ap, ◌∙◌}
 use mathlib.Core.Bool.{Bool, true, false}
@@ -7,8 +8,6 @@ use native.Mathlib.Omega.{arith}
 use lib.ListN.{get_or}
 use borrow.Author.Tests.{lt-ltb, le-ltb, eq-eqb, ne_eqb}
 use Rattle.ids.specs.declared.Description.{Description}
-use Rattle.ids.specs.declared.DescriptionFound.{DescriptionFound}
-use Rattle.ids.specs.declared.DescriptionFound.TheVariants as found
 use Rattle.ids.specs.Ids.{description_of}
 use Rattle.ids.proofs.Laws.{over_named, named}
 use Rattle.fd_list.specs.Lists.{desc}
@@ -25,38 +24,38 @@ module _ (h : Holds) where
 
 -- the description that a word names, if it has an outside hold
 module _ (all left : List ℕ) (w : ℕ) where
-  module _ (f : DescriptionFound) (q : f ≡ description_of w) where
-    pub held_over : f ≡ found.Outside → found.Outside ≡ held_of all left w
+  module _ (f : Option Description) (q : f ≡ description_of w) where
+    pub held_over : f ≡ None → None ≡ held_of all left w
     held_over e = rw (lt-ltb 63 w (over_named w f q e)) refl
 
-    module _ (d : Description) (e : f ≡ found.At d) where
+    module _ (d : Description) (e : f ≡ Some d) where
       held_named : (w < 64) × (d ≡ desc w)
       held_named = named w f q d e
 
       at_word : (a : List ℕ) (n : ℕ) → n ≡ get_or a d.0 0 → n ≡ get_or a w 0
       at_word a n p = p ∙ ap (λ (x : Description). get_or a x.0 0) held_named.1
 
-      pub held_shut : (n : ℕ) → n ≡ get_or all d.0 0 → n ≡ 0 → found.Outside ≡ held_of all left w
+      pub held_shut : (n : ℕ) → n ≡ get_or all d.0 0 → n ≡ 0 → None ≡ held_of all left w
       held_shut n p z = rw (le-ltb 63 w (omega (arith, held_named.0)), eq-eqb (get_or all w 0) 0 (sym (at_word all n p) ∙ z)) refl
 
       module _ (n m : ℕ) (p : n ≡ get_or all d.0 0) (z : n ≡ 0 → ⊥) (r : m ≡ get_or left d.0 0) where
-        pub held_none : m ≡ 0 → found.Outside ≡ held_of all left w
+        pub held_none : m ≡ 0 → None ≡ held_of all left w
         held_none y = rw (le-ltb 63 w (omega (arith, held_named.0)), ne_eqb (get_or all w 0) 0 (λ x. z (at_word all n p ∙ x)), eq-eqb (get_or left w 0) 0 (sym (at_word left m r) ∙ y)) refl
 
-        pub held_in : (m ≡ 0 → ⊥) → found.At d ≡ held_of all left w
-        held_in y = rw (le-ltb 63 w (omega (arith, held_named.0)), ne_eqb (get_or all w 0) 0 (λ x. z (at_word all n p ∙ x)), ne_eqb (get_or left w 0) 0 (λ x. y (at_word left m r ∙ x))) (ap found.At held_named.1)
+        pub held_in : (m ≡ 0 → ⊥) → Some d ≡ held_of all left w
+        held_in y = rw (le-ltb 63 w (omega (arith, held_named.0)), ne_eqb (get_or all w 0) 0 (λ x. z (at_word all n p ∙ x)), ne_eqb (get_or left w 0) 0 (λ x. y (at_word left m r ∙ x))) (ap Some held_named.1)
 
-  module _ (f : DescriptionFound) (q : f ≡ held_of all left w) where
-    pub held_not : f ≡ found.Outside → unheld all left w ≡ true
+  module _ (f : Option Description) (q : f ≡ held_of all left w) where
+    pub held_not : f ≡ None → unheld all left w ≡ true
     held_not e = go (unheld all left w) (sym q ∙ e)
       where
-        go : (b : Bool) → held_if b w ≡ found.Outside → b ≡ true
+        go : (b : Bool) → held_if b w ≡ None → b ≡ true
         go true z = refl
         go false z = absurd (let y : ◌≡◌ {A = ℕ} 0 1 = cc in omega arith)
 
-    pub held_is : (d : Description) → f ≡ found.At d → (unheld all left w ≡ false) × (d ≡ desc w)
+    pub held_is : (d : Description) → f ≡ Some d → (unheld all left w ≡ false) × (d ≡ desc w)
     held_is d e = go (unheld all left w) (sym q ∙ e)
       where
-        go : (b : Bool) → held_if b w ≡ found.At d → (b ≡ false) × (d ≡ desc w)
+        go : (b : Bool) → held_if b w ≡ Some d → (b ≡ false) × (d ≡ desc w)
         go true z = absurd (let y : ◌≡◌ {A = ℕ} 0 1 = cc in omega arith)
         go false z = (refl, cc)

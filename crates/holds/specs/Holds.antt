@@ -1,7 +1,6 @@
 -- Holds dropped and given back, and the description that a word names if it has an outside hold.
-use Rattle.std.specs.Prelude.{ℕ, Bool, true, false, ◌||◌, List, ltb, eqb, get_or}
-use Rattle.ids.specs.declared.DescriptionFound.{DescriptionFound}
-use Rattle.ids.specs.declared.DescriptionFound.TheVariants as found
+use Rattle.std.specs.Prelude.{ℕ, Bool, true, false, ◌||◌, Option, Some, None, List, ltb, eqb, get_or}
+use Rattle.ids.specs.declared.Description.{Description}
 use Rattle.fd_list.specs.Lists.{desc}
 use Rattle.counts.specs.Counts.{less_all, more_all}
 use Rattle.holds.specs.declared.Holds.{Holds}
@@ -19,9 +18,9 @@ outside_of h ds = holds_with h.holds (more_all h.outside ds)
 abbrev pub unheld : List ℕ → List ℕ → ℕ → Bool
 unheld all out d = ltb 63 d || (eqb (get_or all d 0) 0 || eqb (get_or out d 0) 0)
 
-abbrev pub held_if : Bool → ℕ → DescriptionFound
-held_if true d = found.Outside
-held_if false d = found.At (desc d)
+abbrev pub held_if : Bool → ℕ → Option Description
+held_if true d = None
+held_if false d = Some (desc d)
 
-abbrev pub held_of : List ℕ → List ℕ → ℕ → DescriptionFound
+abbrev pub held_of : List ℕ → List ℕ → ℕ → Option Description
 held_of all out d = held_if (unheld all out d) d

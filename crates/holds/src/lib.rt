@@ -4,7 +4,7 @@
 ghost use Rattle.std.specs.Prelude.{◌≡◌};
 ghost use Rattle.holds.specs.Holds.{held_of};
 
-use ids::DescriptionFound;
+use ids::Description;
 
 // For each description all its holds, and how many of them are outside.
 #[repr(C)]
@@ -15,20 +15,15 @@ pub struct Holds {
 }
 
 // The description that a word names, if it is open and has an outside hold; `outside` are those that are left.
-pub fn held_outside(all: &[u64], outside: &[u64], word: u64) -> DescriptionFound
+pub fn held_outside(all: &[u64], outside: &[u64], word: u64) -> Option<Description>
     ensures { result ≡ held_of all.now outside.now word }
 {
-    let found = ids::description_of(word);
-    match found {
-        DescriptionFound::Outside => DescriptionFound::Outside,
-        DescriptionFound::At(d) => {
-            if counts::count_at(all, d) == 0 {
-                return DescriptionFound::Outside;
-            }
-            if counts::count_at(outside, d) == 0 {
-                return DescriptionFound::Outside;
-            }
-            DescriptionFound::At(d)
-        }
+    let d = ids::description_of(word)?;
+    if counts::count_at(all, d) == 0 {
+        return None;
     }
+    if counts::count_at(outside, d) == 0 {
+        return None;
+    }
+    Some(d)
 }

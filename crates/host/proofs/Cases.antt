@@ -1,4 +1,5 @@
 -- The host's events on counts and handles, by their tests. Assumes nothing.
+use Rattle.std.specs.Prelude.{Ok, Err, Option, Some, None}
 use Prim.Native.Nat.{ℕ, suc, ◌<◌, ◌≤◌}
 use mathlib.Core.Path.{◌≡◌, refl, sym, ap, ap₂, ◌∙◌}
 use mathlib.Core.Bool.{true, false}
@@ -7,7 +8,8 @@ use native.Mathlib.Omega.{arith}
 use lib.ListN.{get_or, set, length}
 use lib.Seq.{sets}
 use borrow.Author.Tests.{eq-eqb, ne_eqb}
-use Rattle.answer.specs.declared.Answer.TheVariants.{Done, BadArgument, TooManyHolds}
+use Rattle.answer.specs.declared.Accepted.TheVariants.{Done}
+use Rattle.answer.specs.declared.Refusal.TheVariants.{BadArgument, TooManyHolds}
 use Rattle.counts.specs.Counts.{less, more}
 use Rattle.counts.proofs.Laws.{less_length}
 use Rattle.handles.specs.declared.Handles.{Handles}
@@ -15,17 +17,13 @@ use Rattle.handles.specs.Handles.{held_at, is_free, into}
 use Rattle.handles.proofs.Cases.{free_over, free_in}
 use Rattle.holds.specs.declared.Holds.{Holds}
 use Rattle.holds.specs.Holds.{held_of}
-use Rattle.host_holds.specs.declared.HoldCopied.{HoldCopied}
-use Rattle.host_holds.specs.declared.HoldDropped.{HoldDropped}
-use Rattle.host_holds.specs.declared.HoldOpened.{HoldOpened}
-use Rattle.host_holds.specs.Host.{one_more, one_fewer, opened_as, open_of, copied_as, copy_of, dropped_as, drop_of}
+use Rattle.host_holds.specs.declared.HoldsLeft.{HoldsLeft}
+use Rattle.host_holds.specs.Host.{one_more, one_fewer, left_as, open_of, copy_of, drop_of}
 use Rattle.host_holds.proofs.Cases.{open_over, open_shut, open_in, copy_bad, copy_full, copy_in, drop_bad, drop_in}
 use Rattle.host_put.specs.declared.HoldPut.{HoldPut}
 use Rattle.host_put.specs.Put.{inside, put as putAs, put_of}
 use Rattle.host_put.proofs.Cases.{put_bad, put_full, put_in}
 use Rattle.ids.specs.declared.Description.{Description}
-use Rattle.ids.specs.declared.DescriptionFound.{DescriptionFound}
-use Rattle.ids.specs.declared.DescriptionFound.TheVariants as found
 use Rattle.ids.specs.declared.Handle.{Handle}
 use Rattle.ids.specs.Ids.{description_of, handle_of}
 use Rattle.events.specs.World.{holds_of, handles_of}
@@ -83,21 +81,21 @@ module _ (ws : List ℕ) (d : ℕ) where
       ey ∙ ap₂ (λ (x y : List ℕ). stored x (handles (set y k (suc d)))) (ex ∙ sym a) q
 
 -- each event by its tests: what the plain definition answers and leaves
-module _ (ws : List ℕ) (size : length ws ≡ 2060) (t : ℕ) (f : DescriptionFound) where
+module _ (ws : List ℕ) (size : length ws ≡ 2060) (t : ℕ) (f : Option Description) where
   abbrev hs : Holds
   hs = holds_of (plain_of ws)
 
   abbrev ks : Handles
   ks = handles_of (plain_of ws)
 
-  opened : (o : HoldOpened) → o ≡ open_of hs t → (a : Answer) (fx xs : List ℕ) → a ≡ said o.answer → fx ≡ [] → xs ≡ stored_all ws (counts o.holds) → Does ws xs (host_open t) a fx
-  opened o is a fx xs ea ef ex = record { answer = ea ∙ ap (λ (x : HoldOpened). said x.answer) is; effects = ef; words = ex ∙ ap (λ (x : HoldOpened). stored_all ws (counts x.holds)) is }
+  opened : (o : HoldsLeft) → o ≡ open_of hs t → (a : Answer) (fx xs : List ℕ) → a ≡ said o.answer → fx ≡ [] → xs ≡ stored_all ws (counts o.holds) → Does ws xs (host_open t) a fx
+  opened o is a fx xs ea ef ex = record { answer = ea ∙ ap (λ (x : HoldsLeft). said x.answer) is; effects = ef; words = ex ∙ ap (λ (x : HoldsLeft). stored_all ws (counts x.holds)) is }
 
-  copied : (o : HoldCopied) → o ≡ copy_of hs t → (a : Answer) (fx xs : List ℕ) → a ≡ said o.answer → fx ≡ [] → xs ≡ stored_all ws (counts o.holds) → Does ws xs (host_copy t) a fx
-  copied o is a fx xs ea ef ex = record { answer = ea ∙ ap (λ (x : HoldCopied). said x.answer) is; effects = ef; words = ex ∙ ap (λ (x : HoldCopied). stored_all ws (counts x.holds)) is }
+  copied : (o : HoldsLeft) → o ≡ copy_of hs t → (a : Answer) (fx xs : List ℕ) → a ≡ said o.answer → fx ≡ [] → xs ≡ stored_all ws (counts o.holds) → Does ws xs (host_copy t) a fx
+  copied o is a fx xs ea ef ex = record { answer = ea ∙ ap (λ (x : HoldsLeft). said x.answer) is; effects = ef; words = ex ∙ ap (λ (x : HoldsLeft). stored_all ws (counts x.holds)) is }
 
-  dropped : (o : HoldDropped) → o ≡ drop_of hs t → (a : Answer) (fx xs : List ℕ) → a ≡ said o.answer → fx ≡ [] → xs ≡ stored_all ws (counts o.holds) → Does ws xs (host_drop t) a fx
-  dropped o is a fx xs ea ef ex = record { answer = ea ∙ ap (λ (x : HoldDropped). said x.answer) is; effects = ef; words = ex ∙ ap (λ (x : HoldDropped). stored_all ws (counts x.holds)) is }
+  dropped : (o : HoldsLeft) → o ≡ drop_of hs t → (a : Answer) (fx xs : List ℕ) → a ≡ said o.answer → fx ≡ [] → xs ≡ stored_all ws (counts o.holds) → Does ws xs (host_drop t) a fx
+  dropped o is a fx xs ea ef ex = record { answer = ea ∙ ap (λ (x : HoldsLeft). said x.answer) is; effects = ef; words = ex ∙ ap (λ (x : HoldsLeft). stored_all ws (counts x.holds)) is }
 
   placed :
       (k : ℕ) (o : HoldPut) → o ≡ put_of hs ks t k → (a : Answer) (fx xs : List ℕ) → a ≡ said o.answer → fx ≡ [] → xs ≡ stored_all ws (counts o.holds ++ handles o.handles.at ∷ [])
@@ -106,49 +104,49 @@ module _ (ws : List ℕ) (size : length ws ≡ 2060) (t : ℕ) (f : DescriptionF
       record { answer = ea ∙ ap (λ (x : HoldPut). said x.answer) is; effects = ef; words = ex ∙ ap (λ (x : HoldPut). stored_all ws (counts x.holds ++ handles x.handles.at ∷ [])) is }
 
   module _ (q : f ≡ description_of t) where
-    pub no_description : f ≡ found.Outside → (a : Answer) (fx : List ℕ) → a ≡ no 205 → fx ≡ [] → Does ws ws (host_open t) a fx
-    no_description e a fx ea ef = opened (opened_as BadArgument hs) (open_over hs t f q e) a fx ws ea ef (sym (same_counts ws size))
+    pub no_description : f ≡ None → (a : Answer) (fx : List ℕ) → a ≡ no 205 → fx ≡ [] → Does ws ws (host_open t) a fx
+    no_description e a fx ea ef = opened (left_as (Err BadArgument) hs) (open_over hs t f q e) a fx ws ea ef (sym (same_counts ws size))
 
-    module _ (d : Description) (e : f ≡ found.At d) (r : ℕ) (c : r ≡ get_or hs.holds d.0 0) where
+    module _ (d : Description) (e : f ≡ Some d) (r : ℕ) (c : r ≡ get_or hs.holds d.0 0) where
       pub open_already : (r ≡ 0 → ⊥) → (a : Answer) (fx : List ℕ) → a ≡ no 205 → fx ≡ [] → Does ws ws (host_open t) a fx
-      open_already z a fx ea ef = opened (opened_as BadArgument hs) (open_shut hs t f q d e r c z) a fx ws ea ef (sym (same_counts ws size))
+      open_already z a fx ea ef = opened (left_as (Err BadArgument) hs) (open_shut hs t f q d e r c z) a fx ws ea ef (sym (same_counts ws size))
 
       pub opens :
           r ≡ 0 → (xs ys : List ℕ) (a : Answer) (fx : List ℕ) → xs ≡ stored ws (outside (more hs.outside d.0)) → ys ≡ stored xs (all (more (holds_of (plain_of xs)).holds d.0))
           → a ≡ ok 0 → fx ≡ [] → Does ws ys (host_open t) a fx
       opens z xs ys a fx ex ey ea ef =
-          opened (opened_as Done (one_more hs d.0)) (open_in hs t f q d e r c z (one_more hs d.0) refl) a fx ys ea ef (one_more_lem ws d.0 xs ys ex ey)
+          opened (left_as (Ok Done) (one_more hs d.0)) (open_in hs t f q d e r c z (one_more hs d.0) refl) a fx ys ea ef (one_more_lem ws d.0 xs ys ex ey)
 
   module _ (q : f ≡ held_of hs.holds hs.outside t) where
-    module _ (e : f ≡ found.Outside) (a : Answer) (fx : List ℕ) (ea : a ≡ no 205) (ef : fx ≡ []) where
+    module _ (e : f ≡ None) (a : Answer) (fx : List ℕ) (ea : a ≡ no 205) (ef : fx ≡ []) where
       pub copies_none : Does ws ws (host_copy t) a fx
-      copies_none = copied (copied_as BadArgument hs) (copy_bad hs t f q e) a fx ws ea ef (sym (same_counts ws size))
+      copies_none = copied (left_as (Err BadArgument) hs) (copy_bad hs t f q e) a fx ws ea ef (sym (same_counts ws size))
 
       pub drops_none : Does ws ws (host_drop t) a fx
-      drops_none = dropped (dropped_as BadArgument hs) (drop_bad hs t f q e) a fx ws ea ef (sym (same_counts ws size))
+      drops_none = dropped (left_as (Err BadArgument) hs) (drop_bad hs t f q e) a fx ws ea ef (sym (same_counts ws size))
 
       pub puts_none : (k : ℕ) → Does ws ws (on (host_put t k)) a fx
-      puts_none k = placed k (putAs BadArgument ks hs) (put_bad hs t f q e ks k) a fx ws ea ef (sym (same_put ws size))
+      puts_none k = placed k (putAs (Err BadArgument) ks hs) (put_bad hs t f q e ks k) a fx ws ea ef (sym (same_put ws size))
 
-    module _ (d : Description) (e : f ≡ found.At d) where
+    module _ (d : Description) (e : f ≡ Some d) where
       pub copies_full : (r : ℕ) → r ≡ get_or hs.holds d.0 0 → r ≡ 65535 → (a : Answer) (fx : List ℕ) → a ≡ no 207 → fx ≡ [] → Does ws ws (host_copy t) a fx
-      copies_full r c z a fx ea ef = copied (copied_as TooManyHolds hs) (copy_full hs t f q d e r c z) a fx ws ea ef (sym (same_counts ws size))
+      copies_full r c z a fx ea ef = copied (left_as (Err TooManyHolds) hs) (copy_full hs t f q d e r c z) a fx ws ea ef (sym (same_counts ws size))
 
       pub copies :
           (r : ℕ) → r ≡ get_or hs.holds d.0 0 → (r ≡ 65535 → ⊥) → (xs ys : List ℕ) (a : Answer) (fx : List ℕ) → xs ≡ stored ws (outside (more hs.outside d.0))
           → ys ≡ stored xs (all (more (holds_of (plain_of xs)).holds d.0)) → a ≡ ok 0 → fx ≡ [] → Does ws ys (host_copy t) a fx
       copies r c z xs ys a fx ex ey ea ef =
-          copied (copied_as Done (one_more hs d.0)) (copy_in hs t f q d e r c z (one_more hs d.0) refl) a fx ys ea ef (one_more_lem ws d.0 xs ys ex ey)
+          copied (left_as (Ok Done) (one_more hs d.0)) (copy_in hs t f q d e r c z (one_more hs d.0) refl) a fx ys ea ef (one_more_lem ws d.0 xs ys ex ey)
 
       pub drops :
           (xs ys : List ℕ) (a : Answer) (fx : List ℕ) → xs ≡ stored ws (outside (less hs.outside d.0)) → ys ≡ stored xs (all (less (holds_of (plain_of xs)).holds d.0))
           → a ≡ ok 0 → fx ≡ [] → Does ws ys (host_drop t) a fx
       drops xs ys a fx ex ey ea ef =
-          dropped (dropped_as Done (one_fewer hs d.0)) (drop_in hs t f q d e (one_fewer hs d.0) refl) a fx ys ea ef (one_fewer_lem ws d.0 xs ys ex ey)
+          dropped (left_as (Ok Done) (one_fewer hs d.0)) (drop_in hs t f q d e (one_fewer hs d.0) refl) a fx ys ea ef (one_fewer_lem ws d.0 xs ys ex ey)
 
       module _ (k : ℕ) where
         unfree : false ≡ is_free ks k → (a : Answer) (fx : List ℕ) → a ≡ no 205 → fx ≡ [] → Does ws ws (on (host_put t k)) a fx
-        unfree u a fx ea ef = placed k (putAs BadArgument ks hs) (put_full hs t f q d e ks k false u refl) a fx ws ea ef (sym (same_put ws size))
+        unfree u a fx ea ef = placed k (putAs (Err BadArgument) ks hs) (put_full hs t f q d e ks k false u refl) a fx ws ea ef (sym (same_put ws size))
 
         pub puts_over : 63 < k → (a : Answer) (fx : List ℕ) → a ≡ no 205 → fx ≡ [] → Does ws ws (on (host_put t k)) a fx
         puts_over b = unfree (free_over ks k b)
@@ -164,5 +162,5 @@ module _ (ws : List ℕ) (size : length ws ≡ 2060) (t : ℕ) (f : DescriptionF
               r ≡ 0 → (xs ys : List ℕ) (a : Answer) (fx : List ℕ) → xs ≡ stored ws (outside (less hs.outside d.0))
               → ys ≡ stored xs (handles (into (handles_of (plain_of xs)) h.0 d.0).at) → a ≡ ok 0 → fx ≡ [] → Does ws ys (on (host_put t k)) a fx
           puts z xs ys a fx ex ey ea ef =
-              placed k (putAs Done (into ks k d.0) (inside hs d.0)) (put_in hs t f q d e ks k true (sym (eq-eqb r 0 z) ∙ free_in ks k r b found_there) refl (into ks k d.0) (inside hs d.0) refl refl) a fx ys ea ef
+              placed k (putAs (Ok Done) (into ks k d.0) (inside hs d.0)) (put_in hs t f q d e ks k true (sym (eq-eqb r 0 z) ∙ free_in ks k r b found_there) refl (into ks k d.0) (inside hs d.0) refl refl) a fx ys ea ef
               (moved_in ws d.0 size k xs ys ex (ey ∙ ap (λ (x : Handle). stored xs (handles (into (handles_of (plain_of xs)) x.0 d.0).at)) eh))

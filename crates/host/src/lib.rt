@@ -2,112 +2,80 @@
 #![tactic(auto)]
 
 ghost use Rattle.std.specs.Prelude.{◌≡◌};
-ghost use Rattle.effect.specs.Effect.{effect_words};
-ghost use Rattle.events.specs.Outcome.{said};
 ghost use Rattle.events.specs.Event.{host_open, host_copy, host_drop, host_ended, on, host_put};
 ghost use Rattle.layout.specs.Layout.{plain_of};
 ghost use Rattle.layout.specs.Store.{stored_all};
 ghost use Rattle.packed.specs.Stores.{has as hasSlot, marks};
-ghost use Rattle.step.specs.Does.{Does};
+ghost use Rattle.step.specs.Does.{answer_of, effects_of, Does};
 
-use answer::Answer;
-use ids::{DescriptionFound, Tag};
+use answer::{Accepted, Refusal};
+use ids::Tag;
 use slot::{Phase, Slot};
 use step::Step;
 
 // A description that is not open gets its first hold, an outside one.
-pub fn open(s: &mut [u64; 2060], description: u64) -> Step
-    ensures { Does s.old s.new (host_open description) (said result.answer) (effect_words result.effect) }
+pub fn open(s: &mut [u64; 2060], description: u64) -> Result<Step, Refusal>
+    ensures { Does s.old s.new (host_open description) (answer_of result) (effects_of result) }
 {
     layout::sized(s);
-    let found = ids::description_of(description);
-    match found {
-        DescriptionFound::Outside => step::answered(Answer::BadArgument),
-        DescriptionFound::At(d) => {
-            if hold_words::holds_of(s, d) != 0 {
-                return step::answered(Answer::BadArgument);
-            }
-            hold_words::raise_outside(s, d);
-            hold_words::raise(s, d);
-            return step::answered(Answer::Done);
-        }
+    let d = ids::description_of(description).ok_or(Refusal::BadArgument)?;
+    if hold_words::holds_of(s, d) != 0 {
+        return Err(Refusal::BadArgument);
     }
+    hold_words::raise_outside(s, d);
+    hold_words::raise(s, d);
+    Ok(step::answered(Accepted::Done))
 }
 
 // One outside hold more.
-pub fn copy(s: &mut [u64; 2060], description: u64) -> Step
-    ensures { Does s.old s.new (host_copy description) (said result.answer) (effect_words result.effect) }
+pub fn copy(s: &mut [u64; 2060], description: u64) -> Result<Step, Refusal>
+    ensures { Does s.old s.new (host_copy description) (answer_of result) (effects_of result) }
 {
     layout::sized(s);
-    let found = hold_words::held(s, description);
-    match found {
-        DescriptionFound::Outside => step::answered(Answer::BadArgument),
-        DescriptionFound::At(d) => {
-            let is_full = hold_words::holds_of(s, d) == 65535;
-            if is_full {
-                return step::answered(Answer::TooManyHolds);
-            }
-            hold_words::raise_outside(s, d);
-            hold_words::raise(s, d);
-            return step::answered(Answer::Done);
-        }
+    let d = hold_words::held(s, description).ok_or(Refusal::BadArgument)?;
+    let is_full = hold_words::holds_of(s, d) == 65535;
+    if is_full {
+        return Err(Refusal::TooManyHolds);
     }
+    hold_words::raise_outside(s, d);
+    hold_words::raise(s, d);
+    Ok(step::answered(Accepted::Done))
 }
 
 // One outside hold dropped. No effect follows, also of the last.
-pub fn drop(s: &mut [u64; 2060], description: u64) -> Step
-    ensures { Does s.old s.new (host_drop description) (said result.answer) (effect_words result.effect) }
+pub fn drop(s: &mut [u64; 2060], description: u64) -> Result<Step, Refusal>
+    ensures { Does s.old s.new (host_drop description) (answer_of result) (effects_of result) }
 {
     layout::sized(s);
-    let found = hold_words::held(s, description);
-    match found {
-        DescriptionFound::Outside => step::answered(Answer::BadArgument),
-        DescriptionFound::At(d) => {
-            hold_words::lower_outside(s, d);
-            hold_words::lower(s, d);
-            return step::answered(Answer::Done);
-        }
-    }
+    let d = hold_words::held(s, description).ok_or(Refusal::BadArgument)?;
+    hold_words::lower_outside(s, d);
+    hold_words::lower(s, d);
+    Ok(step::answered(Accepted::Done))
 }
 
 // One outside hold moves into an empty handle.
-pub fn put(s: &mut [u64; 2060], description: u64, handle: u64) -> Step
-    ensures { Does s.old s.new (on (host_put description handle)) (said result.answer) (effect_words result.effect) }
+pub fn put(s: &mut [u64; 2060], description: u64, handle: u64) -> Result<Step, Refusal>
+    ensures { Does s.old s.new (on (host_put description handle)) (answer_of result) (effects_of result) }
 {
     layout::sized(s);
-    let found = hold_words::held(s, description);
-    match found {
-        DescriptionFound::Outside => step::answered(Answer::BadArgument),
-        DescriptionFound::At(d) => {
-            if 63 < handle {
-                return step::answered(Answer::BadArgument);
-            }
-            let k = ids::handle_of(handle);
-            if handle_words::held_at(s, k) != 0 {
-                return step::answered(Answer::BadArgument);
-            }
-            hold_words::lower_outside(s, d);
-            handle_words::put_into(s, k, d);
-            return step::answered(Answer::Done);
-        }
+    let d = hold_words::held(s, description).ok_or(Refusal::BadArgument)?;
+    if 63 < handle {
+        return Err(Refusal::BadArgument);
     }
+    let k = ids::handle_of(handle);
+    if handle_words::held_at(s, k) != 0 {
+        return Err(Refusal::BadArgument);
+    }
+    hold_words::lower_outside(s, d);
+    handle_words::put_into(s, k, d);
+    Ok(step::answered(Accepted::Done))
 }
 
 // Whether a slot is the caller's. A vacant one is nobody's.
 fn has(v: Slot, caller: u32) -> bool
     ensures { result ≡ hasSlot caller v }
 {
-    if v.caller != caller {
-        return false;
-    }
-    let p = slot::phase_of(v);
-    match p {
-        Phase::Vacant => false,
-        Phase::Placeholder => true,
-        Phase::Waiting => true,
-        Phase::Responded => true,
-        Phase::Fmap => true,
-    }
+    v.caller == caller && slot::phase_of(v) != Phase::Vacant
 }
 
 // Slot i is marked if it is the caller's.
@@ -123,11 +91,11 @@ fn mark(s: &mut [u64; 2060], i: u64, caller: u32)
 }
 
 // The slots that an ended caller has are marked.
-pub fn ended(s: &mut [u64; 2060], caller: u32) -> Step
-    ensures { Does s.old s.new (host_ended caller) (said result.answer) (effect_words result.effect) }
+pub fn ended(s: &mut [u64; 2060], caller: u32) -> Result<Step, Refusal>
+    ensures { Does s.old s.new (host_ended caller) (answer_of result) (effects_of result) }
 {
     for i in 0..64 {
         mark(s, i, caller);
     }
-    step::answered(Answer::Done)
+    Ok(step::answered(Accepted::Done))
 }

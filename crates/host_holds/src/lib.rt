@@ -1,23 +1,11 @@
-// What the host's open, copy and drop leave of the holds: types of the definitions.
+// What the host's open, copy and drop leave of the holds: the type of the definitions.
 #![tactic(auto)]
 
 use answer::Answer;
 use holds::Holds;
 
 #[derive(Clone, Copy)]
-pub struct HoldOpened {
-    pub answer: Answer,
-    pub holds: Holds,
-}
-
-#[derive(Clone, Copy)]
-pub struct HoldCopied {
-    pub answer: Answer,
-    pub holds: Holds,
-}
-
-#[derive(Clone, Copy)]
-pub struct HoldDropped {
+pub struct HoldsLeft {
     pub answer: Answer,
     pub holds: Holds,
 }

@@ -7,17 +7,17 @@ ghost use Rattle.ids.specs.Ids.{slot_of, description_of, descriptions_in, handle
 
 // A place in the slot array; 64 is none.
 #[repr(C)]
-#[derive(Clone, Copy)]
+#[derive(Clone, Copy, Debug, PartialEq, Eq)]
 pub struct SlotNo(pub u8);
 
 // What callers and drivers name a call by. A request id, its widest form, has 64 bits.
 #[repr(C)]
-#[derive(Clone, Copy)]
+#[derive(Clone, Copy, Debug, PartialEq, Eq)]
 pub struct Tag(pub u64);
 
 // An open file description, the Rust's `Arc<LockedFileDescription>`.
 #[repr(C)]
-#[derive(Clone, Copy)]
+#[derive(Clone, Copy, Debug, PartialEq, Eq)]
 pub struct Description(pub u8);
 
 // What stands at a list's places that name nothing.
@@ -25,7 +25,7 @@ pub const BLANK: Description = Description(0);
 
 // The driver's name for a description, the Rust's `FileHandle`: any 64-bit word of an entry.
 #[repr(C)]
-#[derive(Clone, Copy)]
+#[derive(Clone, Copy, Debug, PartialEq, Eq)]
 pub struct Handle(pub u64);
 
 // One over 63 is no handle.
@@ -42,21 +42,14 @@ pub fn slot_of(tag: Tag) -> SlotNo
     SlotNo(64)
 }
 
-// The description that a word of the host names.
-#[derive(Clone, Copy)]
-pub enum DescriptionFound {
-    At(Description),
-    Outside,
-}
-
-// A word over 63 names no description.
-pub fn description_of(word: u64) -> DescriptionFound
+// The description that a word of the host names; one over 63 names none.
+pub fn description_of(word: u64) -> Option<Description>
     ensures { result ≡ description_of word }
 {
     if word < 64 {
-        return DescriptionFound::At(Description(word as u8));
+        return Some(Description(word as u8));
     }
-    DescriptionFound::Outside
+    None
 }
 
 // Sixteen descriptions, each a byte of two words, the lowest first.

@@ -3,15 +3,15 @@
 #![tactic(auto)]
 
 ghost use Rattle.std.specs.Prelude.{◌≡◌, length};
-ghost use Rattle.effect.specs.Effect.{effect_words};
-ghost use Rattle.events.specs.Outcome.{said};
 ghost use Rattle.events.specs.Submit.{fdwrite_args, fdread_args};
-ghost use Rattle.step.specs.Does.{Does};
+ghost use Rattle.step.specs.Does.{answer_of, effects_of, Does};
 ghost use Rattle.events.specs.Event.{on, fdwrite, fdread};
 
-use answer::Answer;
+use answer::Refusal;
+use opcode::Opcode;
 use schemev2::Args;
 use step::Step;
+use user_args::CallerCtx;
 
 fn send_args(number: u64, flags: u64, metadata: &[u64], fds: &[u64]) -> Args
     ensures { result ≡ fdwrite_args number flags metadata.now fds.now }
@@ -38,15 +38,13 @@ pub fn kfdwrite(
     caller: u32,
     number: u64,
     flags: u64,
-    uid: u32,
-    gid: u32,
-    pid: u64,
-) -> Step
-    ensures { Does s.old s.new (on (fdwrite caller number flags metadata.now uid gid pid fds.now)) (said result.answer) (effect_words result.effect) }
+    ctx: CallerCtx,
+) -> Result<Step, Refusal>
+    ensures { Does s.old s.new (on (fdwrite caller number flags metadata.now ctx.uid ctx.gid ctx.pid fds.now)) (answer_of result) (effects_of result) }
 {
     let args = send_args(number, flags, metadata, fds);
-    let op = opcode::sendfd() as u64;
-    call::call(s, fds, caller, op, args, uid, gid, pid)
+    let op = Opcode::Sendfd.raw() as u64;
+    call::call(s, fds, caller, op, args, ctx)
 }
 
 // The length is looked at first, before a slot is looked for.
@@ -57,16 +55,14 @@ pub fn kfdread(
     number: u64,
     len: u64,
     flags: u64,
-    uid: u32,
-    gid: u32,
-    pid: u64,
-) -> Step
-    ensures { Does s.old s.new (on (fdread caller number len flags metadata.now uid gid pid)) (said result.answer) (effect_words result.effect) }
+    ctx: CallerCtx,
+) -> Result<Step, Refusal>
+    ensures { Does s.old s.new (on (fdread caller number len flags metadata.now ctx.uid ctx.gid ctx.pid)) (answer_of result) (effects_of result) }
 {
     if len % 8 != 0 {
-        return step::answered(Answer::Invalid);
+        return Err(Refusal::Invalid);
     }
     let args = recv_args(number, len, flags, metadata);
-    let op = opcode::recvfd() as u64;
-    call::call(s, &[], caller, op, args, uid, gid, pid)
+    let op = Opcode::Recvfd.raw() as u64;
+    call::call(s, &[], caller, op, args, ctx)
 }

@@ -2,12 +2,11 @@
 #![tactic(auto)]
 
 ghost use Rattle.std.specs.Prelude.{◌≡◌, Some};
-ghost use Rattle.listing_line.specs.Line.{line_of, shown_result, bad_of, num_of, shown_of};
+ghost use Rattle.listing_line.specs.Line.{line_of, shown_result, shown_of};
 ghost use Rattle.listing_line.specs.Text.{word_text, line_text};
 ghost use Rattle.schemev2.specs.Entry.{cqe_of};
 
-use error::Result;
-use parse_cqe::ParsedCqe;
+use parse_cqe::{CqeError, ParsedCqe};
 use std::fmt;
 
 #[derive(Clone, Copy, Debug, PartialEq, Eq)]
@@ -59,68 +58,36 @@ impl fmt::Display for Line {
     }
 }
 
-fn shown_result(res: Result) -> Shown
+fn shown_result(res: error::Result) -> Shown
     ensures { result ≡ shown_result res }
 {
     match res {
-        Result::Ok(value) => Shown {
+        Ok(value) => Shown {
             word: Word::Ok,
-            value: value,
+            value,
         },
-        Result::Err(_) => Shown {
+        Err(error) => Shown {
             word: Word::Err,
-            value: res.number(),
+            value: error.number(),
         },
-    }
-}
-
-fn bad(parsed: ParsedCqe) -> Shown
-    ensures { result ≡ bad_of parsed }
-{
-    Shown {
-        word: Word::Bad,
-        value: parsed.number(),
-    }
-}
-
-fn num(res: u64) -> Shown
-    ensures { result ≡ num_of res }
-{
-    Shown {
-        word: Word::Num,
-        value: res,
     }
 }
 
 // The word and the value: of a regular response its result, of a refused entry its number, else the result word.
-fn shown_parsed(parsed: ParsedCqe, outcome: u64) -> Shown
+fn shown_parsed(parsed: Result<ParsedCqe, CqeError>, outcome: u64) -> Shown
     ensures { result ≡ shown_of parsed outcome }
 {
     match parsed {
-        ParsedCqe::TriggerFevent {
-            number: _,
-            flags: _,
-        } => num(outcome),
-        ParsedCqe::RegularResponse {
-            tag: _,
-            res,
-            extra0: _,
-        } => shown_result(res),
-        ParsedCqe::ResponseWithFd { tag: _, fd: _ } => num(outcome),
-        ParsedCqe::ResponseWithMultipleFds { tag: _, num_fds: _ } => num(outcome),
-        ParsedCqe::ObtainFd {
-            tag: _,
-            flags: _,
-            dst_fd_or_ptr: _,
-        } => num(outcome),
-        ParsedCqe::RespondAndNotifyOnDetach {
-            tag: _,
-            res,
-            extra0: _,
-        } => shown_result(res),
-        ParsedCqe::UnknownKind => bad(parsed),
-        ParsedCqe::UnknownEventFlags => bad(parsed),
-        ParsedCqe::UnknownObtainFlags => bad(parsed),
+        Ok(ParsedCqe::RegularResponse { res, .. }) => shown_result(res),
+        Ok(ParsedCqe::RespondAndNotifyOnDetach { res, .. }) => shown_result(res),
+        Ok(_) => Shown {
+            word: Word::Num,
+            value: outcome,
+        },
+        Err(_) => Shown {
+            word: Word::Bad,
+            value: parse_cqe::number(parsed),
+        },
     }
 }
 

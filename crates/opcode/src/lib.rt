@@ -1,116 +1,98 @@
-// The opcodes of submission entries: `Opcode::try_from_raw` (syscall/src/schemev2.rs, lines 168 to 212).
+// The opcodes of submission entries: `Opcode::try_from_raw` (syscall/src/schemev2.rs, lines 126 to 212).
 #![tactic(auto)]
 
 ghost use Rattle.std.specs.Prelude.{◌≡◌};
-ghost use Rattle.opcode.specs.Opcodes.{opcode_of, sendfd, request_mmap, cancel, close_msg, call, recvfd, std_fs_call, detach};
+ghost use Rattle.opcode.specs.Opcodes.{opcode_of, raw_of, raw_in};
 
-// The Rust's `enum Opcode`, in its order.
-const OPCODES: [u8; 32] = [
-    3, // Close
-    4, // Dup
-    5, // Read
-    6, // Write
-    7, // Fsize
-    8, // Fchmod
-    9, // Fchown
-    10, // Fcntl
-    11, // Fevent
-    12, // Sendfd
-    13, // Fpath
-    14, // Frename
-    15, // Fstat
-    16, // Fstatvfs
-    17, // Fsync
-    18, // Ftruncate
-    19, // Futimens
-    20, // MmapPrep
-    21, // RequestMmap
-    22, // Mremap
-    23, // Munmap
-    24, // Msync
-    25, // Cancel
-    26, // Getdents
-    27, // CloseMsg
-    28, // Call
-    29, // OpenAt
-    30, // Flink
-    31, // Recvfd
-    32, // UnlinkAt
-    33, // StdFsCall
-    34, // Detach
+// The Rust's `enum Opcode`.
+#[derive(Clone, Copy, Debug, PartialEq, Eq)]
+pub enum Opcode {
+    Close = 3,
+    Dup = 4,
+    Read = 5,
+    Write = 6,
+    Fsize = 7,
+    Fchmod = 8,
+    Fchown = 9,
+    Fcntl = 10,
+    Fevent = 11,
+    Sendfd = 12,
+    Fpath = 13,
+    Frename = 14,
+    Fstat = 15,
+    Fstatvfs = 16,
+    Fsync = 17,
+    Ftruncate = 18,
+    Futimens = 19,
+    MmapPrep = 20,
+    RequestMmap = 21,
+    Mremap = 22,
+    Munmap = 23,
+    Msync = 24,
+    Cancel = 25,
+    Getdents = 26,
+    CloseMsg = 27,
+    Call = 28,
+    OpenAt = 29,
+    Flink = 30,
+    Recvfd = 31,
+    UnlinkAt = 32,
+    StdFsCall = 33,
+    Detach = 34,
+}
+
+// The one table of them, in the enum's order: they rise one by one, so that a number's place is its distance from the first.
+const OPCODES: [Opcode; 32] = [
+    Opcode::Close,
+    Opcode::Dup,
+    Opcode::Read,
+    Opcode::Write,
+    Opcode::Fsize,
+    Opcode::Fchmod,
+    Opcode::Fchown,
+    Opcode::Fcntl,
+    Opcode::Fevent,
+    Opcode::Sendfd,
+    Opcode::Fpath,
+    Opcode::Frename,
+    Opcode::Fstat,
+    Opcode::Fstatvfs,
+    Opcode::Fsync,
+    Opcode::Ftruncate,
+    Opcode::Futimens,
+    Opcode::MmapPrep,
+    Opcode::RequestMmap,
+    Opcode::Mremap,
+    Opcode::Munmap,
+    Opcode::Msync,
+    Opcode::Cancel,
+    Opcode::Getdents,
+    Opcode::CloseMsg,
+    Opcode::Call,
+    Opcode::OpenAt,
+    Opcode::Flink,
+    Opcode::Recvfd,
+    Opcode::UnlinkAt,
+    Opcode::StdFsCall,
+    Opcode::Detach,
 ];
 
-// What a number names.
-#[derive(Clone, Copy)]
-pub enum RawOpcode {
-    Opcode(u8),
-    Unknown,
-}
-
-// The table decides: its opcodes rise one by one, so that a number's place is its distance from the first.
-pub fn try_from_raw(raw: u64) -> RawOpcode
-    ensures { result ≡ opcode_of raw }
-{
-    let first = OPCODES[0] as u64;
-    if raw < first {
-        return RawOpcode::Unknown;
+impl Opcode {
+    // The opcode that a number is, if it is one: the table decides.
+    pub fn try_from_raw(raw: u64) -> Option<Opcode>
+        ensures { raw_in result ≡ opcode_of raw }
+    {
+        let n = raw.checked_sub(OPCODES[0] as u64)?;
+        if 32 <= n {
+            return None;
+        }
+        Some(OPCODES[n as usize])
     }
-    let n = raw - first;
-    if 32 <= n {
-        return RawOpcode::Unknown;
+
+    // Its number, as an entry has it.
+    pub fn raw(self) -> u8
+        ensures { result ≡ raw_of self }
+    {
+        self as u8
     }
-    let op = OPCODES[n as usize];
-    if op as u64 != raw {
-        return RawOpcode::Unknown;
-    }
-    RawOpcode::Opcode(op)
-}
-
-// The opcodes of the layer's own entries.
-pub fn sendfd() -> u8
-    ensures { result ≡ sendfd }
-{
-    OPCODES[9]
-}
-
-pub fn request_mmap() -> u8
-    ensures { result ≡ request_mmap }
-{
-    OPCODES[18]
-}
-
-pub fn cancel() -> u8
-    ensures { result ≡ cancel }
-{
-    OPCODES[22]
-}
-
-pub fn close_msg() -> u8
-    ensures { result ≡ close_msg }
-{
-    OPCODES[24]
-}
-
-pub fn call() -> u8
-    ensures { result ≡ call }
-{
-    OPCODES[25]
-}
-
-pub fn recvfd() -> u8
-    ensures { result ≡ recvfd }
-{
-    OPCODES[28]
-}
-
-pub fn std_fs_call() -> u8
-    ensures { result ≡ std_fs_call }
-{
-    OPCODES[30]
-}
-
-pub fn detach() -> u8
-    ensures { result ≡ detach }
-{
-    OPCODES[31]
 }

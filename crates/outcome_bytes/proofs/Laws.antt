@@ -7,9 +7,13 @@ use native.Mathlib.Omega.{arith}
 use lib.ListN.{length, length-append}
 use lib.Seq.{sets}
 use borrow.Author.Tests.{eq-eqb, ne_eqb}
-use Rattle.answer.specs.declared.Answer.{Answer as Case}
+use Rattle.std.specs.Prelude.{Option, Some, None, Result, Ok, Err}
+use Rattle.answer.specs.declared.Accepted.{Accepted}
+use Rattle.answer.specs.declared.Refusal.{Refusal}
 use Rattle.effect.specs.declared.Effect.{Effect}
-use Rattle.effect.specs.Effect.{effect_words}
+use Rattle.effect.specs.declared.Effect.TheVariants.{Wake, Event, Root}
+use Rattle.effect.specs.declared.EffectWords.{EffectWords}
+use Rattle.effect.specs.Effect.{effect_words, effect_of}
 use Rattle.fd_list.specs.declared.List.{List as Fds}
 use Rattle.fd_list.specs.Lists.{numbers}
 use Rattle.slot.specs.declared.Reply.{Reply}
@@ -17,27 +21,34 @@ use Rattle.status.specs.Status.{bit}
 use Rattle.answer_words.specs.declared.AnswerWords.{AnswerWords}
 use Rattle.answer_words.specs.Words.{words_of}
 use Rattle.answer_words.proofs.Laws.{with_reply}
-use Rattle.events.specs.Outcome.{Response, success, many, Answer, ok, no, wait, blocked, reply, said_with, said}
+use Rattle.events.specs.Outcome.{Response, success, many, Answer, ok, no, wait, blocked, reply, said}
 use Rattle.events.specs.Wake.{response_by, response_from}
+use Rattle.step.specs.declared.Step.{Step}
+use Rattle.step.specs.Does.{answer_with}
 use Rattle.outcome_bytes.specs.Output.{answer_words, told}
 use Rattle.le.specs.Le.{bytes8, bytes_of}
 use Rattle.word_put.proofs.Stores.{two_runs}
 use Rattle.wait_queue.proofs.Unread.{length_bytes}
 
--- effects behind their number
-abbrev pub Counted : List ℕ → List ℕ → ℕ → ℕ → List ℕ → Type 0
-Counted l n at k fx = (n ≡ sets l at (bytes_of (length fx ∷ fx))) × ((k ≡ length (bytes_of (length fx ∷ fx))) × (k ≤ 32))
-
-pub no_effect : (e : Effect) (l n : List ℕ) (at : ℕ) → e.kind ≡ 0 → n ≡ sets l at (bytes8 0) → Counted l n at 8 (effect_words e)
-no_effect e l n at z p =
-    subst (λ (b : Bool). Counted l n at 8 (cond b [] (e.kind ∷ e.a ∷ e.b ∷ []))) (sym (eq-eqb e.kind 0 z)) (p, (refl, omega arith))
-
+-- an effect's three words behind their number
 pub one_effect :
-    (e : Effect) (l m n : List ℕ) (at : ℕ) → (e.kind ≡ 0 → ⊥) → m ≡ sets l at (bytes_of (3 ∷ e.kind ∷ [])) → n ≡ sets m (at + 16) (bytes_of (e.a ∷ e.b ∷ []))
-    → Counted l n at 32 (effect_words e)
-one_effect e l m n at z p q =
-    subst (λ (b : Bool). Counted l n at 32 (cond b [] (e.kind ∷ e.a ∷ e.b ∷ []))) (sym (ne_eqb e.kind 0 z))
-    (two_runs l m n (bytes_of (3 ∷ e.kind ∷ [])) (bytes_of (e.a ∷ e.b ∷ [])) at (at + 16) p refl q, (refl, omega arith))
+    (e : Option Effect) (x : Effect) → e ≡ Some x → (w : EffectWords) → w ≡ effect_of (effect_words e) → (l m n : List ℕ) (at : ℕ)
+    → m ≡ sets l at (bytes_of (3 ∷ w.kind ∷ [])) → n ≡ sets m (at + 16) (bytes_of (w.a ∷ w.b ∷ []))
+    → (n ≡ sets l at (bytes_of (length (effect_words e) ∷ effect_words e))) × (32 ≡ length (bytes_of (length (effect_words e) ∷ effect_words e)))
+one_effect e x q w ew l m n at p r =
+    subst (λ (y : Option Effect). (n ≡ sets l at (bytes_of (length (effect_words y) ∷ effect_words y))) × (32 ≡ length (bytes_of (length (effect_words y) ∷ effect_words y)))) (sym q)
+    (go x (p ∙ ap (λ (y : EffectWords). sets l at (bytes_of (3 ∷ y.kind ∷ []))) f) (r ∙ ap (λ (y : EffectWords). sets m (at + 16) (bytes_of (y.a ∷ y.b ∷ []))) f))
+  where
+    f : w ≡ effect_of (effect_words (Some x))
+    f = ew ∙ ap (λ (y : Option Effect). effect_of (effect_words y)) q
+
+    go :
+        (y : Effect) → m ≡ sets l at (bytes_of (3 ∷ (effect_of (effect_words (Some y))).kind ∷ []))
+        → n ≡ sets m (at + 16) (bytes_of ((effect_of (effect_words (Some y))).a ∷ (effect_of (effect_words (Some y))).b ∷ []))
+        → (n ≡ sets l at (bytes_of (length (effect_words (Some y)) ∷ effect_words (Some y)))) × (32 ≡ length (bytes_of (length (effect_words (Some y)) ∷ effect_words (Some y))))
+    go (Wake c t) a b = (two_runs l m n (bytes_of (3 ∷ 1 ∷ [])) (bytes_of (c ∷ t ∷ [])) at (at + 16) a refl b, refl)
+    go (Event k g) a b = (two_runs l m n (bytes_of (3 ∷ 4 ∷ [])) (bytes_of (k ∷ g ∷ [])) at (at + 16) a refl b, refl)
+    go (Root k g) a b = (two_runs l m n (bytes_of (3 ∷ 5 ∷ [])) (bytes_of (k ∷ g ∷ [])) at (at + 16) a refl b, refl)
 
 -- the effect and no bytes, behind what stands before them
 pub rest_runs :
@@ -126,15 +137,18 @@ two_words wait z = refl
 two_words blocked z = refl
 two_words (reply r) z = absurd (z refl)
 
-module _ (w : AnswerWords) (r : Response) (a : Case) (p : w ≡ words_of (said_with r a)) where
-  pub plain_words : (w.kind ≡ 4 → ⊥) → (w.kind ∷ w.value ∷ []) ≡ answer_words (said_with r a)
-  plain_words z = ap (λ (x : AnswerWords). x.kind ∷ x.value ∷ []) p ∙ two_words (said_with r a) (λ e. z (ap (λ (x : AnswerWords). x.kind) p ∙ e))
+module _ (w : AnswerWords) (x : Answer) (p : w ≡ words_of x) where
+  pub plain_words : (w.kind ≡ 4 → ⊥) → (w.kind ∷ w.value ∷ []) ≡ answer_words x
+  plain_words z = ap (λ (y : AnswerWords). y.kind ∷ y.value ∷ []) p ∙ two_words x (λ e. z (ap (λ (y : AnswerWords). y.kind) p ∙ e))
 
-  pub reply_words : w.kind ≡ 4 → answer_words (reply r) ≡ answer_words (said_with r a)
-  reply_words e = ap answer_words (sym (with_reply r a w p e))
+  -- a reply handed over by an event that has none
+  pub blank_words : w.kind ≡ 4 → x ≡ reply (success 0 0 false) → (w.kind ∷ w.value ∷ 0 ∷ 0 ∷ []) ≡ answer_words x
+  blank_words e h = ap (λ (y : AnswerWords). y.kind ∷ y.value ∷ 0 ∷ 0 ∷ []) (p ∙ ap words_of h) ∙ ap answer_words (sym h)
 
--- a reply handed over by an event that has none
-pub blank_words : (w : AnswerWords) (a : Case) → w ≡ words_of (said a) → w.kind ≡ 4 → (w.kind ∷ w.value ∷ 0 ∷ 0 ∷ []) ≡ answer_words (said a)
-blank_words w a p e =
-    let h : said a ≡ reply (success 0 0 false) = with_reply (success 0 0 false) a w p e in
-    ap (λ (x : AnswerWords). x.kind ∷ x.value ∷ 0 ∷ 0 ∷ []) (p ∙ ap words_of h) ∙ ap answer_words (sym h)
+pub reply_words : (w : AnswerWords) (r : Response) (s : Result Step Refusal) → w ≡ words_of (answer_with r s) → w.kind ≡ 4 → answer_words (reply r) ≡ answer_words (answer_with r s)
+reply_words w r s p e = ap answer_words (sym (with_reply r s w p e))
+
+-- no event but a wake hands a reply over
+pub blank : (w : AnswerWords) (a : Result Accepted Refusal) → w ≡ words_of (said a) → w.kind ≡ 4 → (w.kind ∷ w.value ∷ 0 ∷ 0 ∷ []) ≡ answer_words (said a)
+blank w (Ok x) p e = blank_words w (said (Ok x)) p e (with_reply (success 0 0 false) (Ok (record { accepted = x; effect = None })) w p e)
+blank w (Err k) p e = blank_words w (said (Err k)) p e (with_reply (success 0 0 false) (Err k) w p e)

@@ -7,11 +7,12 @@ ghost use Rattle.std.proofs.lemmas.List.Edits.{sets};
 ghost use Rattle.fd_list.specs.Lists.{numbers};
 ghost use Rattle.le.specs.Le.{bytes_of};
 ghost use Rattle.effect.specs.Effect.{effect_words};
-ghost use Rattle.events.specs.Outcome.{reply as replied, said_with, said};
+ghost use Rattle.events.specs.Outcome.{Response, reply as replied, said_with, said};
+ghost use Rattle.step.specs.Does.{answer_of, answer_with, effects_of};
 ghost use Rattle.events.specs.Wake.{response_from};
 ghost use Rattle.outcome_bytes.specs.Output.{answer_words, told};
 
-use answer::Answer;
+use answer::{Answer, Refusal};
 use effect::Effect;
 use fd_list::List;
 use slot::Reply;
@@ -27,20 +28,24 @@ fn put_fds(out: &mut [u8], at: usize, l: List)
 }
 
 // An effect's words behind their number; says how many bytes.
-fn put_effect(out: &mut [u8], at: usize, e: Effect) -> usize
+fn put_effect(out: &mut [u8], at: usize, e: Option<Effect>) -> usize
     requires { at ≤ 0x1_0000 }
     ensures out_after { out.new ≡ sets out.old at (bytes_of (length (effect_words e) ∷ effect_words e)) }
     ensures value { result ≡ length (bytes_of (length (effect_words e) ∷ effect_words e)) }
     ensures upper_bound { result ≤ 32 }
 {
-    let kind = e.kind;
-    if kind == 0 {
-        le_put::put8(out, at, 0);
-        return 8;
+    match e {
+        None => {
+            le_put::put8(out, at, 0);
+            8
+        }
+        Some(_) => {
+            let w = effect::words(e);
+            le_put::put_two(out, at, 3, w.kind);
+            le_put::put_two(out, at + 16, w.a, w.b);
+            32
+        }
     }
-    le_put::put_two(out, at, 3, kind);
-    le_put::put_two(out, at + 16, e.a, e.b);
-    32
 }
 
 // A reply's words from the first on; says how many bytes.
@@ -66,7 +71,7 @@ fn put_reply(out: &mut [u8], r: Reply, fds: List) -> usize
 }
 
 // The effect, and that no byte was read; says where it ends.
-fn put_rest(out: &mut [u8], at: usize, e: Effect) -> usize
+fn put_rest(out: &mut [u8], at: usize, e: Option<Effect>) -> usize
     requires { at ≤ 0x1_0000 }
     ensures out_after { out.new ≡ sets out.old at (bytes_of (length (effect_words e) ∷ effect_words e) ++ bytes_of (0 ∷ [])) }
     ensures value { result ≡ at + length (bytes_of (length (effect_words e) ∷ effect_words e) ++ bytes_of (0 ∷ [])) }
@@ -92,27 +97,37 @@ pub fn put_answer(out: &mut [u8], a: Answer) -> usize
     16
 }
 
+// The answer of what an event's function returns, and its effect.
+fn answer_in(done: Result<Step, Refusal>) -> Answer
+    ensures { (r : Response) → said_with r result ≡ answer_with r done }
+{
+    done.map(|step| step.accepted)
+}
+
+fn effect_in(done: Result<Step, Refusal>) -> Option<Effect>
+    ensures { effect_words result ≡ effects_of done }
+{
+    done.ok()?.effect
+}
+
 // An event with at most one effect.
-pub fn put_step(out: &mut [u8], done: Step) -> usize
-    ensures out_after { out.new ≡ sets out.old 0 (told (said done.answer) (effect_words done.effect) []) }
-    ensures value { result ≡ length (told (said done.answer) (effect_words done.effect) []) }
+pub fn put_step(out: &mut [u8], done: Result<Step, Refusal>) -> usize
+    ensures out_after { out.new ≡ sets out.old 0 (told (answer_of done) (effects_of done) []) }
+    ensures value { result ≡ length (told (answer_of done) (effects_of done) []) }
     ensures upper_bound { result ≤ 192 }
 {
-    let a = done.answer;
-    let e = done.effect;
-    let k = put_answer(out, a);
-    put_rest(out, k, e)
+    let k = put_answer(out, answer_in(done));
+    put_rest(out, k, effect_in(done))
 }
 
 // A wake: its reply, where one was handed over.
-pub fn put_woken(out: &mut [u8], done: Step, r: Reply, fds: List) -> usize
-    ensures out_after { out.new ≡ sets out.old 0 (told (said_with (response_from r fds) done.answer) (effect_words done.effect) []) }
-    ensures value { result ≡ length (told (said_with (response_from r fds) done.answer) (effect_words done.effect) []) }
+pub fn put_woken(out: &mut [u8], done: Result<Step, Refusal>, r: Reply, fds: List) -> usize
+    ensures out_after { out.new ≡ sets out.old 0 (told (answer_with (response_from r fds) done) (effects_of done) []) }
+    ensures value { result ≡ length (told (answer_with (response_from r fds) done) (effects_of done) []) }
     ensures upper_bound { result ≤ 192 }
 {
-    let a = done.answer;
-    let e = done.effect;
-    let w = answer_words::words(a);
+    let e = effect_in(done);
+    let w = answer_words::words(answer_in(done));
     if w.kind == 4 {
         let k = put_reply(out, r, fds);
         return put_rest(out, k, e);

@@ -30,7 +30,8 @@ use Rattle.slot.specs.declared.Slot.{Slot}
 use Rattle.slot.specs.Slots.{phase_of, no_fds, vacant_slot, placeholder_of, waiting_of, map_request_of, ended_of, with_fds_of}
 use Rattle.table.specs.declared.Table.{Table}
 use Rattle.table.specs.Table.{no_slot, put_at, given_out, vacate_at, stored, vacated}
-use Rattle.take_holds.specs.declared.TakeAnswer.TheVariants as take
+use Rattle.std.specs.Prelude.{Ok, Err}
+use Rattle.answer.specs.declared.Refusal.TheVariants.{BadArgument, TooManyFds}
 use Rattle.take_holds.specs.Take.{taken_as, bad}
 use Rattle.events.specs.World.{World, table_of, holds_of, handles_of, slot_in, phase_in, with_table, with_handles, table_with, queue_full, queued}
 use Rattle.events.specs.Outcome.{Outcome, outcome, Row, checked, refuse}
@@ -90,7 +91,7 @@ taken_all w ds = go (any (bad (holds_of w) ds) ds) (ltb 16 (length ds))
   where
     go :
         (a b : Bool)
-        → let h : Holds = (cond a (taken_as take.BadArgument [] (holds_of w)) (cond b (taken_as take.TooMany [] (holds_of w)) (taken_as take.Taken ds (holds_with (holds_of w).holds (less_all (holds_of w).outside ds))))).holds in
+        → let h : Holds = (cond a (taken_as (Err BadArgument) (holds_of w)) (cond b (taken_as (Err TooManyFds) (holds_of w)) (taken_as (Ok (list_of ds)) (holds_with (holds_of w).holds (less_all (holds_of w).outside ds))))).holds in
         h ≡ holds_with (holds_of w).holds h.outside
     go true b = refl
     go false true = refl

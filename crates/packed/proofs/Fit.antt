@@ -9,10 +9,10 @@ use lib.Dec.{ltb, eqb}
 use lib.ListN.{get_or, set, take, drop, length, length-set, length-drop}
 use lib.Seq.{sets, get_or-drop}
 use borrow.Author.Tests.{ltb-true, ltb-false}
-use Rattle.answer.specs.declared.Answer.TheVariants.{Done, BadArgument, TooManyHolds}
+use Rattle.answer.specs.declared.Accepted.TheVariants.{Done}
+use Rattle.answer.specs.declared.Refusal.TheVariants.{BadArgument, TooManyHolds}
 use Rattle.counts.specs.Counts.{any, more, less_all, times}
 use Rattle.counts.proofs.Laws.{less_length, less_all_length, more_length, more_all_length}
-use Rattle.error.specs.declared.Result.TheVariants.{Ok, Err}
 use Rattle.fd_list.specs.declared.List.{List as Fds}
 use Rattle.fd_list.specs.Lists.{desc, num, numbers, blank, list_of, rest_of}
 use Rattle.fd_list.proofs.Laws.{list_of_length, numbers_most}
@@ -21,12 +21,13 @@ use Rattle.handles.specs.Handles.{Gained, into, emptied, is_free, obtain_by, obt
 use Rattle.holds.specs.declared.Holds.{Holds}
 use Rattle.holds.specs.Holds.{holds_with, unheld}
 use Rattle.flag.specs.Flags.{within, event_flags, fobtain_fd_flags}
-use Rattle.host_holds.specs.Host.{one_more, one_fewer, opened_as, open_of, copied_as, copy_of, dropped_as, drop_of}
+use Rattle.host_holds.specs.Host.{one_more, one_fewer, left_as, open_of, copy_of, drop_of}
 use Rattle.host_put.specs.declared.HoldPut.{HoldPut}
 use Rattle.host_put.specs.Put.{inside, put as put-hold}
 use Rattle.ids.specs.declared.Description.{Description}
 use Rattle.parse_cqe.specs.declared.ParsedCqe.{ParsedCqe}
 use Rattle.parse_cqe.specs.declared.ParsedCqe.TheVariants as parsed
+use Rattle.parse_cqe.specs.declared.CqeError.{CqeError}
 use Rattle.parse_cqe.specs.Parsed.{event_if, obtain_if, parsed_by, parsed_of}
 use Rattle.schemev2.specs.declared.Cqe.{Cqe}
 use Rattle.schemev2.specs.declared.CqeOpcode.{CqeOpcode}
@@ -41,7 +42,8 @@ use Rattle.slot.specs.declared.Reply.{Reply}
 use Rattle.slot.specs.declared.Slot.{Slot}
 use Rattle.slot.specs.Slots.{phase_of, vacant_slot, made_of, ended_of, with_fds_of}
 use Rattle.table.specs.Table.{no_slot}
-use Rattle.take_holds.specs.declared.TakeAnswer.TheVariants as take
+use Rattle.std.specs.Prelude.{Ok, Err, Option, Some, None, Result}
+use Rattle.answer.specs.declared.Refusal.TheVariants.{BadArgument, TooManyFds}
 use Rattle.take_holds.specs.Take.{taken_as, bad}
 use Rattle.events.specs.World.{World, table_of, holds_of, handles_of, slot_in, queue_full}
 use Rattle.events.specs.Outcome.{Row}
@@ -136,16 +138,14 @@ kept_fits v (result r x b) f = none_fits
 kept_fits v (one d) f = none_fits
 kept_fits v listed f = f
 
-abbrev ParsedFits : ParsedCqe → Type 0
-ParsedFits (parsed.TriggerFevent number flags) = Unit {0}
-ParsedFits (parsed.RegularResponse t r x) = x < 256
-ParsedFits (parsed.ResponseWithFd t k) = Unit {0}
-ParsedFits (parsed.ResponseWithMultipleFds t c) = Unit {0}
-ParsedFits (parsed.ObtainFd t flags k) = Unit {0}
-ParsedFits (parsed.RespondAndNotifyOnDetach t r x) = x < 256
-ParsedFits parsed.UnknownKind = Unit {0}
-ParsedFits parsed.UnknownEventFlags = Unit {0}
-ParsedFits parsed.UnknownObtainFlags = Unit {0}
+abbrev ParsedFits : Result ParsedCqe CqeError → Type 0
+ParsedFits (Ok (parsed.TriggerFevent number flags)) = Unit {0}
+ParsedFits (Ok (parsed.RegularResponse t r x)) = x < 256
+ParsedFits (Ok (parsed.ResponseWithFd t k)) = Unit {0}
+ParsedFits (Ok (parsed.ResponseWithMultipleFds t c)) = Unit {0}
+ParsedFits (Ok (parsed.ObtainFd t flags k)) = Unit {0}
+ParsedFits (Ok (parsed.RespondAndNotifyOnDetach t r x)) = x < 256
+ParsedFits (Err e) = Unit {0}
 
 pub record DecisionFits (d : Decision) : Type 0 where
   pub slot : SlotFits d.slot
@@ -209,16 +209,14 @@ module _ (v : Slot) (h : Holds) (fv : SlotFits v) (fa : length h.holds ≡ 64) (
         checked_cases DecisionFits (refused_of v h n) (obtain_rows v) (obtained v k h n) refused_fits
         (λ p. record { slot = fds_changed v _ fv g.0; all = g.1; outside = g.2; handles = g.3 })
 
-    decision_fits : (p : ParsedCqe) → ParsedFits p → DecisionFits (decision_of p v h n)
-    decision_fits (parsed.TriggerFevent number flags) f = record { slot = fv; all = fa; outside = fo; handles = fn }
-    decision_fits (parsed.RegularResponse t r x) f = respond_fits (phase_of v) (refused_of v h n) t.0 (result r x false) n refused_fits f fn
-    decision_fits (parsed.ResponseWithFd t k) f = descriptor_fits t.0 k.0
-    decision_fits (parsed.ResponseWithMultipleFds t c) f = respond_fits (phase_of v) (refused_of v h n) t.0 listed n refused_fits tt fn
-    decision_fits (parsed.ObtainFd t flags k) f = obtain_fits k.0
-    decision_fits (parsed.RespondAndNotifyOnDetach t r x) f = respond_fits (phase_of v) (refused_of v h n) t.0 (result r x true) n refused_fits f fn
-    decision_fits parsed.UnknownKind f = refused_fits 22
-    decision_fits parsed.UnknownEventFlags f = refused_fits 22
-    decision_fits parsed.UnknownObtainFlags f = refused_fits 22
+    decision_fits : (p : Result ParsedCqe CqeError) → ParsedFits p → DecisionFits (decision_of p v h n)
+    decision_fits (Ok (parsed.TriggerFevent number flags)) f = record { slot = fv; all = fa; outside = fo; handles = fn }
+    decision_fits (Ok (parsed.RegularResponse t r x)) f = respond_fits (phase_of v) (refused_of v h n) t.0 (result r x false) n refused_fits f fn
+    decision_fits (Ok (parsed.ResponseWithFd t k)) f = descriptor_fits t.0 k.0
+    decision_fits (Ok (parsed.ResponseWithMultipleFds t c)) f = respond_fits (phase_of v) (refused_of v h n) t.0 listed n refused_fits tt fn
+    decision_fits (Ok (parsed.ObtainFd t flags k)) f = obtain_fits k.0
+    decision_fits (Ok (parsed.RespondAndNotifyOnDetach t r x)) f = respond_fits (phase_of v) (refused_of v h n) t.0 (result r x true) n refused_fits f fn
+    decision_fits (Err e) f = refused_fits 22
 
 -- what it asks for
 parsed_fits : (e : Cqe) → e.extra_raw.0 < 256 → ParsedFits (parsed_of e)
@@ -232,14 +230,14 @@ parsed_fits e h = go (cqe_opcode_of (kind_of e))
     obtaining true = tt
     obtaining false = tt
 
-    go : (k : CqeOpcode) → ParsedFits (parsed_by k e)
-    go kind.RespondRegular = h
-    go kind.RespondWithFd = tt
-    go kind.SendFevent = event (within event_flags e.tag)
-    go kind.ObtainFd = obtaining (within fobtain_fd_flags (extra_of e))
-    go kind.RespondWithMultipleFds = tt
-    go kind.RespondAndNotifyOnDetach = h
-    go kind.Unknown = tt
+    go : (k : Option CqeOpcode) → ParsedFits (parsed_by k e)
+    go (Some kind.RespondRegular) = h
+    go (Some kind.RespondWithFd) = tt
+    go (Some kind.SendFevent) = event (within event_flags e.tag)
+    go (Some kind.ObtainFd) = obtaining (within fobtain_fd_flags (extra_of e))
+    go (Some kind.RespondWithMultipleFds) = tt
+    go (Some kind.RespondAndNotifyOnDetach) = h
+    go None = tt
 
 pub append_fits : (ss ts : List Store) → StoresFit ss → StoresFit ts → StoresFit (ss ++ ts)
 append_fits [] ts f g = g
@@ -270,7 +268,7 @@ module _ (w : World) (f : Fits w) where
     where
       go :
           (a b : Bool)
-          → length (cond a (taken_as take.BadArgument [] (holds_of w)) (cond b (taken_as take.TooMany [] (holds_of w)) (taken_as take.Taken ds (holds_with (holds_of w).holds (less_all (holds_of w).outside ds))))).holds.outside ≡ 64
+          → length (cond a (taken_as (Err BadArgument) (holds_of w)) (cond b (taken_as (Err TooManyFds) (holds_of w)) (taken_as (Ok (list_of ds)) (holds_with (holds_of w).holds (less_all (holds_of w).outside ds))))).holds.outside ≡ 64
       go true b = f.outside
       go false true = f.outside
       go false false = less_all_length ds (holds_of w).outside ∙ f.outside
@@ -330,14 +328,14 @@ module _ (w : World) (f : Fits w) where
   pub open_fits : (d : ℕ) → Counted (open_of (holds_of w) d).holds
   open_fits d = go (ltb 63 d || not (eqb (get_or (holds_of w).holds d 0) 0))
     where
-      go : (b : Bool) → Counted (cond b (opened_as BadArgument (holds_of w)) (opened_as Done (one_more (holds_of w) d))).holds
+      go : (b : Bool) → Counted (cond b (left_as (Err BadArgument) (holds_of w)) (left_as (Ok Done) (one_more (holds_of w) d))).holds
       go true = same_fits
       go false = more_fits d
 
   pub copy_fits : (d : ℕ) → Counted (copy_of (holds_of w) d).holds
   copy_fits d = go (unheld (holds_of w).holds (holds_of w).outside d) (eqb (get_or (holds_of w).holds d 0) 65535)
     where
-      go : (a b : Bool) → Counted (cond a (copied_as BadArgument (holds_of w)) (cond b (copied_as TooManyHolds (holds_of w)) (copied_as Done (one_more (holds_of w) d)))).holds
+      go : (a b : Bool) → Counted (cond a (left_as (Err BadArgument) (holds_of w)) (cond b (left_as (Err TooManyHolds) (holds_of w)) (left_as (Ok Done) (one_more (holds_of w) d)))).holds
       go true b = same_fits
       go false true = same_fits
       go false false = more_fits d
@@ -345,7 +343,7 @@ module _ (w : World) (f : Fits w) where
   pub drop_fits : (d : ℕ) → Counted (drop_of (holds_of w) d).holds
   drop_fits d = go (unheld (holds_of w).holds (holds_of w).outside d)
     where
-      go : (b : Bool) → Counted (cond b (dropped_as BadArgument (holds_of w)) (dropped_as Done (one_fewer (holds_of w) d))).holds
+      go : (b : Bool) → Counted (cond b (left_as (Err BadArgument) (holds_of w)) (left_as (Ok Done) (one_fewer (holds_of w) d))).holds
       go true = same_fits
       go false = counts_fit (one_fewer (holds_of w) d) (less_length (holds_of w).outside d ∙ f.outside) (less_length (holds_of w).holds d ∙ f.all)
 
@@ -354,7 +352,7 @@ module _ (w : World) (f : Fits w) where
     where
       go :
           (b : Bool)
-          → let r : HoldPut = cond b (put-hold BadArgument (handles_of w) (holds_of w)) (put-hold Done (into (handles_of w) k d) (inside (holds_of w) d)) in
+          → let r : HoldPut = cond b (put-hold (Err BadArgument) (handles_of w) (holds_of w)) (put-hold (Ok Done) (into (handles_of w) k d) (inside (holds_of w) d)) in
           StoresFit (counts r.holds ++ handles r.handles.at ∷ [])
       go true = (f.outside, (f.all, (f.handles, tt)))
       go false = (less_length (holds_of w).outside d ∙ f.outside, (f.all, (length-set (handles_of w).at k (suc d) ∙ f.handles, tt)))

@@ -1,4 +1,5 @@
 -- A refusal leaves every word as it was, but for the four cases that 01 names. Assumes nothing.
+use Rattle.std.specs.Prelude.{Option, Some, None, Ok, Err}
 use Prim.Native.Nat.{ℕ, zero, suc, ◌+◌, ◌*◌, ◌/◌}
 use mathlib.Core.Path.{◌≡◌, refl, sym, ap, ap₂, ◌∙◌}
 use mathlib.Core.Bool.{Bool, true, false, not, cond, ◌||◌}
@@ -8,7 +9,8 @@ use lib.Dec.{eqb, ltb}
 use lib.ListN.{get_or, set, length, drop}
 use lib.Seq.{set-get_or}
 use borrow.Author.Tests.{eqb-false}
-use Rattle.answer.specs.declared.Answer.TheVariants.{Done, BadArgument, TooManyHolds}
+use Rattle.answer.specs.declared.Accepted.TheVariants.{Done}
+use Rattle.answer.specs.declared.Refusal.TheVariants.{BadArgument, TooManyHolds}
 use Rattle.error.specs.Errors.{demux_of}
 use Rattle.fd_list.specs.Lists.{numbers, list_of}
 use Rattle.flag.specs.Flags.{within, event_read, event_hup, event_flags, fobtain_fd_flags}
@@ -16,7 +18,7 @@ use Rattle.handles.specs.declared.Handles.{Handles}
 use Rattle.handles.specs.Handles.{held_at, is_free, into, emptied}
 use Rattle.holds.specs.declared.Holds.{Holds}
 use Rattle.holds.specs.Holds.{unheld, outside_of}
-use Rattle.host_holds.specs.Host.{one_more, one_fewer, opened_as, copied_as, dropped_as}
+use Rattle.host_holds.specs.Host.{one_more, one_fewer, left_as}
 use Rattle.host_put.specs.declared.HoldPut.{HoldPut}
 use Rattle.host_put.specs.Put.{inside, put as put-hold}
 use Rattle.opcode.specs.Opcodes as opcode
@@ -24,7 +26,7 @@ use Rattle.parse_cqe.specs.Parsed.{event_if, obtain_if, parsed_by, parsed_of}
 use Rattle.schemev2.specs.declared.Args.{Args}
 use Rattle.schemev2.specs.declared.Cqe.{Cqe}
 use Rattle.schemev2.specs.declared.CqeOpcode.{CqeOpcode}
-use Rattle.schemev2.specs.declared.CqeOpcode.TheVariants.{RespondRegular, RespondWithFd, SendFevent, ObtainFd, RespondWithMultipleFds, RespondAndNotifyOnDetach, Unknown}
+use Rattle.schemev2.specs.declared.CqeOpcode.TheVariants.{RespondRegular, RespondWithFd, SendFevent, ObtainFd, RespondWithMultipleFds, RespondAndNotifyOnDetach}
 use Rattle.schemev2.specs.declared.Sqe.{Sqe}
 use Rattle.schemev2.specs.Entry.{kind_of, extra_of, cqe_of, cqe_opcode_of}
 use Rattle.slot.specs.declared.PageSpan.{PageSpan}
@@ -112,14 +114,14 @@ module _ (ws : List ℕ) (size : length ws ≡ 2060) where
       ∙ ap (λ (l : List ℕ). set l 970 (get_or ws 970 0)) (set-get_or ws 969 0) ∙ set-get_or ws 970 0
 
   -- the host's events on counts
-  counted : (b : Bool) (h : Holds) → Leaves none (said (cond b BadArgument Done)) (counts (cond b (holds_of w) h))
+  counted : (b : Bool) (h : Holds) → Leaves none (said (cond b (Err BadArgument) (Ok Done))) (counts (cond b (holds_of w) h))
   counted true h = same (no 205) (counts (holds_of w)) same_counts
   counted false h = went none (ok 0) (counts h) refl
 
   open_left : (d : ℕ) → Leaves none (step w (host_open d)).answer (stores_of w (host_open d))
   open_left d = go (ltb 63 d || not (eqb (get_or (holds_of w).holds d 0) 0))
     where
-      go : (b : Bool) → Leaves none (said (cond b (opened_as BadArgument (holds_of w)) (opened_as Done (one_more (holds_of w) d))).answer) (counts (cond b (opened_as BadArgument (holds_of w)) (opened_as Done (one_more (holds_of w) d))).holds)
+      go : (b : Bool) → Leaves none (said (cond b (left_as (Err BadArgument) (holds_of w)) (left_as (Ok Done) (one_more (holds_of w) d))).answer) (counts (cond b (left_as (Err BadArgument) (holds_of w)) (left_as (Ok Done) (one_more (holds_of w) d))).holds)
       go true = counted true (holds_of w)
       go false = counted false (one_more (holds_of w) d)
 
@@ -128,8 +130,8 @@ module _ (ws : List ℕ) (size : length ws ≡ 2060) where
     where
       go :
           (a b : Bool)
-          → Leaves none (said (cond a (copied_as BadArgument (holds_of w)) (cond b (copied_as TooManyHolds (holds_of w)) (copied_as Done (one_more (holds_of w) d)))).answer)
-          (counts (cond a (copied_as BadArgument (holds_of w)) (cond b (copied_as TooManyHolds (holds_of w)) (copied_as Done (one_more (holds_of w) d)))).holds)
+          → Leaves none (said (cond a (left_as (Err BadArgument) (holds_of w)) (cond b (left_as (Err TooManyHolds) (holds_of w)) (left_as (Ok Done) (one_more (holds_of w) d)))).answer)
+          (counts (cond a (left_as (Err BadArgument) (holds_of w)) (cond b (left_as (Err TooManyHolds) (holds_of w)) (left_as (Ok Done) (one_more (holds_of w) d)))).holds)
       go true b = counted true (holds_of w)
       go false true = same (no 207) (counts (holds_of w)) same_counts
       go false false = counted false (one_more (holds_of w) d)
@@ -137,7 +139,7 @@ module _ (ws : List ℕ) (size : length ws ≡ 2060) where
   drop_left : (d : ℕ) → Leaves none (step w (host_drop d)).answer (stores_of w (host_drop d))
   drop_left d = go (unheld (holds_of w).holds (holds_of w).outside d)
     where
-      go : (b : Bool) → Leaves none (said (cond b (dropped_as BadArgument (holds_of w)) (dropped_as Done (one_fewer (holds_of w) d))).answer) (counts (cond b (dropped_as BadArgument (holds_of w)) (dropped_as Done (one_fewer (holds_of w) d))).holds)
+      go : (b : Bool) → Leaves none (said (cond b (left_as (Err BadArgument) (holds_of w)) (left_as (Ok Done) (one_fewer (holds_of w) d))).answer) (counts (cond b (left_as (Err BadArgument) (holds_of w)) (left_as (Ok Done) (one_fewer (holds_of w) d))).holds)
       go true = counted true (holds_of w)
       go false = counted false (one_fewer (holds_of w) d)
 
@@ -149,7 +151,7 @@ module _ (ws : List ℕ) (size : length ws ≡ 2060) where
     where
       go :
           (b : Bool)
-          → let r : HoldPut = cond b (put-hold BadArgument (handles_of w) (holds_of w)) (put-hold Done (into (handles_of w) k d) (inside (holds_of w) d)) in
+          → let r : HoldPut = cond b (put-hold (Err BadArgument) (handles_of w) (holds_of w)) (put-hold (Ok Done) (into (handles_of w) k d) (inside (holds_of w) d)) in
           Leaves none (said r.answer) (counts r.holds ++ handles r.handles.at ∷ [])
       go true = same (no 205) (counts (holds_of w) ++ handles (handles_of w).at ∷ []) all_same
       go false = went none (ok 0) (counts (inside (holds_of w) d) ++ handles (into (handles_of w) k d).at ∷ []) refl
@@ -243,14 +245,14 @@ module _ (ws : List ℕ) (size : length ws ≡ 2060) where
     descriptor_at false =
         respond_at out (taken_out at e.result (holds_of w) (handles_of w)) e.tag (one (in_handle (handles_of w) e.result)) (emptied (handles_of w) e.result) (out_at 77) (out_at 22) (phase_of at)
 
-    entry_at_lem : (op : CqeOpcode) → At (left_by op w e) (decision_of (parsed_by op e) at (holds_of w) (handles_of w))
-    entry_at_lem RespondRegular = respond_at [] (refused_of at (holds_of w) (handles_of w)) e.tag (result (demux_of e.result) e.extra_raw.0 false) (handles_of w) (refused_at 77) (refused_at 22) (phase_of at)
-    entry_at_lem RespondWithFd = descriptor_at (eqb (held_at (handles_of w) e.result) 0)
-    entry_at_lem SendFevent = event_at_lem (within event_flags e.tag)
-    entry_at_lem ObtainFd = obtain_at (within fobtain_fd_flags (extra_of e))
-    entry_at_lem RespondWithMultipleFds = respond_at [] (refused_of at (holds_of w) (handles_of w)) e.tag listed (handles_of w) (refused_at 77) (refused_at 22) (phase_of at)
-    entry_at_lem RespondAndNotifyOnDetach = respond_at [] (refused_of at (holds_of w) (handles_of w)) e.tag (result (demux_of e.result) e.extra_raw.0 true) (handles_of w) (refused_at 77) (refused_at 22) (phase_of at)
-    entry_at_lem Unknown = refused_at 22
+    entry_at_lem : (op : Option CqeOpcode) → At (left_by op w e) (decision_of (parsed_by op e) at (holds_of w) (handles_of w))
+    entry_at_lem (Some RespondRegular) = respond_at [] (refused_of at (holds_of w) (handles_of w)) e.tag (result (demux_of e.result) e.extra_raw.0 false) (handles_of w) (refused_at 77) (refused_at 22) (phase_of at)
+    entry_at_lem (Some RespondWithFd) = descriptor_at (eqb (held_at (handles_of w) e.result) 0)
+    entry_at_lem (Some SendFevent) = event_at_lem (within event_flags e.tag)
+    entry_at_lem (Some ObtainFd) = obtain_at (within fobtain_fd_flags (extra_of e))
+    entry_at_lem (Some RespondWithMultipleFds) = respond_at [] (refused_of at (holds_of w) (handles_of w)) e.tag listed (handles_of w) (refused_at 77) (refused_at 22) (phase_of at)
+    entry_at_lem (Some RespondAndNotifyOnDetach) = respond_at [] (refused_of at (holds_of w) (handles_of w)) e.tag (result (demux_of e.result) e.extra_raw.0 true) (handles_of w) (refused_at 77) (refused_at 22) (phase_of at)
+    entry_at_lem None = refused_at 22
 
   -- after an accepted entry a write is not refused, nor does it wait
   wrote : (es : List Cqe) (u : World) (n : ℕ) (fx : List ℕ) → down (write_on u es (suc n) fx).answer ≡ 0

@@ -1,10 +1,10 @@
 -- Demand 1 on words: a refusal leaves every word as it was, but for the four cases that 01 names; and so does a read that would wait.
-use Rattle.std.specs.Prelude.{ℕ, ◌*◌, ◌/◌, ◌≡◌, cond, ◌||◌, List, [], ◌∷◌, eqb, ltb, length}
+use Rattle.std.specs.Prelude.{ℕ, ◌*◌, ◌/◌, ◌≡◌, cond, ◌||◌, List, [], ◌∷◌, eqb, ltb, length, Option, Some, None}
 use Rattle.fd_list.specs.Lists.{numbers}
 use Rattle.handles.specs.Handles.{held_at, emptied}
 use Rattle.schemev2.specs.declared.Cqe.{Cqe}
 use Rattle.schemev2.specs.declared.CqeOpcode.{CqeOpcode}
-use Rattle.schemev2.specs.declared.CqeOpcode.TheVariants.{RespondRegular, RespondWithFd, SendFevent, ObtainFd, RespondWithMultipleFds, RespondAndNotifyOnDetach, Unknown}
+use Rattle.schemev2.specs.declared.CqeOpcode.TheVariants.{RespondRegular, RespondWithFd, SendFevent, ObtainFd, RespondWithMultipleFds, RespondAndNotifyOnDetach}
 use Rattle.schemev2.specs.Entry.{kind_of, cqe_of, cqe_opcode_of}
 use Rattle.slot.specs.Slots.{interrupted_of}
 use Rattle.events.specs.World.{World, holds_of, handles_of, slot_in}
@@ -19,16 +19,16 @@ use Rattle.packed.specs.Stores.{counts}
 use Rattle.packed.specs.Step.{words_after}
 
 -- what a refused entry stores: a descriptor response refused by its tag has emptied its handle and dropped the hold
-abbrev pub left_by : CqeOpcode → World → Cqe → List Store
-left_by RespondRegular w e = []
-left_by RespondWithFd w e =
+abbrev pub left_by : Option CqeOpcode → World → Cqe → List Store
+left_by (Some RespondRegular) w e = []
+left_by (Some RespondWithFd) w e =
     cond (eqb (held_at (handles_of w) e.result) 0) []
     (all (dropped (holds_of w) (numbers (named_of (in_handle (handles_of w) e.result)))).holds ∷ handles (emptied (handles_of w) e.result).at ∷ [])
-left_by SendFevent w e = []
-left_by ObtainFd w e = []
-left_by RespondWithMultipleFds w e = []
-left_by RespondAndNotifyOnDetach w e = []
-left_by Unknown w e = []
+left_by (Some SendFevent) w e = []
+left_by (Some ObtainFd) w e = []
+left_by (Some RespondWithMultipleFds) w e = []
+left_by (Some RespondAndNotifyOnDetach) w e = []
+left_by None w e = []
 
 -- what a refusal with number k stores
 abbrev pub left_stores : World → View → ℕ → List Store

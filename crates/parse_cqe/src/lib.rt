@@ -5,11 +5,11 @@ ghost use Rattle.std.specs.Prelude.{◌≡◌};
 ghost use Rattle.answer.specs.Numbered.{number_of};
 ghost use Rattle.parse_cqe.specs.Parsed.{parsed_of, event_of, obtain_of, parsed_answer};
 
-use error::{EINVAL, Error, Result};
+use error::{EINVAL, Error};
 use ids::{Handle, Tag};
 use schemev2::{Cqe, CqeOpcode};
 
-// What an entry asks for, or why it is refused. No completion kind leads to the Rust's `ProvideMmap`.
+// What an entry asks for. No completion kind leads to the Rust's `ProvideMmap`.
 #[derive(Clone, Copy)]
 pub enum ParsedCqe {
     TriggerFevent {
@@ -18,7 +18,7 @@ pub enum ParsedCqe {
     },
     RegularResponse {
         tag: Tag,
-        res: Result,
+        res: error::Result,
         extra0: u8,
     },
     ResponseWithFd {
@@ -36,104 +36,84 @@ pub enum ParsedCqe {
     },
     RespondAndNotifyOnDetach {
         tag: Tag,
-        res: Result,
+        res: error::Result,
         extra0: u8,
     },
+}
+
+// Why an entry is refused before its tag is looked at.
+#[derive(Clone, Copy, Debug, PartialEq, Eq)]
+pub enum CqeError {
     UnknownKind,
     UnknownEventFlags,
     UnknownObtainFlags,
 }
 
 // `SendFevent`: the tag's place holds the event flags.
-fn event(cqe: Cqe) -> ParsedCqe
+fn event(cqe: Cqe) -> Result<ParsedCqe, CqeError>
     ensures { result ≡ event_of cqe }
 {
     let flags = cqe.tag as u64;
     if flag::event_flags_known(flags) {
-        return ParsedCqe::TriggerFevent {
+        return Ok(ParsedCqe::TriggerFevent {
             number: cqe.result,
-            flags: flags,
-        };
+            flags,
+        });
     }
-    ParsedCqe::UnknownEventFlags
+    Err(CqeError::UnknownEventFlags)
 }
 
 // `ObtainFd`: extra holds the flags.
-fn obtain(cqe: Cqe) -> ParsedCqe
+fn obtain(cqe: Cqe) -> Result<ParsedCqe, CqeError>
     ensures { result ≡ obtain_of cqe }
 {
     let flags = cqe.extra();
     if flag::fobtain_fd_flags_known(flags as u64) {
-        return ParsedCqe::ObtainFd {
+        return Ok(ParsedCqe::ObtainFd {
             tag: Tag(cqe.tag as u64),
-            flags: flags,
+            flags,
             dst_fd_or_ptr: ids::handle_of(cqe.result),
-        };
+        });
     }
-    ParsedCqe::UnknownObtainFlags
+    Err(CqeError::UnknownObtainFlags)
 }
 
-pub fn parse_cqe(cqe: Cqe) -> ParsedCqe
+pub fn parse_cqe(cqe: Cqe) -> Result<ParsedCqe, CqeError>
     ensures { result ≡ parsed_of cqe }
 {
-    let kind = CqeOpcode::try_from_raw(cqe.kind());
+    let kind = CqeOpcode::try_from_raw(cqe.kind()).ok_or(CqeError::UnknownKind)?;
     let raw = cqe.extra_raw;
     let tag = Tag(cqe.tag as u64);
     match kind {
-        CqeOpcode::RespondRegular => ParsedCqe::RegularResponse {
-            tag: tag,
+        CqeOpcode::RespondRegular => Ok(ParsedCqe::RegularResponse {
+            tag,
             res: Error::demux(cqe.result),
             extra0: raw.0,
-        },
-        CqeOpcode::RespondWithFd => ParsedCqe::ResponseWithFd {
-            tag: tag,
+        }),
+        CqeOpcode::RespondWithFd => Ok(ParsedCqe::ResponseWithFd {
+            tag,
             fd: ids::handle_of(cqe.result),
-        },
+        }),
         CqeOpcode::SendFevent => event(cqe),
         CqeOpcode::ObtainFd => obtain(cqe),
-        CqeOpcode::RespondWithMultipleFds => ParsedCqe::ResponseWithMultipleFds {
-            tag: tag,
+        CqeOpcode::RespondWithMultipleFds => Ok(ParsedCqe::ResponseWithMultipleFds {
+            tag,
             num_fds: cqe.result,
-        },
-        CqeOpcode::RespondAndNotifyOnDetach => ParsedCqe::RespondAndNotifyOnDetach {
-            tag: tag,
+        }),
+        CqeOpcode::RespondAndNotifyOnDetach => Ok(ParsedCqe::RespondAndNotifyOnDetach {
+            tag,
             res: Error::demux(cqe.result),
             extra0: raw.0,
-        },
-        CqeOpcode::Unknown => ParsedCqe::UnknownKind,
+        }),
     }
 }
 
-impl ParsedCqe {
-    // 01's number: 0 for an entry that is taken, else the refusal's.
-    pub fn number(self) -> u64
-        ensures { result ≡ number_of (parsed_answer self) }
-    {
-        match self {
-            ParsedCqe::TriggerFevent {
-                number: _,
-                flags: _,
-            } => 0,
-            ParsedCqe::RegularResponse {
-                tag: _,
-                res: _,
-                extra0: _,
-            } => 0,
-            ParsedCqe::ResponseWithFd { tag: _, fd: _ } => 0,
-            ParsedCqe::ResponseWithMultipleFds { tag: _, num_fds: _ } => 0,
-            ParsedCqe::ObtainFd {
-                tag: _,
-                flags: _,
-                dst_fd_or_ptr: _,
-            } => 0,
-            ParsedCqe::RespondAndNotifyOnDetach {
-                tag: _,
-                res: _,
-                extra0: _,
-            } => 0,
-            ParsedCqe::UnknownKind => EINVAL,
-            ParsedCqe::UnknownEventFlags => EINVAL,
-            ParsedCqe::UnknownObtainFlags => EINVAL,
-        }
+// 01's number: 0 for an entry that is taken, else the refusal's.
+pub fn number(parsed: Result<ParsedCqe, CqeError>) -> u64
+    ensures { result ≡ number_of (parsed_answer parsed) }
+{
+    match parsed {
+        Ok(_) => 0,
+        Err(_) => EINVAL,
     }
 }

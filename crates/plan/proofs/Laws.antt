@@ -1,4 +1,5 @@
 -- Plans by their cases. Assumes nothing.
+use Rattle.std.specs.Prelude.{Option, Some, None, Result, Ok, Err, set}
 use Prim.Native.Nat.{ℕ, suc, ◌+◌, ◌-◌}
 use mathlib.Core.Path.{◌≡◌, refl, sym, ap, ap₂, subst, ◌∙◌}
 use mathlib.Core.Bool.{Bool, true, false, not, cond, ◌||◌, ◌&&◌}
@@ -8,21 +9,24 @@ use native.Mathlib.Numerals.{add-one}
 use lib.Dec.{leb, eqb}
 use lib.ListN.{get_or, drop, length}
 use borrow.Author.Tests.{eq-eqb, ne_eqb, eqb-false}
+use Rattle.answer.specs.declared.Refusal.{Refusal}
+use Rattle.answer.specs.declared.Refusal.TheVariants.{NotFound, NoCaller, Interrupted, Again, Invalid, BadDescriptor, NotSupported, NotYours, Full, QueueFull, ShortWords, BadArgument, TooManyFds, TooManyHolds}
+use Rattle.answer.specs.Numbered.{refusal_number}
 use Rattle.closes.specs.declared.Reason.TheVariants.{Replied, Ended, Refused, Unusable}
 use Rattle.closes.specs.Closes.{closing, only, closes}
 use Rattle.counts.specs.Counts.{lasts}
-use Rattle.effect.specs.declared.Effect.{Effect}
-use Rattle.effect.specs.Effect.{effect_words}
+use Rattle.effect.specs.declared.Effect.TheVariants.{Wake}
 use Rattle.fd_list.specs.declared.List.{List as Fds}
 use Rattle.fd_list.specs.Lists.{desc, named, numbers, list_of, rest_of}
 use Rattle.fd_list.proofs.Laws.{picked}
 use Rattle.handles.specs.declared.Handles.{Handles}
-use Rattle.handles.specs.Handles.{held_at, is_free, into, emptied, obtain_by, obtain_in, obtain_lasts}
+use Rattle.handles.specs.Handles.{handles_with, held_at, is_free, into, emptied, obtain_by, obtain_in, obtain_lasts}
 use Rattle.holds.specs.declared.Holds.{Holds}
 use Rattle.ids.specs.declared.Description.{Description}
 use Rattle.ids.specs.declared.Handle.{Handle}
 use Rattle.parse_cqe.specs.declared.ParsedCqe.{ParsedCqe}
 use Rattle.parse_cqe.specs.declared.ParsedCqe.TheVariants as parsed
+use Rattle.parse_cqe.specs.declared.CqeError.{CqeError}
 use Rattle.reply_parts.specs.declared.Offer.{Offer}
 use Rattle.reply_parts.specs.declared.Offer.TheVariants as offer
 use Rattle.reply_parts.specs.declared.Parts.{Parts}
@@ -33,45 +37,59 @@ use Rattle.slot.specs.declared.PageSpan.{PageSpan}
 use Rattle.slot.specs.declared.Phase.{Phase}
 use Rattle.slot.specs.declared.Phase.TheVariants.{Vacant, Placeholder, Waiting, Responded, Fmap}
 use Rattle.slot.specs.declared.Slot.{Slot}
-use Rattle.slot.specs.Slots.{phase_of, no_span, vacant_slot, responded_of, with_fds_of}
+use Rattle.slot.specs.Slots.{phase_of, no_fds, no_span, vacant_slot, responded_of, with_fds_of}
 use Rattle.events.specs.Outcome.{event_effect}
 use Rattle.events.specs.Entry.{Decision, decided, dropped, closes_of, unmap_of, refused_of, Offer as EntryOffer, one, named_of, stored_of, lost_of, served_by, respond_by, respond_of, in_handle, taken_out, by_descriptor, descriptor_of, is_vacant, is_waiting, obtained_as, obtained, obtain_entry_of, decision_of}
+use Rattle.plan.specs.declared.Change.{Change}
 use Rattle.plan.specs.declared.Plan.{Plan}
 use Rattle.wish.specs.declared.Wish.{Wish}
 use Rattle.wish.specs.declared.Wish.TheVariants as wish
 use Rattle.wish.specs.Wishes.{handle_in, wish_of}
-use Rattle.plan.specs.Plans.{Holding, replied_of, effects_by, decision_by, Plans}
+use Rattle.plan.specs.Plans.{Holding, replied_of, effects_by, number_by, nothing_of, decision_by, Plans}
 
--- one that moves no handle
-abbrev pub quiet : ℕ → Act → Slot → Effect → PageSpan → Fds → Fds → Bool → Plan
-quiet k a v e s gone own f =
-    record { number = k; act = a; slot = v; first = e; span = s; gone = gone; own = own; closing = f; moves = false; handle = record { 0 = 64 }; held = 0 }
-
-pub refused_is : (v : Slot) (k : ℕ) (e : Effect) (l : Fds) → effect_words e ≡ [] → l ≡ list_of [] → (j x : ℕ) → Plans (quiet k Leave v e no_span l l false) j x (λ h n. refused_of v h n k)
-refused_is v k e l q r j x h n z = rw (q, r) refl
+-- no refusal has number 0
+pub above_zero : (e : Refusal) → refusal_number e ≡ 0 → ⊥
+above_zero NotFound q = omega (arith, q)
+above_zero NoCaller q = omega (arith, q)
+above_zero Interrupted q = omega (arith, q)
+above_zero Again q = omega (arith, q)
+above_zero Invalid q = omega (arith, q)
+above_zero BadDescriptor q = omega (arith, q)
+above_zero NotSupported q = omega (arith, q)
+above_zero NotYours q = omega (arith, q)
+above_zero Full q = omega (arith, q)
+above_zero QueueFull q = omega (arith, q)
+above_zero ShortWords q = omega (arith, q)
+above_zero BadArgument q = omega (arith, q)
+above_zero TooManyFds q = omega (arith, q)
+above_zero TooManyHolds q = omega (arith, q)
 
 -- a reply to a waiting slot
 module _ (v : Slot) (t : ℕ) (o : Offer) (p : Parts) (is : p ≡ parts_of v (offered o)) where
   abbrev gone : List ℕ
   gone = numbers p.gone
 
-  lost_fx : (h : Holds) (e : Effect) (f : Bool) → effect_words e ≡ [] → f ≡ closing Ended → effects_by (quiet 0 Vacate vacant_slot e v.span p.gone p.own f) h ≡ (unmap_of (eqb v.span.count 0) v.span ++ closes_of Replied h gone) ++ closes_of Ended (dropped h gone) (numbers p.own)
-  lost_fx h e f q r =
-      ap₂ (λ (x : List ℕ) (b : Bool). x ++ (unmap_of (eqb v.span.count 0) v.span ++ (closes_of Replied h gone ++ closes (only b (lasts (dropped h gone).holds (numbers p.own)))))) q r
+  abbrev lost : Slot → Bool → Plan
+  lost u f = record { refusal = None; act = Vacate; slot = u; first = None; span = v.span; gone = p.gone; own = p.own; closing = f; change = None }
+
+  lost_fx : (h : Holds) (f : Bool) → f ≡ closing Ended → effects_by (lost vacant_slot f) h ≡ (unmap_of (eqb v.span.count 0) v.span ++ closes_of Replied h gone) ++ closes_of Ended (dropped h gone) (numbers p.own)
+  lost_fx h f r =
+      ap (λ (b : Bool). unmap_of (eqb v.span.count 0) v.span ++ (closes_of Replied h gone ++ closes (only b (lasts (dropped h gone).holds (numbers p.own))))) r
       ∙ sym (append_assoc (unmap_of (eqb v.span.count 0) v.span) (closes_of Replied h gone) (closes_of Ended (dropped h gone) (numbers p.own)))
 
   pub lost_is :
-      (u : Slot) (e : Effect) (f : Bool) → u ≡ vacant_slot → effect_words e ≡ [] → f ≡ closing Ended → (h : Holds) (n : Handles)
-      → decision_by (quiet 0 Vacate u e v.span p.gone p.own f) h n ≡ served_by true v t (offered o) h n
-  lost_is u e f eu q r h n =
-      (λ i. decided 0 Vacate (eu i) (dropped (dropped h gone) (numbers p.own)) n (lost_fx h e f q r i))
+      (u : Slot) (f : Bool) → u ≡ vacant_slot → f ≡ closing Ended → (h : Holds) (n : Handles)
+      → decision_by (lost u f) h n ≡ served_by true v t (offered o) h n
+  lost_is u f eu r h n =
+      (λ i. decided 0 Vacate (eu i) (dropped (dropped h gone) (numbers p.own)) n (lost_fx h f r i))
       ∙ ap (λ (x : Parts). lost_of v (numbers x.gone) (numbers x.own) h n) is
 
-  pub stored_is :
-      (u : Slot) (l : Fds) → u ≡ responded_of v p.reply p.kept → l ≡ list_of [] → (h : Holds) (n : Handles)
-      → decision_by (quiet 0 Store u (record { kind = 1; a = v.caller; b = t }) v.span p.gone l false) h n ≡ served_by false v t (offered o) h n
-  stored_is u l eu el h n =
-      ap₂ (λ (x : Slot) (y : Fds). decision_by (quiet 0 Store x (record { kind = 1; a = v.caller; b = t }) v.span p.gone y false) h n) eu el
+  abbrev kept : Slot → Plan
+  kept u = record { refusal = None; act = Store; slot = u; first = Some (Wake v.caller t); span = v.span; gone = p.gone; own = no_fds; closing = false; change = None }
+
+  pub stored_is : (u : Slot) → u ≡ responded_of v p.reply p.kept → (h : Holds) (n : Handles) → decision_by (kept u) h n ≡ served_by false v t (offered o) h n
+  stored_is u eu h n =
+      ap (λ (x : Slot). decision_by (kept x) h n) eu
       ∙ ap (λ (x : List ℕ). decided 0 Store (responded_of v p.reply p.kept) (dropped h gone) n (1 ∷ v.caller ∷ t ∷ (unmap_of (eqb v.span.count 0) v.span ++ x))) (append-nil (closes_of Replied h gone))
       ∙ ap (λ (x : Parts). stored_of v t x.reply x.kept (numbers x.gone) h n) is
 
@@ -131,23 +149,24 @@ module _ (v : Slot) (t : ℕ) (k : Handle) (m x : ℕ) (is : x ≡ suc m) where
     answered h n e = f 0 (held_at (emptied n k.0) 0) h (emptied n k.0) refl ∙ ap (λ (y : ℕ). respond_of v t (one y) h (emptied n k.0)) (in_it n e)
 
     pub given_over :
-        (o : Plan) → r.number ≡ 0
-        → o ≡ record { number = r.number; act = r.act; slot = r.slot; first = r.first; span = r.span; gone = r.gone; own = r.own; closing = r.closing; moves = true; handle = k; held = 0 } → From o
-    given_over o q eo h n e =
+        number_by r.refusal ≡ 0
+        → From (record { refusal = r.refusal; act = r.act; slot = r.slot; first = r.first; span = r.span; gone = r.gone; own = r.own; closing = r.closing; change = Some (record { handle = k; held = 0 }) })
+    given_over q h n e =
         let E = answered h n e in
-        ap (λ (y : Plan). decision_by y h n) eo
-        ∙ (λ i. decided (E i).number (E i).act (E i).slot (E i).holds (sym (respond_handles (taken_out v k.0 h n) v t (one (in_handle n k.0)) h (emptied n k.0) (phase_of v)) i) (E i).effects)
+        (λ i. decided (E i).number (E i).act (E i).slot (E i).holds (sym (respond_handles (taken_out v k.0 h n) v t (one (in_handle n k.0)) h (emptied n k.0) (phase_of v)) i) (E i).effects)
         ∙ accepted (taken_out v k.0 h n) v t (one (in_handle n k.0)) h (emptied n k.0) (phase_of v) (sym (ap (λ (d : Decision). d.number) E) ∙ q)
 
-    pub turned_out :
-        (e : Effect) (l own : Fds) (g : Bool) → (r.number ≡ 0 → ⊥) → effect_words e ≡ [] → l ≡ list_of [] → own ≡ named_of m → g ≡ closing Refused
-        → From (record { number = r.number; act = Leave; slot = v; first = e; span = no_span; gone = l; own = own; closing = g; moves = true; handle = k; held = 0 })
-    turned_out e l own g q ee el eo eg h n eh =
+    -- refused, with the description's hold dropped: built on a plan of nothing
+    abbrev out : Refusal → Plan → Fds → Bool → Plan
+    out j p own g = record { refusal = Some j; act = p.act; slot = p.slot; first = p.first; span = p.span; gone = p.gone; own = own; closing = g; change = Some (record { handle = k; held = 0 }) }
+
+    pub turned_out : (j : Refusal) → r.refusal ≡ Some j → (p : Plan) → p ≡ nothing_of v → (own : Fds) (g : Bool) → own ≡ named_of m → g ≡ closing Refused → From (out j p own g)
+    turned_out j ej p ep own g eo eg h n eh =
         let E = answered h n eh in
-        let N : r.number ≡ (respond_of v t (one (in_handle n k.0)) h (emptied n k.0)).number = ap (λ (d : Decision). d.number) E in
-        (λ i. decision_by (record { number = N i; act = Leave; slot = v; first = e; span = no_span; gone = el i; own = (eo ∙ ap named_of (in_it n eh)) i; closing = eg i; moves = true; handle = k; held = 0 }) h n)
-        ∙ ap (λ (y : List ℕ). decided (respond_of v t (one (in_handle n k.0)) h (emptied n k.0)).number Leave v (dropped h (numbers (named_of (in_handle n k.0)))) (emptied n k.0) (y ++ closes_of Refused h (numbers (named_of (in_handle n k.0))))) ee
-        ∙ refused_by (taken_out v k.0 h n) v t (one (in_handle n k.0)) h (emptied n k.0) (phase_of v) (λ y. q (N ∙ y))
+        let N : refusal_number j ≡ (respond_of v t (one (in_handle n k.0)) h (emptied n k.0)).number = ap number_by (sym ej) ∙ ap (λ (d : Decision). d.number) E in
+        (λ i. decision_by (out j (ep i) ((eo ∙ ap named_of (in_it n eh)) i) (eg i)) h n)
+        ∙ ap (λ (l : ℕ). decided l Leave v (dropped h (numbers (named_of (in_handle n k.0)))) (emptied n k.0) (closes_of Refused h (numbers (named_of (in_handle n k.0))))) N
+        ∙ refused_by (taken_out v k.0 h n) v t (one (in_handle n k.0)) h (emptied n k.0) (phase_of v) (λ y. above_zero j (N ∙ y))
 
 -- a reply, by what it offers
 module _ (v : Slot) (t : ℕ) (k x : ℕ) where
@@ -208,82 +227,69 @@ module _ (v : Slot) (k : Handle) (x : ℕ) where
       left : u ≡ with_fds_of v (rest_of v.fds)
       left = eu ∙ ap (with_fds_of v) el
 
-      pub obtain_free :
-          (t : Effect) (o : Fds) → leb k.0 63 && eqb x 0 ≡ true → effect_words t ≡ [] → o ≡ list_of []
-          → Ob (record { number = 0; act = Store; slot = u; first = t; span = no_span; gone = o; own = o; closing = false; moves = true; handle = k; held = d.0 + 1 })
-      obtain_free t o w et eo h n z =
-          (λ i. decision_by (record { number = 0; act = Store; slot = left i; first = t; span = no_span; gone = eo i; own = eo i; closing = false; moves = true; handle = k; held = add-one d.0 i }) h n)
-          ∙ ap (λ (y : List ℕ). decided 0 Store (with_fds_of v (rest_of v.fds)) h (into n k.0 d.0) (y ++ [])) et
+      abbrev gained : Fds → Bool → Option Change → Plan
+      gained own g c = record { refusal = None; act = Store; slot = u; first = None; span = no_span; gone = no_fds; own = own; closing = g; change = c }
+
+      pub obtain_free : leb k.0 63 && eqb x 0 ≡ true → Ob (gained no_fds false (Some (record { handle = k; held = d.0 + 1 })))
+      obtain_free w h n z =
+          (λ i. decided 0 Store (left i) h (handles_with (set n.at k.0 (add-one d.0 i))) [])
           ∙ obtained_by true h n (free_is true w n z)
 
-      pub obtain_dropped :
-          (t : Effect) (o own : Fds) (g : Bool) → leb k.0 63 && eqb x 0 ≡ false → effect_words t ≡ [] → o ≡ list_of [] → own ≡ list_of (d.0 ∷ []) → g ≡ closing Unusable
-          → Ob (quiet 0 Store u t no_span o own g)
-      obtain_dropped t o own g w et eo en eg h n z =
-          (λ i. decision_by (quiet 0 Store (left i) t no_span (eo i) (en i) (eg i)) h n)
-          ∙ ap (λ (y : List ℕ). decided 0 Store (with_fds_of v (rest_of v.fds)) (dropped h (d.0 ∷ [])) n (y ++ closes (only (closing Unusable) (lasts h.holds (d.0 ∷ []))))) et
+      pub obtain_dropped : (own : Fds) (g : Bool) → leb k.0 63 && eqb x 0 ≡ false → own ≡ list_of (d.0 ∷ []) → g ≡ closing Unusable → Ob (gained own g None)
+      obtain_dropped own g w en eg h n z =
+          (λ i. decided 0 Store (left i) (dropped h (numbers (en i))) n (closes (only (eg i) (lasts h.holds (numbers (en i))))))
           ∙ obtained_by false h n (free_is false w n z)
 
 -- an entry by what it wishes
-abbrev wished_of : Wish → Slot → ℕ → Holds → Handles → Decision
-wished_of (wish.Event number flags) v k h n = decided 0 Leave v h n (event_effect number flags)
-wished_of (wish.Reply t o) v k h n = replied_of o v t k h n
-wished_of wish.Obtain v k h n = obtain_entry_of v k h n
-wished_of wish.No v k h n = refused_of v h n 22
+abbrev wished_of : Option Wish → Slot → ℕ → Holds → Handles → Decision
+wished_of (Some (wish.Event number flags)) v k h n = decided 0 Leave v h n (event_effect number flags)
+wished_of (Some (wish.Reply t o)) v k h n = replied_of o v t k h n
+wished_of (Some wish.Obtain) v k h n = obtain_entry_of v k h n
+wished_of None v k h n = refused_of v h n 22
 
-abbrev Wishing : Wish → ℕ → Type 0
-Wishing (wish.Event number flags) x = Unit {0}
-Wishing (wish.Reply t o) x = Holding o x
-Wishing wish.Obtain x = Unit {0}
-Wishing wish.No x = Unit {0}
+abbrev Wishing : Option Wish → ℕ → Type 0
+Wishing (Some (wish.Event number flags)) x = Unit {0}
+Wishing (Some (wish.Reply t o)) x = Holding o x
+Wishing (Some wish.Obtain) x = Unit {0}
+Wishing None x = Unit {0}
 
-wishes : (p : ParsedCqe) (x : ℕ) → Wishing (wish_of p x) x
-wishes (parsed.TriggerFevent number flags) x = tt
-wishes (parsed.RegularResponse t r e) x = tt
-wishes (parsed.ResponseWithFd t k) x = go (eqb x 0) refl
+wishes : (p : Result ParsedCqe CqeError) (x : ℕ) → Wishing (wish_of p x) x
+wishes (Ok (parsed.TriggerFevent number flags)) x = tt
+wishes (Ok (parsed.RegularResponse t r e)) x = tt
+wishes (Ok (parsed.ResponseWithFd t k)) x = go (eqb x 0) refl
   where
-    go : (b : Bool) → eqb x 0 ≡ b → Wishing (cond b wish.No (wish.Reply t.0 (offer.Fd (x - 1)))) x
+    go : (b : Bool) → eqb x 0 ≡ b → Wishing (cond b None (Some (wish.Reply t.0 (offer.Fd (x - 1))))) x
     go true q = tt
     go false q = let z = eqb-false x 0 q in omega (arith, z)
-wishes (parsed.ResponseWithMultipleFds t c) x = tt
-wishes (parsed.ObtainFd t flags k) x = tt
-wishes (parsed.RespondAndNotifyOnDetach t r e) x = tt
-wishes parsed.UnknownKind x = tt
-wishes parsed.UnknownEventFlags x = tt
-wishes parsed.UnknownObtainFlags x = tt
+wishes (Ok (parsed.ResponseWithMultipleFds t c)) x = tt
+wishes (Ok (parsed.ObtainFd t flags k)) x = tt
+wishes (Ok (parsed.RespondAndNotifyOnDetach t r e)) x = tt
+wishes (Err e) x = tt
 
-wished_is : (p : ParsedCqe) (v : Slot) (x : ℕ) (h : Holds) (n : Handles) → held_at n (handle_in p) ≡ x → wished_of (wish_of p x) v (handle_in p) h n ≡ decision_of p v h n
-wished_is (parsed.TriggerFevent number flags) v x h n e = refl
-wished_is (parsed.RegularResponse t r y) v x h n e = refl
-wished_is (parsed.ResponseWithFd t k) v x h n e = go (eqb x 0) refl
+wished_is : (p : Result ParsedCqe CqeError) (v : Slot) (x : ℕ) (h : Holds) (n : Handles) → held_at n (handle_in p) ≡ x → wished_of (wish_of p x) v (handle_in p) h n ≡ decision_of p v h n
+wished_is (Ok (parsed.TriggerFevent number flags)) v x h n e = refl
+wished_is (Ok (parsed.RegularResponse t r y)) v x h n e = refl
+wished_is (Ok (parsed.ResponseWithFd t k)) v x h n e = go (eqb x 0) refl
   where
     full : (b : Bool) → eqb x 0 ≡ b → cond b (refused_of v h n 22) (by_descriptor v t.0 k.0 h n) ≡ descriptor_of v t.0 k.0 h n
     full b q = sym (ap (λ (y : Bool). cond y (refused_of v h n 22) (by_descriptor v t.0 k.0 h n)) (ap (λ (y : ℕ). eqb y 0) e ∙ q))
 
-    go : (b : Bool) → eqb x 0 ≡ b → wished_of (cond b wish.No (wish.Reply t.0 (offer.Fd (x - 1)))) v k.0 h n ≡ descriptor_of v t.0 k.0 h n
+    go : (b : Bool) → eqb x 0 ≡ b → wished_of (cond b None (Some (wish.Reply t.0 (offer.Fd (x - 1))))) v k.0 h n ≡ descriptor_of v t.0 k.0 h n
     go true q = full true q
     go false q = full false q
-wished_is (parsed.ResponseWithMultipleFds t c) v x h n e = refl
-wished_is (parsed.ObtainFd t flags k) v x h n e = refl
-wished_is (parsed.RespondAndNotifyOnDetach t r y) v x h n e = refl
-wished_is parsed.UnknownKind v x h n e = refl
-wished_is parsed.UnknownEventFlags v x h n e = refl
-wished_is parsed.UnknownObtainFlags v x h n e = refl
+wished_is (Ok (parsed.ResponseWithMultipleFds t c)) v x h n e = refl
+wished_is (Ok (parsed.ObtainFd t flags k)) v x h n e = refl
+wished_is (Ok (parsed.RespondAndNotifyOnDetach t r y)) v x h n e = refl
+wished_is (Err k) v x h n e = refl
 
-module _ (p : ParsedCqe) (v : Slot) (x : ℕ) (k : Handle) (ek : k.0 ≡ handle_in p) (w : Wish) (ew : w ≡ wish_of p x) where
+module _ (p : Result ParsedCqe CqeError) (v : Slot) (x : ℕ) (k : Handle) (ek : k.0 ≡ handle_in p) (w : Option Wish) (ew : w ≡ wish_of p x) where
   abbrev Asks : Plan → Type 0
   Asks r = Plans r (handle_in p) x (λ h n. decision_of p v h n)
 
   -- a plan of what is wished
-  pub asked : (u : Wish) → w ≡ u → (r : Plan) → (Wishing u x → Plans r k.0 x (λ h n. wished_of u v k.0 h n)) → Asks r
+  pub asked : (u : Option Wish) → w ≡ u → (r : Plan) → (Wishing u x → Plans r k.0 x (λ h n. wished_of u v k.0 h n)) → Asks r
   asked u eu r f h n e =
       let q : wish_of p x ≡ u = sym ew ∙ eu in
-      f (subst (λ (y : Wish). Wishing y x) q (wishes p x)) h n (ap (held_at n) ek ∙ e)
-      ∙ ap₂ (λ (y : Wish) (j : ℕ). wished_of y v j h n) (sym q) ek
+      f (subst (λ (y : Option Wish). Wishing y x) q (wishes p x)) h n (ap (held_at n) ek ∙ e)
+      ∙ ap₂ (λ (y : Option Wish) (j : ℕ). wished_of y v j h n) (sym q) ek
       ∙ wished_is p v x h n e
-
-  pub event_is :
-      (number flags : ℕ) → w ≡ wish.Event number flags → (l : Fds) → l ≡ list_of [] → Asks (quiet 0 Leave v (record { kind = 4; a = number; b = flags }) no_span l l false)
-  event_is number flags ew l e =
-      asked (wish.Event number flags) ew (quiet 0 Leave v (record { kind = 4; a = number; b = flags }) no_span l l false)
-      (λ o h n z. ap (λ (y : Fds). decision_by (quiet 0 Leave v (record { kind = 4; a = number; b = flags }) no_span y y false) h n) e)

@@ -1,5 +1,7 @@
 -- A completion entry as a plan on one slot and numbers: the decision that it comes to, whatever the counts and the handles are.
-use Rattle.std.specs.Prelude.{ℕ, suc, ◌≡◌, cond, List, ◌++◌, eqb, set}
+use Rattle.std.specs.Prelude.{ℕ, suc, ◌≡◌, false, Option, Some, None, List, ◌++◌, eqb, set}
+use Rattle.answer.specs.declared.Refusal.{Refusal}
+use Rattle.answer.specs.Numbered.{refusal_number}
 use Rattle.closes.specs.declared.Reason.TheVariants.{Replied}
 use Rattle.closes.specs.Closes.{only, closes}
 use Rattle.counts.specs.Counts.{lasts}
@@ -10,8 +12,11 @@ use Rattle.handles.specs.Handles.{handles_with, held_at}
 use Rattle.holds.specs.declared.Holds.{Holds}
 use Rattle.reply_parts.specs.declared.Offer.{Offer}
 use Rattle.reply_parts.specs.declared.Offer.TheVariants as offer
+use Rattle.slot.specs.declared.Act.TheVariants.{Leave}
 use Rattle.slot.specs.declared.Slot.{Slot}
+use Rattle.slot.specs.Slots.{no_fds}
 use Rattle.events.specs.Entry.{Decision, decided, dropped, closes_of, unmap_of, result, listed, respond_of, by_descriptor}
+use Rattle.plan.specs.declared.Change.{Change}
 use Rattle.plan.specs.declared.Plan.{Plan}
 
 -- a description comes out of the handle that holds it
@@ -34,12 +39,34 @@ effects_by p h =
     ++ (closes_of Replied h (numbers p.gone)
     ++ closes (only p.closing (lasts (dropped h (numbers p.gone)).holds (numbers p.own)))))
 
-abbrev pub handles_by : Plan → Handles → Handles
-handles_by p n = cond p.moves (handles_with (set n.at p.handle.0 p.held)) n
+-- the handle that changes
+abbrev pub handles_by : Option Change → Handles → Handles
+handles_by None n = n
+handles_by (Some c) n = handles_with (set n.at c.handle.0 c.held)
+
+-- 0, or the refusal's number
+abbrev pub number_by : Option Refusal → ℕ
+number_by None = 0
+number_by (Some e) = refusal_number e
 
 abbrev pub decision_by : Plan → Holds → Handles → Decision
 decision_by p h n =
-    decided p.number p.act p.slot (dropped (dropped h (numbers p.gone)) (numbers p.own)) (handles_by p n) (effects_by p h)
+    decided (number_by p.refusal) p.act p.slot (dropped (dropped h (numbers p.gone)) (numbers p.own)) (handles_by p.change n) (effects_by p h)
+
+-- an entry that is accepted and changes nothing: what a plan begins with
+abbrev pub nothing_of : Slot → Plan
+nothing_of v =
+    record {
+      refusal = None;
+      act = Leave;
+      slot = v;
+      first = None;
+      span = record { base = 0; count = 0 };
+      gone = no_fds;
+      own = no_fds;
+      closing = false;
+      change = None;
+    }
 
 -- p is the plan of a decision, on counts and handles in which handle k holds x
 abbrev pub Plans : Plan → ℕ → ℕ → (Holds → Handles → Decision) → Type 0

@@ -3,56 +3,70 @@
 #![tactic(auto)]
 
 ghost use Rattle.std.specs.Prelude.{◌≡◌, ℕ, suc, ◌&&◌, leb, eqb};
+ghost use Rattle.answer.specs.Numbered.{refusal_number};
 ghost use Rattle.events.specs.Entry.{refused_of, one, respond_of, by_descriptor, obtain_entry_of, decision_of};
 ghost use Rattle.reply_parts.specs.Parts.{offered};
 ghost use Rattle.wish.specs.Wishes.{handle_in};
-ghost use Rattle.plan.specs.Plans.{Holding, replied_of, Plans};
+ghost use Rattle.plan.specs.Plans.{Holding, replied_of, nothing_of, Plans};
 
+use answer::Refusal;
 use closes::Reason;
 use effect::Effect;
 use fd_list::List;
 use ids::Handle;
-use parse_cqe::ParsedCqe;
+use parse_cqe::{CqeError, ParsedCqe};
 use reply_parts::Offer;
 use slot::{Act, PageSpan, Phase, Slot};
 use wish::Wish;
 
-// 0 or the refusal's number; what becomes of the slot, and the one to store; a wake or an event, or none; the span to unmap;
-// the list that is dropped, whose closes follow; the reply's own, dropped after it, and whether closes follow; the handle that
-// changes, if one does, and what it holds then.
+// A handle that changes, and what it holds then: 0, or a description and 1.
 #[derive(Clone, Copy)]
-pub struct Plan {
-    pub number: u64,
-    pub act: Act,
-    pub slot: Slot,
-    pub first: Effect,
-    pub span: PageSpan,
-    pub gone: List,
-    pub own: List,
-    pub closing: bool,
-    pub moves: bool,
+pub struct Change {
     pub handle: Handle,
     pub held: u64,
 }
 
-// Nothing changes.
-fn refused(v: Slot, number: u64) -> Plan
-    ensures { (k x : ℕ) → Plans result k x (λ h n. refused_of v h n number) }
+// Why the entry is refused, if it is; what becomes of the slot, and the one to store; a wake or an event, or none; the span to unmap;
+// the list that is dropped, whose closes follow; the reply's own, dropped after it, and whether closes follow; the handle that
+// changes, if one does.
+#[derive(Clone, Copy)]
+pub struct Plan {
+    pub refusal: Option<Refusal>,
+    pub act: Act,
+    pub slot: Slot,
+    pub first: Option<Effect>,
+    pub span: PageSpan,
+    pub gone: List,
+    pub own: List,
+    pub closing: bool,
+    pub change: Option<Change>,
+}
+
+// Accepted, and nothing changes.
+fn nothing(v: Slot) -> Plan
+    ensures { result ≡ nothing_of v }
 {
     let none = fd_list::empty();
-    let quiet = effect::none();
     Plan {
-        number: number,
+        refusal: None,
         act: Act::Leave,
         slot: v,
-        first: quiet,
+        first: None,
         span: PageSpan { base: 0, count: 0 },
         gone: none,
         own: none,
         closing: false,
-        moves: false,
-        handle: ids::NO_HANDLE,
-        held: 0,
+        change: None,
+    }
+}
+
+// Nothing changes.
+fn refused(v: Slot, refusal: Refusal) -> Plan
+    ensures { (k x : ℕ) → Plans result k x (λ h n. refused_of v h n (refusal_number refusal)) }
+{
+    Plan {
+        refusal: Some(refusal),
+        ..nothing(v)
     }
 }
 
@@ -60,56 +74,34 @@ fn refused(v: Slot, number: u64) -> Plan
 fn respond(v: Slot, tag: u64, offer: Offer) -> Plan
     ensures { (k x : ℕ) → Plans result k x (λ h n. respond_of v tag (offered offer) h n) }
 {
-    let p = slot::phase_of(v);
-    match p {
-        Phase::Vacant => refused(v, 77),
-        Phase::Placeholder => refused(v, 77),
-        Phase::Responded => refused(v, 22),
-        Phase::Fmap => refused(v, 22),
+    match slot::phase_of(v) {
+        Phase::Vacant => refused(v, Refusal::BadDescriptor),
+        Phase::Placeholder => refused(v, Refusal::BadDescriptor),
+        Phase::Responded => refused(v, Refusal::Invalid),
+        Phase::Fmap => refused(v, Refusal::Invalid),
         Phase::Waiting => {
             let q = reply_parts::taken_apart(v, offer);
-            let reply = q.reply;
-            let kept = q.kept;
-            let gone = q.gone;
-            let own = q.own;
-            let span = v.span;
             if v.ended {
-                let w = slot::vacant();
-                let quiet = effect::none();
-                let follows = closes::is_closing(Reason::Ended);
                 return Plan {
-                    number: 0,
                     act: Act::Vacate,
-                    slot: w,
-                    first: quiet,
-                    span: span,
-                    gone: gone,
-                    own: own,
-                    closing: follows,
-                    moves: false,
-                    handle: ids::NO_HANDLE,
-                    held: 0,
+                    span: v.span,
+                    gone: q.gone,
+                    own: q.own,
+                    closing: closes::is_closing(Reason::Ended),
+                    ..nothing(slot::vacant())
                 };
             }
-            let w = slot::responded(v, reply, kept);
-            let none = fd_list::empty();
-            return Plan {
-                number: 0,
+            let reply = q.reply;
+            Plan {
                 act: Act::Store,
-                slot: w,
-                first: Effect {
-                    kind: 1,
-                    a: v.caller as u64,
-                    b: tag,
-                },
-                span: span,
-                gone: gone,
-                own: none,
-                closing: false,
-                moves: false,
-                handle: ids::NO_HANDLE,
-                held: 0,
-            };
+                first: Some(Effect::Wake {
+                    caller: v.caller,
+                    tag,
+                }),
+                span: v.span,
+                gone: q.gone,
+                ..nothing(slot::responded(v, reply, q.kept))
+            }
         }
     }
 }
@@ -119,29 +111,19 @@ fn respond(v: Slot, tag: u64, offer: Offer) -> Plan
 fn from_handle(r: Plan, v: Slot, fd: Handle, word: u64) -> Plan
     ensures { (t x : ℕ) → x ≡ suc word → ((j y : ℕ) → Plans r j y (λ h n. respond_of v t (one word) h n)) → Plans result fd.0 x (λ h n. by_descriptor v t fd.0 h n) }
 {
-    if r.number == 0 {
-        let mut m = r;
-        m.moves = true;
-        m.handle = fd;
-        m.held = 0;
-        return m;
-    }
-    let none = fd_list::empty();
-    let quiet = effect::none();
-    let one = reply_parts::one_or_none(word);
-    let follows = closes::is_closing(Reason::Refused);
-    Plan {
-        number: r.number,
-        act: Act::Leave,
-        slot: v,
-        first: quiet,
-        span: PageSpan { base: 0, count: 0 },
-        gone: none,
-        own: one,
-        closing: follows,
-        moves: true,
+    let empty = Some(Change {
         handle: fd,
         held: 0,
+    });
+    match r.refusal {
+        None => Plan { change: empty, ..r },
+        Some(refusal) => Plan {
+            refusal: Some(refusal),
+            own: reply_parts::one_or_none(word),
+            closing: closes::is_closing(Reason::Refused),
+            change: empty,
+            ..nothing(v)
+        },
     }
 }
 
@@ -152,7 +134,7 @@ fn reply(v: Slot, tag: u64, offer: Offer, fd: Handle) -> Plan
     let r = respond(v, tag, offer);
     match offer {
         Offer::Fd(word) => from_handle(r, v, fd, word),
-        Offer::Regular(res, extra0, notice) => r,
+        Offer::Regular(..) => r,
         Offer::Listed => r,
     }
 }
@@ -161,95 +143,58 @@ fn reply(v: Slot, tag: u64, offer: Offer, fd: Handle) -> Plan
 fn is_free(fd: Handle, held: u64) -> bool
     ensures { result ≡ leb fd.0 63 && eqb held 0 }
 {
-    if 63 < fd.0 {
-        return false;
-    }
-    held == 0
+    fd.0 <= 63 && held == 0
 }
 
 // The first of a waiting call's list goes into handle `fd`; where that is full or over 63, its hold is dropped.
 fn obtain(v: Slot, fd: Handle, held: u64) -> Plan
     ensures { Plans result fd.0 held (λ h n. obtain_entry_of v fd.0 h n) }
 {
-    let p = slot::phase_of(v);
-    match p {
-        Phase::Vacant => refused(v, 22),
-        Phase::Placeholder => refused(v, 2),
-        Phase::Responded => refused(v, 2),
-        Phase::Fmap => refused(v, 2),
+    match slot::phase_of(v) {
+        Phase::Vacant => refused(v, Refusal::Invalid),
+        Phase::Placeholder => refused(v, Refusal::NotFound),
+        Phase::Responded => refused(v, Refusal::NotFound),
+        Phase::Fmap => refused(v, Refusal::NotFound),
         Phase::Waiting => {
             let fds = v.fds;
             if fd_list::size(fds) == 0 {
-                return refused(v, 2);
+                return refused(v, Refusal::NotFound);
             }
             let d = fd_list::pick(fds, 0);
-            let rest = fd_list::rest(fds);
-            let w = slot::with_fds(v, rest);
-            let none = fd_list::empty();
-            let quiet = effect::none();
+            let stored = Plan {
+                act: Act::Store,
+                ..nothing(slot::with_fds(v, fd_list::rest(fds)))
+            };
             if is_free(fd, held) {
                 return Plan {
-                    number: 0,
-                    act: Act::Store,
-                    slot: w,
-                    first: quiet,
-                    span: PageSpan { base: 0, count: 0 },
-                    gone: none,
-                    own: none,
-                    closing: false,
-                    moves: true,
-                    handle: fd,
-                    held: d.0 as u64 + 1,
+                    change: Some(Change {
+                        handle: fd,
+                        held: d.0 as u64 + 1,
+                    }),
+                    ..stored
                 };
             }
-            let one = fd_list::single(d);
-            let follows = closes::is_closing(Reason::Unusable);
-            return Plan {
-                number: 0,
-                act: Act::Store,
-                slot: w,
-                first: quiet,
-                span: PageSpan { base: 0, count: 0 },
-                gone: none,
-                own: one,
-                closing: follows,
-                moves: false,
-                handle: ids::NO_HANDLE,
-                held: 0,
-            };
+            Plan {
+                own: fd_list::single(d),
+                closing: closes::is_closing(Reason::Unusable),
+                ..stored
+            }
         }
     }
 }
 
 // `handle_parsed`: v stands at the entry's tag, and the handle that it names holds `held`.
-pub fn handle_parsed(p: ParsedCqe, v: Slot, held: u64) -> Plan
+pub fn handle_parsed(p: Result<ParsedCqe, CqeError>, v: Slot, held: u64) -> Plan
     ensures { Plans result (handle_in p) held (λ h n. decision_of p v h n) }
 {
     let fd = wish::handle_in(p);
-    let w = wish::wished(p, held);
-    match w {
-        Wish::Event(number, flags) => {
-            let none = fd_list::empty();
-            return Plan {
-                number: 0,
-                act: Act::Leave,
-                slot: v,
-                first: Effect {
-                    kind: 4,
-                    a: number,
-                    b: flags,
-                },
-                span: PageSpan { base: 0, count: 0 },
-                gone: none,
-                own: none,
-                closing: false,
-                moves: false,
-                handle: ids::NO_HANDLE,
-                held: 0,
-            };
-        }
-        Wish::Reply(tag, offer) => reply(v, tag, offer, fd),
-        Wish::Obtain => obtain(v, fd, held),
-        Wish::No => refused(v, 22),
+    match wish::wished(p, held) {
+        Some(Wish::Event(number, flags)) => Plan {
+            first: Some(Effect::Event { number, flags }),
+            ..nothing(v)
+        },
+        Some(Wish::Reply(tag, offer)) => reply(v, tag, offer, fd),
+        Some(Wish::Obtain) => obtain(v, fd, held),
+        None => refused(v, Refusal::Invalid),
     }
 }

@@ -2,50 +2,46 @@
 // map request's slot. It has no effects.
 #![tactic(auto)]
 
-ghost use Rattle.effect.specs.Effect.{effect_words};
-ghost use Rattle.events.specs.Outcome.{said};
-ghost use Rattle.step.specs.Does.{Does};
+ghost use Rattle.step.specs.Does.{answer_of, effects_of, Does};
 ghost use Rattle.events.specs.Event.{on, supply};
 
-use answer::Answer;
+use answer::{Accepted, Refusal};
 use ids::Tag;
 use slot::Phase;
 use step::Step;
 
 // The slot is vacated also where its caller has ended.
-pub fn provide_mmap(s: &mut [u64; 2060], tag: Tag, offset: u64, base: u64, count: u64) -> Step
-    ensures { Does s.old s.new (on (supply tag.0 offset base count)) (said result.answer) (effect_words result.effect) }
+pub fn provide_mmap(
+    s: &mut [u64; 2060],
+    tag: Tag,
+    offset: u64,
+    base: u64,
+    count: u64,
+) -> Result<Step, Refusal>
+    ensures { Does s.old s.new (on (supply tag.0 offset base count)) (answer_of result) (effects_of result) }
 {
     if offset % 4096 != 0 {
-        return step::answered(Answer::Invalid);
+        return Err(Refusal::Invalid);
     }
     if base % 4096 != 0 {
-        return step::answered(Answer::Invalid);
+        return Err(Refusal::Invalid);
     }
     if count != 1 {
-        return step::answered(Answer::Invalid);
+        return Err(Refusal::Invalid);
     }
     let n = ids::slot_of(tag);
     let v = slot_load::load(s, n);
-    let phase = slot::phase_of(v);
-    match phase {
-        Phase::Vacant => step::answered(Answer::Invalid),
-        Phase::Placeholder => step::answered(Answer::BadDescriptor),
-        Phase::Waiting => step::answered(Answer::Invalid),
-        Phase::Responded => step::answered(Answer::Invalid),
+    match slot::phase_of(v) {
+        Phase::Vacant => Err(Refusal::Invalid),
+        Phase::Placeholder => Err(Refusal::BadDescriptor),
+        Phase::Waiting => Err(Refusal::Invalid),
+        Phase::Responded => Err(Refusal::Invalid),
         Phase::Fmap => {
             slot_store::vacate(s, n);
-            let none = effect::none();
             if v.ended {
-                return Step {
-                    answer: Answer::NoCaller,
-                    effect: none,
-                };
+                return Err(Refusal::NoCaller);
             }
-            Step {
-                answer: Answer::Done,
-                effect: none,
-            }
+            Ok(step::answered(Accepted::Done))
         }
     }
 }

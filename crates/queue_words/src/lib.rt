@@ -12,8 +12,7 @@ ghost use Rattle.layout.specs.Layout.{plain_of};
 ghost use Rattle.layout.specs.Store.{stored, send as sendStore, queue as queueStore};
 
 use schemev2::Sqe;
-use wait_queue::WaitQueue;
-use wait_queue_receive::Received;
+use wait_queue::{QueueLeft, WaitQueue};
 
 #[tactic(auto, unfolding(layout::specs::Layout::plain_of))]
 pub fn scheme(s: &[u64; 2060]) -> u64
@@ -114,7 +113,7 @@ fn copy(q: WaitQueue, ring: &[u64], out: &mut [u8], n: usize)
 
 // The oldest unread bytes into those lent; the queue that this leaves is answered and not yet stored.
 #[tactic(auto, unfolding(layout::specs::Layout::plain_of, layout::specs::Layout::part))]
-pub fn receive(s: &[u64; 2060], out: &mut [u8], flags: u32) -> Received
+pub fn receive(s: &[u64; 2060], out: &mut [u8], flags: u32) -> QueueLeft
     ensures value { result ≡ received_of (queue_of (plain_of s.now)) (length out.old) flags }
     ensures out_after { out.new ≡ copied_of (queue_of (plain_of s.now)) (plain_of s.now).words out.old }
 {

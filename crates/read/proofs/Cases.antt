@@ -4,7 +4,7 @@ use mathlib.Core.Path.{◌≡◌, refl, ap, ◌∙◌}
 use mathlib.Core.List.{List, []}
 use lib.ListN.{length}
 use lib.Seq.{sets}
-use Rattle.wait_queue_receive.specs.declared.Received.{Received}
+use Rattle.wait_queue.specs.declared.QueueLeft.{QueueLeft}
 use Rattle.wait_queue_receive.specs.Receive.{received_of, copied_of}
 use Rattle.events.specs.World.{World, queue_of}
 use Rattle.events.specs.Outcome.{said}
@@ -21,13 +21,13 @@ module _ (ws out : List ℕ) (flags : ℕ) where
   e = on (read (length out) flags)
 
   pub received :
-      (o : Received) (xs new : List ℕ) → o ≡ received_of (queue_of w) (length out) flags → new ≡ copied_of (queue_of w) w.words out → xs ≡ stored ws (queue o.queue)
+      (o : QueueLeft) (xs new : List ℕ) → o ≡ received_of (queue_of w) (length out) flags → new ≡ copied_of (queue_of w) w.words out → xs ≡ stored ws (queue o.queue)
       → Does ws xs e (said o.answer) [] × (new ≡ sets out 0 (step w e).bytes)
   received o xs new p f x = (
     record {
-      answer = ap (λ (y : Received). said y.answer) p;
+      answer = ap (λ (y : QueueLeft). said y.answer) p;
       effects = refl;
-      words = x ∙ ap (λ (y : Received). stored ws (queue y.queue)) p;
+      words = x ∙ ap (λ (y : QueueLeft). stored ws (queue y.queue)) p;
     },
     f,
   )

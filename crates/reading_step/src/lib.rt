@@ -10,9 +10,9 @@ ghost use Rattle.response.specs.Response.{front_answer, opened_as};
 ghost use Rattle.reading_step.specs.Opened.{opened_words, read_as};
 
 use answer_words::AnswerWords;
-use error::{Error, Result};
+use error::Error;
 use fd_list::List;
-use response::{FrontAnswer, OpenResult};
+use response::{Errno, OpenResult};
 use slot::Reply;
 
 // With the notice of a completion's kind 5.
@@ -32,12 +32,12 @@ pub struct OpenedWords {
     pub flags: u8,
 }
 
-fn front_words(a: FrontAnswer) -> AnswerWords
+fn front_words(a: Result<u64, Errno>) -> AnswerWords
     ensures { result ≡ words_of (front_answer a) }
 {
     match a {
-        FrontAnswer::Value(w) => answer_words::done(w),
-        FrontAnswer::Failed(e) => answer_words::refused(e),
+        Ok(w) => answer_words::done(w),
+        Err(e) => answer_words::refused(e.0),
     }
 }
 
@@ -51,41 +51,36 @@ fn failed(number: u64) -> OpenedWords
     }
 }
 
-fn opened_words(a: OpenResult) -> OpenedWords
+fn opened_words(a: Result<OpenResult, Errno>) -> OpenedWords
     ensures { result ≡ opened_words (opened_as a) }
 {
     match a {
-        OpenResult::SchemeLocal(w, x) => OpenedWords {
+        Ok(OpenResult::SchemeLocal(w, x)) => OpenedWords {
             kind: 0,
             value: w,
             flags: x,
         },
-        OpenResult::External(d) => OpenedWords {
+        Ok(OpenResult::External(d)) => OpenedWords {
             kind: 1,
             value: d,
             flags: 0,
         },
-        OpenResult::Failed(e) => failed(e),
-        OpenResult::UnknownFlags => failed(22),
-        OpenResult::MultipleFds => failed(5),
+        Err(e) => failed(e.0),
     }
 }
 
 pub fn into_regular(reply: Reply, fds: List) -> AnswerWords
     ensures { result ≡ words_of (into_regular_of (response_from reply fds)) }
 {
-    let a = response::into_regular(reply, fds);
-    front_words(a)
+    front_words(response::into_regular(reply, fds))
 }
 
 pub fn call_generic(reply: Reply, fds: List) -> Regular
     ensures { (result.answer ≡ words_of (call_generic_of (response_from reply fds))) × (result.notice ≡ notice_of (response_from reply fds)) }
 {
     let got = response::call_generic(reply, fds);
-    let a = got.answer;
-    let words = front_words(a);
     Regular {
-        answer: words,
+        answer: front_words(got.answer),
         notice: got.notice,
     }
 }
@@ -93,39 +88,33 @@ pub fn call_generic(reply: Reply, fds: List) -> Regular
 pub fn kfdwrite(reply: Reply, fds: List) -> AnswerWords
     ensures { result ≡ words_of (kfdwrite_of (response_from reply fds)) }
 {
-    let a = response::kfdwrite(reply, fds);
-    front_words(a)
+    front_words(response::kfdwrite(reply, fds))
 }
 
 pub fn kfdread(reply: Reply, fds: List) -> AnswerWords
     ensures { result ≡ words_of (kfdread_of (response_from reply fds)) }
 {
-    let a = response::kfdread(reply, fds);
-    front_words(a)
+    front_words(response::kfdread(reply, fds))
 }
 
 pub fn kopenat(reply: Reply, fds: List) -> OpenedWords
     ensures { result ≡ opened_words (kopenat_of (response_from reply fds)) }
 {
-    let a = response::kopenat(reply, fds);
-    opened_words(a)
+    opened_words(response::kopenat(reply, fds))
 }
 
 pub fn kdup(reply: Reply, fds: List) -> OpenedWords
     ensures { result ≡ opened_words (kdup_of (response_from reply fds)) }
 {
-    let a = response::kdup(reply, fds);
-    opened_words(a)
+    opened_words(response::kdup(reply, fds))
 }
 
 // A result word: its success, or its errno.
 pub fn demux(word: u64) -> AnswerWords
     ensures { result ≡ words_of (read_as (result_answer (demux_of word))) }
 {
-    let a = Error::demux(word);
-    let n = a.number();
-    match a {
-        Result::Ok(w) => answer_words::done(w),
-        Result::Err(e) => answer_words::refused(n),
+    match Error::demux(word) {
+        Ok(w) => answer_words::done(w),
+        Err(e) => answer_words::refused(e.number()),
     }
 }

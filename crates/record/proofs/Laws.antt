@@ -10,10 +10,8 @@ use lib.Dec.{eqb, leb}
 use lib.ListN.{length, set, get_or, drop, length-append, length-drop}
 use lib.Seq.{sets}
 use borrow.Author.Tests.{eq-eqb, ne_eqb, eqb-false, leb-true}
-use Rattle.le.specs.Le.{byte, half}
 use Rattle.word_put.proofs.Stores.{sets_then}
-use Rattle.record.specs.declared.Record.{Record}
-use Rattle.record.specs.Record.{each, is_event, next_of, nine_of, record_of, size_of, first_table, second_table, flag_table, number_table, user_table, walk}
+use Rattle.record.specs.Record.{each, is_event, next_of, record_of, size_of, first_table, second_table, flag_table, number_table, user_table, walk}
 
 pub each_length : (f : ℕ → ℕ) (n : ℕ) → length (each f n) ≡ n
 each_length f zero = refl

@@ -6,13 +6,14 @@ ghost use Rattle.le.specs.Le.{word as word_of};
 ghost use Rattle.record.specs.Record.{decoded};
 ghost use Rattle.recorded.specs.Recorded.{check_of, same_of, compared_of, as_recorded_of, Recorded};
 
-use answer::Answer;
+use answer::Refusal;
 use run::RunEnd;
 use state_bytes::STATE_SIZE;
 use std::fs::File;
 use std::io::Read;
 use std::rt::Files;
 use std::{fmt, io};
+use step::Step;
 
 // A file's runs so far, each as recorded, and the check number of its bytes.
 #[derive(Clone, Copy)]
@@ -246,26 +247,22 @@ fn replay_named(rt: &(impl Files + Print + Eprint), name: &str) -> io::Result<()
     }
 }
 
-// Copies until one is refused, no more than 65,537.
-fn copied_on(s: &mut [u64; 2060]) -> Answer {
+// Description 5 is opened, copied, put into handle 0 and copied on until that is refused, no more than 65,537 times.
+fn to_limit(s: &mut [u64; 2060]) -> Result<Step, Refusal> {
+    host::open(s, 5)?;
+    host::copy(s, 5)?;
+    host::put(s, 5, 0)?;
     for _ in 0..65_536 {
-        let answer = host::copy(s, 5).answer;
-        if !matches!(answer, Answer::Done) {
-            return answer;
-        }
+        host::copy(s, 5)?;
     }
-    host::copy(s, 5).answer
+    host::copy(s, 5)
 }
 
-// 01's 207, which no file has, since a run to it has 65,536 events: description 5 is opened, copied, put into handle 0 and copied on
-// until that is refused.
+// 01's 207, which no file has, since a run to it has 65,536 events.
 fn hold_limit(rt: &impl Print) -> io::Result<()> {
     let mut s = [0; 2060];
     plain::fresh_words(7, &mut s);
-    host::open(&mut s, 5);
-    host::copy(&mut s, 5);
-    host::put(&mut s, 5, 0);
-    let answer = answer_words::words(copied_on(&mut s));
+    let answer = answer_words::step_words(to_limit(&mut s)).answer;
     let mut told = [0; STATE_SIZE];
     state_bytes::put_state(&mut told, &s);
     let holds = le::word(&told, 48);

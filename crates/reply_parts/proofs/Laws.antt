@@ -10,8 +10,7 @@ use Rattle.ids.specs.declared.Description.{Description}
 use Rattle.ids.specs.Ids.{description_in}
 use Rattle.answer.specs.Numbered.{number_of}
 use Rattle.error.specs.declared.Error.{Error}
-use Rattle.error.specs.declared.Result.{Result}
-use Rattle.error.specs.declared.Result.TheVariants.{Ok, Err}
+use Rattle.std.specs.Prelude.{Result, Ok, Err}
 use Rattle.error.specs.Errors.{result_answer}
 use Rattle.fd_list.specs.declared.List.{List as Fds}
 use Rattle.fd_list.specs.Lists.{list_of}
@@ -28,11 +27,11 @@ pub errno_is : (c : Bool) (e : ℕ) (x y : Bool) → c ≡ x → (x ≡ true →
 errno_is c e true y q f g = rw (q, f refl) refl
 errno_is c e false y q f g = rw (q, g refl) refl
 
-pub stored_ok : (c : Bool) (r : Result) (w x : ℕ) (b : Bool) → r ≡ Ok w → ◌≡◌ {A = Reply} (record { kind = 0; extra0 = x; notice = b; word = w }) (stored_as (stored_result c r x b))
+pub stored_ok : (c : Bool) (r : Result ℕ Error) (w x : ℕ) (b : Bool) → r ≡ Ok w → ◌≡◌ {A = Reply} (record { kind = 0; extra0 = x; notice = b; word = w }) (stored_as (stored_result c r x b))
 stored_ok c r w x b e = rw e refl
 
 pub stored_err :
-    (c : Bool) (r : Result) (f : Error) (k n x : ℕ) (b : Bool) → r ≡ Err f → k ≡ number_of (result_answer r) → n ≡ stored_errno c k
+    (c : Bool) (r : Result ℕ Error) (f : Error) (k n x : ℕ) (b : Bool) → r ≡ Err f → k ≡ number_of (result_answer r) → n ≡ stored_errno c k
     → ◌≡◌ {A = Reply} (record { kind = 1; extra0 = x; notice = b; word = n }) (stored_as (stored_result c r x b))
 stored_err c r f k n x b e ek en = rw (en, ek, e) refl
 
@@ -45,7 +44,7 @@ named_one w d l q e =
 
 -- the parts by the offer
 pub parts_regular :
-    (v : Slot) (o : Offer) (r : Result) (x : ℕ) (b : Bool) (y : Reply) (n m : Fds) → o ≡ Regular r x b → y ≡ stored_as (stored_result v.canceling r x b)
+    (v : Slot) (o : Offer) (r : Result ℕ Error) (x : ℕ) (b : Bool) (y : Reply) (n m : Fds) → o ≡ Regular r x b → y ≡ stored_as (stored_result v.canceling r x b)
     → n ≡ no_fds → m ≡ no_fds → ◌≡◌ {A = Parts} (record { reply = y; kept = n; gone = v.fds; own = m }) (parts_of v (offered o))
 parts_regular v o r x b y n m e ey en em = rw (e, ey, en, em) refl
 

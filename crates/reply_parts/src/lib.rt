@@ -6,15 +6,13 @@ ghost use Rattle.std.specs.Prelude.{◌≡◌};
 ghost use Rattle.events.specs.Entry.{stored_errno, stored_result, stored_as, named_of};
 ghost use Rattle.reply_parts.specs.Parts.{offered, parts_of};
 
-use error::Result;
 use fd_list::List;
-use ids::DescriptionFound;
 use slot::{Reply, Slot};
 
 // What a reply entry brings: a result with extra0 and the notice, a description out of a handle, or the slot's own list.
 #[derive(Clone, Copy)]
 pub enum Offer {
-    Regular(Result, u8, bool),
+    Regular(error::Result, u8, bool),
     Fd(u64),
     Listed,
 }
@@ -32,38 +30,29 @@ pub struct Parts {
 fn stored_errno(canceling: bool, errno: u64) -> u64
     ensures { result ≡ stored_errno canceling errno }
 {
-    if canceling {
-        if errno == 125 {
-            return 4;
-        }
-        return errno;
+    match (canceling, errno) {
+        (true, 125) => 4,
+        (false, 4) => 5,
+        _ => errno,
     }
-    if errno == 4 {
-        return 5;
-    }
-    errno
 }
 
-fn stored(canceling: bool, res: Result, extra0: u8, notice: bool) -> Reply
+fn stored(canceling: bool, res: error::Result, extra0: u8, notice: bool) -> Reply
     ensures { result ≡ stored_as (stored_result canceling res extra0 notice) }
 {
-    let number = res.number();
     match res {
-        Result::Ok(word) => Reply {
+        Ok(word) => Reply {
             kind: 0,
-            extra0: extra0,
-            notice: notice,
-            word: word,
+            extra0,
+            notice,
+            word,
         },
-        Result::Err(_) => {
-            let errno = stored_errno(canceling, number);
-            return Reply {
-                kind: 1,
-                extra0: extra0,
-                notice: notice,
-                word: errno,
-            };
-        }
+        Err(error) => Reply {
+            kind: 1,
+            extra0,
+            notice,
+            word: stored_errno(canceling, error.number()),
+        },
     }
 }
 
@@ -71,10 +60,9 @@ fn stored(canceling: bool, res: Result, extra0: u8, notice: bool) -> Reply
 pub fn one_or_none(word: u64) -> List
     ensures { result ≡ named_of word }
 {
-    let found = ids::description_of(word);
-    match found {
-        DescriptionFound::At(d) => fd_list::single(d),
-        DescriptionFound::Outside => fd_list::empty(),
+    match ids::description_of(word) {
+        Some(d) => fd_list::single(d),
+        None => fd_list::empty(),
     }
 }
 
@@ -82,45 +70,34 @@ pub fn taken_apart(v: Slot, offer: Offer) -> Parts
     ensures { result ≡ parts_of v (offered offer) }
 {
     let none = fd_list::empty();
-    let fds = v.fds;
     match offer {
-        Offer::Regular(res, extra0, notice) => {
-            let reply = stored(v.canceling, res, extra0, notice);
-            return Parts {
-                reply: reply,
-                kept: none,
-                gone: fds,
-                own: none,
-            };
-        }
-        Offer::Fd(word) => {
-            let own = one_or_none(word);
-            let reply = Reply {
+        Offer::Regular(res, extra0, notice) => Parts {
+            reply: stored(v.canceling, res, extra0, notice),
+            kept: none,
+            gone: v.fds,
+            own: none,
+        },
+        Offer::Fd(word) => Parts {
+            reply: Reply {
                 kind: 2,
                 extra0: 0,
                 notice: false,
-                word: word,
-            };
-            return Parts {
-                reply: reply,
-                kept: none,
-                gone: fds,
-                own: own,
-            };
-        }
-        Offer::Listed => {
-            let reply = Reply {
+                word,
+            },
+            kept: none,
+            gone: v.fds,
+            own: one_or_none(word),
+        },
+        Offer::Listed => Parts {
+            reply: Reply {
                 kind: 3,
                 extra0: 0,
                 notice: false,
                 word: 0,
-            };
-            return Parts {
-                reply: reply,
-                kept: fds,
-                gone: none,
-                own: fds,
-            };
-        }
+            },
+            kept: v.fds,
+            gone: none,
+            own: v.fds,
+        },
     }
 }

@@ -12,7 +12,7 @@ use fd_list::List;
 use slot::Reply;
 
 // The Rust's `Response` by its stored number.
-#[derive(Clone, Copy)]
+#[derive(Clone, Copy, Debug, PartialEq, Eq)]
 enum Kind {
     Success,
     Error,
@@ -20,39 +20,34 @@ enum Kind {
     MultipleFds,
 }
 
-// What a front returns, the Rust's `Result<usize>`: a number, or an errno.
-#[derive(Clone, Copy)]
-pub enum FrontAnswer {
-    Value(u64),
-    Failed(u64),
-}
+// A reply's errno, any word.
+#[derive(Clone, Copy, Debug, PartialEq, Eq)]
+pub struct Errno(pub u64);
 
 // Another kind of reply than the front takes.
-const EIO: u64 = 5;
+const EIO: Errno = Errno(5);
+
+// Flags that are unknown.
+const EINVAL: Errno = Errno(22);
 
 // With the notice of a completion's kind 5.
 #[derive(Clone, Copy)]
 pub struct CallGeneric {
-    pub answer: FrontAnswer,
+    pub answer: Result<u64, Errno>,
     pub notice: bool,
 }
 
-// `OpenResult`: a number of the scheme's own with its flags, or a description; or the reply's errno, EINVAL for flags that
-// are unknown, EIO for many descriptors.
-#[derive(Clone, Copy)]
+// A number of the scheme's own with its flags, or a description.
+#[derive(Clone, Copy, Debug, PartialEq, Eq)]
 pub enum OpenResult {
     SchemeLocal(u64, u8),
     External(u64),
-    Failed(u64),
-    UnknownFlags,
-    MultipleFds,
 }
 
 fn kind_of(reply: Reply) -> Kind
     ensures { result ≡ kind_named reply.kind }
 {
-    let n = reply.kind;
-    match n {
+    match reply.kind {
         0 => Kind::Success,
         1 => Kind::Error,
         2 => Kind::Fd,
@@ -60,15 +55,14 @@ fn kind_of(reply: Reply) -> Kind
     }
 }
 
-pub fn into_regular(reply: Reply, fds: List) -> FrontAnswer
+pub fn into_regular(reply: Reply, fds: List) -> Result<u64, Errno>
     ensures { front_answer result ≡ into_regular_of (response_from reply fds) }
 {
-    let kind = kind_of(reply);
-    match kind {
-        Kind::Success => FrontAnswer::Value(reply.word),
-        Kind::Error => FrontAnswer::Failed(reply.word),
-        Kind::Fd => FrontAnswer::Failed(EIO),
-        Kind::MultipleFds => FrontAnswer::Failed(EIO),
+    match kind_of(reply) {
+        Kind::Success => Ok(reply.word),
+        Kind::Error => Err(Errno(reply.word)),
+        Kind::Fd => Err(EIO),
+        Kind::MultipleFds => Err(EIO),
     }
 }
 
@@ -76,8 +70,7 @@ pub fn into_regular(reply: Reply, fds: List) -> FrontAnswer
 fn notice_of(reply: Reply, fds: List) -> bool
     ensures { result ≡ notice_of (response_from reply fds) }
 {
-    let kind = kind_of(reply);
-    match kind {
+    match kind_of(reply) {
         Kind::Success => reply.notice,
         Kind::Error => reply.notice,
         Kind::Fd => false,
@@ -94,44 +87,42 @@ pub fn call_generic(reply: Reply, fds: List) -> CallGeneric
     }
 }
 
-pub fn kfdwrite(reply: Reply, fds: List) -> FrontAnswer
+pub fn kfdwrite(reply: Reply, fds: List) -> Result<u64, Errno>
     ensures { front_answer result ≡ kfdwrite_of (response_from reply fds) }
 {
     into_regular(reply, fds)
 }
 
-pub fn kfdread(reply: Reply, fds: List) -> FrontAnswer
+pub fn kfdread(reply: Reply, fds: List) -> Result<u64, Errno>
     ensures { front_answer result ≡ kfdread_of (response_from reply fds) }
 {
-    let kind = kind_of(reply);
     let count = fd_list::size(fds) as u64;
-    match kind {
-        Kind::Success => FrontAnswer::Failed(EIO), // a word where descriptors are waited for
-        Kind::Error => FrontAnswer::Failed(reply.word),
-        Kind::Fd => FrontAnswer::Failed(EIO), // one, where a list is waited for
-        Kind::MultipleFds => FrontAnswer::Value(count),
+    match kind_of(reply) {
+        Kind::Success => Err(EIO), // a word where descriptors are waited for
+        Kind::Error => Err(Errno(reply.word)),
+        Kind::Fd => Err(EIO), // one, where a list is waited for
+        Kind::MultipleFds => Ok(count),
     }
 }
 
 // The error first, then unknown bits.
-pub fn kopenat(reply: Reply, fds: List) -> OpenResult
+pub fn kopenat(reply: Reply, fds: List) -> Result<OpenResult, Errno>
     ensures { opened_as result ≡ kopenat_of (response_from reply fds) }
 {
-    let kind = kind_of(reply);
-    match kind {
+    match kind_of(reply) {
         Kind::Success => {
             if !flag::new_fd_flags_known(reply.extra0 as u64) {
-                return OpenResult::UnknownFlags;
+                return Err(EINVAL);
             }
-            OpenResult::SchemeLocal(reply.word, reply.extra0)
+            Ok(OpenResult::SchemeLocal(reply.word, reply.extra0))
         }
-        Kind::Error => OpenResult::Failed(reply.word),
-        Kind::Fd => OpenResult::External(reply.word),
-        Kind::MultipleFds => OpenResult::MultipleFds,
+        Kind::Error => Err(Errno(reply.word)),
+        Kind::Fd => Ok(OpenResult::External(reply.word)),
+        Kind::MultipleFds => Err(EIO),
     }
 }
 
-pub fn kdup(reply: Reply, fds: List) -> OpenResult
+pub fn kdup(reply: Reply, fds: List) -> Result<OpenResult, Errno>
     ensures { opened_as result ≡ kdup_of (response_from reply fds) }
 {
     kopenat(reply, fds)

@@ -24,8 +24,10 @@ use Rattle.record.specs.Record.{words_at}
 use Rattle.record.proofs.Laws.{each_length}
 use Rattle.wait_queue.specs.Queue.{words_from, unread, removed}
 use Rattle.wait_queue.proofs.Unread.{length_bytes, length_words}
-use Rattle.answer.specs.declared.Answer.{Answer as Case}
-use Rattle.answer.specs.declared.Answer.TheVariants.{Bytes}
+use Rattle.std.specs.Prelude.{Result, Ok}
+use Rattle.answer.specs.declared.Accepted.{Accepted}
+use Rattle.answer.specs.declared.Refusal.{Refusal}
+use Rattle.answer.specs.declared.Accepted.TheVariants.{Bytes}
 use Rattle.layout.specs.Layout.{plain_of}
 use Rattle.packed.proofs.Agree.{steps_agree}
 use Rattle.step.specs.Does.{Does}
@@ -95,7 +97,7 @@ same_read w len flags h =
 
     go : (b : Bool) → received_if b (queue_of w) (min len 8192) flags ≡ received_if b (queue_of w) len flags
     go true = λ i. record { answer = empty_by (eqb (flags / 0x4_0000 % 2) 0) (none_same len i) (few_same len i); queue = queue_of w }
-    go false = ap (λ (n : ℕ). record { answer = Bytes n; queue = removed (queue_of w) (n / 64) }) few
+    go false = ap (λ (n : ℕ). record { answer = Ok (Bytes n); queue = removed (queue_of w) (n / 64) }) few
 
 -- and it hands nothing over
 no_reply_lem : (w : World) (len flags : ℕ) → (words_of (read_of w len flags).answer).kind ≡ 4 → ⊥
@@ -112,15 +114,15 @@ no_reply_lem w len flags = go (eqb (queue_of w).len 0)
     go false e = omega (arith, e)
 
 -- what stands before its bytes
-abbrev head_of : Case → ℕ → List ℕ
+abbrev head_of : Result Accepted Refusal → ℕ → List ℕ
 head_of a n = bytes_of ((words_of (said a)).kind ∷ (words_of (said a)).value ∷ 0 ∷ n ∷ [])
 
-head_told : (a : Case) (n : ℕ) (bs : List ℕ) → ((words_of (said a)).kind ≡ 4 → ⊥) → n ≡ length bs → head_of a n ++ bs ≡ told (said a) [] bs
+head_told : (a : Result Accepted Refusal) (n : ℕ) (bs : List ℕ) → ((words_of (said a)).kind ≡ 4 → ⊥) → n ≡ length bs → head_of a n ++ bs ≡ told (said a) [] bs
 head_told a n bs z e =
-    ap₂ (λ (ws : List ℕ) (j : ℕ). bytes_of ws ++ bytes_of (0 ∷ []) ++ bytes_of (j ∷ []) ++ bs) (plain_words (words_of (said a)) (success 0 0 false) a refl z) e
+    ap₂ (λ (ws : List ℕ) (j : ℕ). bytes_of ws ++ bytes_of (0 ∷ []) ++ bytes_of (j ∷ []) ++ bs) (plain_words (words_of (said a)) (said a) refl z) e
 
 -- a read into m bytes that are as good as len, n of the output behind 32 others, on words
-module _ (ws xs : List ℕ) (len flags n m k : ℕ) (out part : List ℕ) (a : Case) (room : 192 + min len 8192 ≤ length out) (en : n ≡ min len 8192)
+module _ (ws xs : List ℕ) (len flags n m k : ℕ) (out part : List ℕ) (a : Result Accepted Refusal) (room : 192 + min len 8192 ≤ length out) (en : n ≡ min len 8192)
     (em : m ≡ length (take (32 + n - 32) (drop 32 out))) (ek : k ≡ min n ((queue_of (plain_of ws)).len * 64)) (d : Does ws xs (on (read m flags)) (said a) [])
     (is : part ≡ sets (take (32 + n - 32) (drop 32 out)) 0 (read_of (plain_of ws) m flags).bytes) where
   abbrev w : World

@@ -121,6 +121,7 @@ fn run_all(scheme: u64, events: &[u8], end: usize, out: &mut [u8], fx: &mut [u64
     let mut second = [0; 255];
     let mut at = 0;
     let mut j = 0;
+    // Each turn goes on by the size of its record, which no range and no iterator does.
     while at < end {
         let r = record::record_at(&events[at..]);
         let size = record::size(r);

@@ -9,7 +9,7 @@ use lib.ListN.{length, drop, length-drop}
 use lib.Seq.{drop-drop}
 use Rattle.std.proofs.Common.{Option, Some, None, is_some, SomeIff, MatchOption}
 use Rattle.std.proofs.lemmas.Bool.Decides.{nat_tests}
-use borrow.Author.Tests.{eq-eqb, ne_eqb, le-leb, lt-leb, leb-true, leb-false}
+use borrow.Author.Tests.{eq-eqb, le-leb, lt-leb}
 use Rattle.record.specs.Record.{record_of, tail_by, next_of, walk}
 use Rattle.record.proofs.Laws.{next_there, walk_ends, walk_goes_on}
 use Rattle.state_bytes.specs.StateBytes.{state_size}

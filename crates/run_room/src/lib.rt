@@ -3,21 +3,30 @@
 #![tactic(auto)]
 
 ghost use Rattle.std.specs.Prelude.{◌≡◌, ◌-◌, ◌≤◌, None, MatchOption, SomeIff};
+ghost use Rattle.record.specs.Record.{record_of};
 ghost use Rattle.run_room.specs.Room.{room_of, walked_of};
 
-use record::{EventKind, Record};
+use record::EventKind;
 use state_bytes::STATE_SIZE;
 
-// The room that an event's bytes may take: a read's by its first word, a write's by its number.
-fn room(r: Record) -> usize
-    ensures value { result ≡ room_of r }
+// The room that the bytes of the event at the start of a slice may take: a read's by its first word, a write's by its number. No other
+// field is read.
+fn room_at(s: &[u8]) -> usize
+    ensures value { result ≡ room_of (record_of s.now) }
     ensures upper_bound { result ≤ 0x40_0000_0000 }
 {
-    let read = match EventKind::try_from_raw(r.kind) {
-        Some(EventKind::Read) => r.words.0.min(8192) as usize,
-        _ => 0,
+    let kind = le::byte(s, 0);
+    let read = if kind == EventKind::Read as u8 {
+        le::word(s, 16).min(8192) as usize
+    } else {
+        0
     };
-    192 + read + 27 * record::tail(r)
+    let tail = if kind == EventKind::Write as u8 {
+        le::half(s, 4) as usize
+    } else {
+        0
+    };
+    192 + read + 27 * tail
 }
 
 // Whether what a run writes has room, and where its events end, whichever it is.
@@ -41,7 +50,7 @@ pub fn walk(events: &[u8], most: usize) -> Walked
     let mut left = most.checked_sub(STATE_SIZE);
     let mut at = 0;
     while let Some(size) = record_next::next(&events[at..]) {
-        let needed = room(record::record_at(&events[at..]));
+        let needed = room_at(&events[at..]);
         left = spend(left, needed);
         at += size;
     }

@@ -1,11 +1,11 @@
 -- Where each byte of an entry lies (01, "Entries"; Reference, "Type layout", `#[repr(C)]`; little-endian).
 -- An entry is read from the start of a list of bytes.
-use Rattle.std.specs.Prelude.{List, [], ◌∷◌, ◌++◌, ℕ, ◌+◌, ◌*◌, ◌%◌, get_or}
+use Rattle.std.specs.Prelude.{Option, List, [], ◌∷◌, ◌++◌, ℕ, ◌+◌, ◌*◌, ◌%◌, slice_get}
 use Rattle.le.specs.Le.{byte, half, word, bytes4, bytes8}
 use Rattle.schemev2.specs.declared.Sqe.{Sqe}
 use Rattle.schemev2.specs.declared.Cqe.{Cqe}
 use Rattle.schemev2.specs.declared.CqeOpcode.{CqeOpcode}
-use Rattle.schemev2.specs.declared.CqeOpcode.TheVariants.{RespondRegular, RespondWithFd, SendFevent, ObtainFd, RespondWithMultipleFds, RespondAndNotifyOnDetach, Unknown}
+use Rattle.schemev2.specs.declared.CqeOpcode.TheVariants.{RespondRegular, RespondWithFd, SendFevent, ObtainFd, RespondWithMultipleFds, RespondAndNotifyOnDetach}
 
 -- submission, 64 bytes: opcode 0, flags 1, reserved 2-3, tag 4-7, six arguments 8-55, caller's pid 56-63
 abbrev pub sqe_of : List ℕ → Sqe
@@ -58,6 +58,6 @@ abbrev pub extra_of : Cqe → ℕ
 extra_of e = e.extra_raw.0 + e.extra_raw.1 * 0x100 + e.extra_raw.2 * 0x1_0000
 
 -- the six kinds by their numbers
-abbrev pub cqe_opcode_of : ℕ → CqeOpcode
+abbrev pub cqe_opcode_of : ℕ → Option CqeOpcode
 cqe_opcode_of n =
-    get_or (RespondRegular ∷ RespondWithFd ∷ SendFevent ∷ ObtainFd ∷ RespondWithMultipleFds ∷ RespondAndNotifyOnDetach ∷ []) n Unknown
+    slice_get (RespondRegular ∷ RespondWithFd ∷ SendFevent ∷ ObtainFd ∷ RespondWithMultipleFds ∷ RespondAndNotifyOnDetach ∷ []) n

@@ -51,7 +51,7 @@ impl Cqe {
 }
 
 // The completion kinds, 0 to 5 in this order.
-#[derive(Clone, Copy)]
+#[derive(Clone, Copy, Debug, PartialEq, Eq)]
 pub enum CqeOpcode {
     RespondRegular,
     RespondWithFd,
@@ -59,21 +59,20 @@ pub enum CqeOpcode {
     ObtainFd,
     RespondWithMultipleFds,
     RespondAndNotifyOnDetach,
-    Unknown,
 }
 
 impl CqeOpcode {
-    pub fn try_from_raw(raw: u8) -> CqeOpcode
+    pub fn try_from_raw(raw: u8) -> Option<CqeOpcode>
         ensures { result ≡ cqe_opcode_of raw }
     {
         match raw {
-            0 => CqeOpcode::RespondRegular,
-            1 => CqeOpcode::RespondWithFd,
-            2 => CqeOpcode::SendFevent,
-            3 => CqeOpcode::ObtainFd,
-            4 => CqeOpcode::RespondWithMultipleFds,
-            5 => CqeOpcode::RespondAndNotifyOnDetach,
-            _ => CqeOpcode::Unknown,
+            0 => Some(CqeOpcode::RespondRegular),
+            1 => Some(CqeOpcode::RespondWithFd),
+            2 => Some(CqeOpcode::SendFevent),
+            3 => Some(CqeOpcode::ObtainFd),
+            4 => Some(CqeOpcode::RespondWithMultipleFds),
+            5 => Some(CqeOpcode::RespondAndNotifyOnDetach),
+            _ => None,
         }
     }
 }

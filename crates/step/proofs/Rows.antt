@@ -1,16 +1,22 @@
 -- An event by its refusal table: turned down by the first row that is due, or carried out. Assumes nothing.
 use Prim.Native.Nat.{ℕ}
-use mathlib.Core.Path.{◌≡◌, refl, sym, ap, ◌∙◌}
+use mathlib.Core.Path.{◌≡◌, refl, sym, ap, ◌∙◌, subst}
+use Rattle.std.specs.Prelude.{Result, Ok, Err}
 use mathlib.Core.Bool.{Bool, true, false, cond}
 use mathlib.Core.List.{List, [], ◌∷◌}
 use native.Mathlib.Omega.{arith}
-use Rattle.events.specs.Outcome.{Answer, no, Outcome, Row, checked, refuse}
+use Rattle.answer.specs.declared.Accepted.{Accepted}
+use Rattle.answer.specs.declared.Refusal.{Refusal}
+use Rattle.answer.specs.Numbered.{refusal_number}
+use Rattle.effect.specs.Effect.{effect_words}
+use Rattle.events.specs.Outcome.{Response, Answer, no, said_with, said, Outcome, Row, checked, refuse}
 use Rattle.events.specs.Event.{Event, step}
 use Rattle.events.proofs.Checked.{Passed}
 use Rattle.layout.specs.Layout.{plain_of}
 use Rattle.layout.specs.Store.{Store, stored_all}
 use Rattle.packed.specs.Stores.{unless, stores_of}
-use Rattle.step.specs.Does.{Due, Does}
+use Rattle.step.specs.declared.Step.{Step}
+use Rattle.step.specs.Does.{Due, answer_with, effects_of, Does}
 
 pub checked_due : {A : Type 0} (f : ℕ → A) (rows : List Row) (x : A) (k : ℕ) → Due rows k → checked f rows x ≡ f k
 checked_due f [] x k d = absurd (omega (arith, d))
@@ -46,3 +52,14 @@ module _
           effects = g ∙ sym (ap (λ (x : Outcome). x.effects) r);
           words = h ∙ sym (ap (stored_all ws) (stores ∙ checked_passed (λ j. []) rows ss p));
         }
+
+pub told : (p a : Accepted) → p ≡ a → said (Ok p) ≡ said (Ok a)
+told p a q = ap (λ (x : Accepted). said (Ok x)) q
+
+-- what a function hands on: a refusal, and what it answers with no effect
+module _ (ws xs : List ℕ) (e : Event) (v : Response) where
+  pub down : (r : Result Step Refusal) (k : Refusal) → r ≡ Err k → Does ws xs e (no (refusal_number k)) [] → Does ws xs e (answer_with v r) (effects_of r)
+  down r k q d = subst (λ (x : Result Step Refusal). Does ws xs e (answer_with v x) (effects_of x)) (sym q) d
+
+  pub quiet : (s : Step) (a : Accepted) → s.accepted ≡ a → effect_words s.effect ≡ [] → Does ws xs e (said_with v (Ok a)) [] → Does ws xs e (answer_with v (Ok s)) (effects_of (Ok s))
+  quiet s a p q d = record { answer = ap (λ (x : Accepted). said_with v (Ok x)) p ∙ d.answer; effects = q ∙ d.effects; words = d.words }

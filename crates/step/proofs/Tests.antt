@@ -5,6 +5,8 @@ use mathlib.Core.Bool.{Bool, true, false, cond}
 use mathlib.Core.List.{List}
 use native.Mathlib.Omega.{arith}
 use lib.Dec.{ltb}
+use Rattle.std.specs.Prelude.{Option, Some, None, Result, Ok, Err}
+use Rattle.std.specs.Option.{ok_or}
 use lib.ListN.{get_or}
 use borrow.Author.Tests.{ltb-true, ltb-false, leb-false}
 use Rattle.slot.specs.declared.Slot.{Slot}
@@ -17,6 +19,15 @@ use Rattle.layout.specs.Store.{put_words, vacate_words, stored, put, vacate}
 -- what a function told of a test
 pub is : {b c x : Bool} → b ≡ c → b ≡ x → c ≡ x
 is e q = sym e ∙ q
+
+-- what `ok_or` and `?` found
+pub found : {A E : Type 0} (o : Option A) (k : E) (r : Result A E) (x : A) → r ≡ ok_or o k → r ≡ Ok x → o ≡ Some x
+found None k r x p q = absurd (let z : ◌≡◌ {A = ℕ} 0 1 = cc in omega (arith, z))
+found (Some y) k r x p q = cc
+
+pub missed : {A E : Type 0} (o : Option A) (k : E) (r : Result A E) (x : E) → r ≡ ok_or o k → r ≡ Err x → (o ≡ None) × (x ≡ k)
+missed None k r x p q = (refl, cc)
+missed (Some y) k r x p q = absurd (let z : ◌≡◌ {A = ℕ} 0 1 = cc in omega (arith, z))
 
 -- the slot that is given out
 pub first_vacant : (w : World) (n : ℕ) → table_full w ≡ false → n ≡ min (table_of w).head 64 → n ≡ (table_of w).head

@@ -7,7 +7,9 @@ use native.Mathlib.Omega.{arith}
 use lib.Dec.{ltb, eqb}
 use lib.ListN.{length, get_or}
 use borrow.Author.Tests.{ltb-true}
-use Rattle.ask.specs.declared.Asked.{Asked}
+use Rattle.std.specs.Prelude.{Err}
+use Rattle.answer.specs.declared.Refusal.{Refusal}
+use Rattle.answer.specs.Numbered.{refusal_number}
 use Rattle.ask.specs.Asked.{asked_of}
 use Rattle.ask.proofs.Cases.{asked_turned, taken_is}
 use Rattle.counts.specs.Counts.{less_all}
@@ -24,7 +26,7 @@ use Rattle.slot.specs.declared.Slot.{Slot}
 use Rattle.slot.specs.Slots.{phase_of, vacant_slot, waiting_of}
 use Rattle.table.specs.Table.{no_slot}
 use Rattle.events.specs.World.{World, table_of, holds_of, slot_in, queue_full}
-use Rattle.events.specs.Outcome.{Answer, ok, no, said, row, readable}
+use Rattle.events.specs.Outcome.{Answer, ok, no, row, readable}
 use Rattle.events.specs.Submit.{sqe, bad_opcode, bad_list, long_list, is_placeholder, submittable, submitted, submit_entry, submit_rows}
 use Rattle.events.specs.Event.{Event, on, submit}
 use Rattle.layout.specs.Layout.{plain_of}
@@ -62,7 +64,7 @@ module _ (ws : List ℕ) (n : Tag) (c op fl : ℕ) (args : Args) (pid : ℕ) (ds
   abbrev ss : List Store
   ss = taken w ds ∷ put n.0 (waiting_of c (list_of ds)) ∷ send f ∷ []
 
-  pub refused : (r : Asked) → r ≡ asked_of w op ds → r.good ≡ false → (a : Answer) (fx : List ℕ) → a ≡ said r.answer → fx ≡ [] → Does ws ws e a fx
+  pub refused : (r : Refusal) → Err r ≡ asked_of w op ds → Does ws ws e (no (refusal_number r)) []
   refused = asked_turned ws e op ds (row 201 (not (submittable (slot_in w n.0) c)) ∷ row 203 (queue_full w) ∷ []) (submitted w n.0 c ds f) ss refl refl
 
   module _ (p : bad_opcode op || bad_list w ds ≡ false) (r : long_list ds ≡ false) (k : SlotNo) (is : k ≡ slot_of n) (v : Slot) (at : v ≡ slot_in w k.0) where

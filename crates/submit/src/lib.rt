@@ -3,13 +3,11 @@
 #![tactic(auto)]
 
 ghost use Rattle.std.specs.Prelude.{◌≡◌};
-ghost use Rattle.effect.specs.Effect.{effect_words};
-ghost use Rattle.events.specs.Outcome.{said};
-ghost use Rattle.step.specs.Does.{Does};
+ghost use Rattle.step.specs.Does.{answer_of, effects_of, Does};
 ghost use Rattle.events.specs.Submit.{submittable};
 ghost use Rattle.events.specs.Event.{on, submit as submitEvent};
 
-use answer::Answer;
+use answer::{Accepted, Refusal};
 use ids::Tag;
 use schemev2::{Args, Sqe};
 use slot::{Phase, Slot};
@@ -19,19 +17,7 @@ use step::Step;
 fn is_submittable(v: Slot, caller: u32) -> bool
     ensures { result ≡ submittable v caller }
 {
-    let p = slot::phase_of(v);
-    match p {
-        Phase::Placeholder => {
-            if v.caller != caller {
-                return false;
-            }
-            return !v.ended;
-        }
-        Phase::Vacant => false,
-        Phase::Waiting => false,
-        Phase::Responded => false,
-        Phase::Fmap => false,
-    }
+    slot::phase_of(v) == Phase::Placeholder && v.caller == caller && !v.ended
 }
 
 pub fn submit(
@@ -43,22 +29,18 @@ pub fn submit(
     flags: u8,
     args: Args,
     pid: u64,
-) -> Step
-    ensures { Does s.old s.new (on (submitEvent tag.0 caller opcode flags args pid fds.now)) (said result.answer) (effect_words result.effect) }
+) -> Result<Step, Refusal>
+    ensures { Does s.old s.new (on (submitEvent tag.0 caller opcode flags args pid fds.now)) (answer_of result) (effects_of result) }
 {
     // lent anew: its pointer and length are then loaded apart, and not as one right after they were stored
-    let asked = ask::ask(s, opcode, &fds[..]);
-    if !asked.good {
-        let no = asked.answer;
-        return step::answered(no);
-    }
+    let asked = ask::ask(s, opcode, &fds[..])?;
     let n = ids::slot_of(tag);
     let v = slot_load::load(s, n);
     if !is_submittable(v, caller) {
-        return step::answered(Answer::NotYours);
+        return Err(Refusal::NotYours);
     }
     if queue_words::queue_full(s) {
-        return step::answered(Answer::QueueFull);
+        return Err(Refusal::QueueFull);
     }
     let list = asked.list;
     let w = slot::waiting(caller, list);
@@ -66,9 +48,9 @@ pub fn submit(
         opcode: asked.opcode,
         sqe_flags: flags,
         tag: n.0 as u32,
-        args: args,
+        args,
         caller: pid,
     };
     hold_words::take(s, list);
-    step::went_on(s, n, w, e, Answer::Submitted(tag))
+    Ok(step::went_on(s, n, w, e, Accepted::Submitted(tag)))
 }

@@ -10,8 +10,8 @@ use lib.ListN.{get_or, length}
 use borrow.Author.Tests.{lt-ltb, le-ltb, eq-eqb, ne_eqb}
 use Rattle.counts.specs.Counts.{times, any}
 use Rattle.counts.proofs.Laws.{times_cons, one_self}
-use Rattle.take_holds.specs.declared.TakeAnswer.{TakeAnswer}
-use Rattle.take_holds.specs.declared.TakeAnswer.TheVariants as take
+use Rattle.answer.specs.declared.Refusal.{Refusal}
+use Rattle.answer.specs.declared.Refusal.TheVariants.{BadArgument, TooManyFds}
 use Rattle.take_holds.specs.Take.{bad_in}
 use Rattle.take_holds.proofs.Each.{allowed_of}
 use Rattle.take_holds.proofs.Walk.{or_true, any_at}
@@ -70,8 +70,8 @@ module _ (all out ws : List ℕ) (d : ℕ) where
       go false true p = absurd (omega arith)
       go false false p = le-ltb (get_or out d 0) (times d ws) p
 
-abbrev refusal : List ℕ → List ℕ → List ℕ → TakeAnswer
-refusal all out ws = cond (any (bad_in all out ws) ws) take.BadArgument take.TooMany
+abbrev refusal : List ℕ → List ℕ → List ℕ → Refusal
+refusal all out ws = cond (any (bad_in all out ws) ws) BadArgument TooManyFds
 
 -- no description below d is listed too often, and n words are d or more
 abbrev pub Counted : List ℕ → List ℕ → List ℕ → ℕ → ℕ → Type 0
@@ -83,7 +83,7 @@ module _ (all out ws : List ℕ) (n d : ℕ) (g : Counted all out ws n d) where
     count_fits = omega (arith, from_next d ws, g.1)
 
     module _ (m : ℕ) (r : m ≡ allowed_of all out d) where
-      pub count_over : m < k → take.BadArgument ≡ refusal all out ws
+      pub count_over : m < k → BadArgument ≡ refusal all out ws
       count_over b = rw (any_at (bad_in all out ws) d ws (too_often all out ws d (omega arith)) (omega arith)) refl
 
       pub count_next : d < 64 → k ≤ m → Counted all out ws (n - k) (d + 1)
@@ -94,13 +94,13 @@ module _ (all out ws : List ℕ) (n d : ℕ) (g : Counted all out ws n d) where
           go e q (no p) = g.2 e (omega arith)
 
   module _ (b : 64 ≤ d) where
-    pub count_left : (n ≡ 0 → ⊥) → take.BadArgument ≡ refusal all out ws
+    pub count_left : (n ≡ 0 → ⊥) → BadArgument ≡ refusal all out ws
     count_left z =
         let e : d ≡ 64 = omega (arith, g.0) in
         let y : n ≡ from 64 ws = rw e at g.1 in
         rw (over (bad_in all out ws) (λ x p. rw (lt-ltb 63 x p) refl) ws (omega arith)) refl
 
-    pub count_end : n ≡ 0 → take.TooMany ≡ refusal all out ws
+    pub count_end : n ≡ 0 → TooManyFds ≡ refusal all out ws
     count_end z =
         let e : d ≡ 64 = omega (arith, g.0) in
         let y : n ≡ from 64 ws = rw e at g.1 in

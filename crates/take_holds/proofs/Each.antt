@@ -1,4 +1,5 @@
 -- One word against the counts: how often a list names it, how often it may, and whether a hold is left for it. Assumes nothing.
+use Rattle.std.specs.Prelude.{Option, Some, None}
 use Prim.Native.Nat.{ℕ, suc, ◌+◌, ◌≤◌, ◌<◌}
 use mathlib.Core.Path.{◌≡◌, refl, sym, ap, ◌∙◌}
 use mathlib.Core.Bool.{Bool, true, false, cond, ◌||◌}
@@ -10,8 +11,6 @@ use lib.ListN.{get_or, length, drop, drop_of_length-le}
 use lib.Seq.{drop-cons}
 use borrow.Author.Tests.{lt-ltb, le-ltb, eq-eqb, ne_eqb, ltb-false}
 use Rattle.ids.specs.declared.Description.{Description}
-use Rattle.ids.specs.declared.DescriptionFound.{DescriptionFound}
-use Rattle.ids.specs.declared.DescriptionFound.TheVariants as found
 use Rattle.ids.specs.Ids.{description_of}
 use Rattle.ids.proofs.Laws.{over_named, named}
 use Rattle.fd_list.specs.Lists.{desc}
@@ -44,11 +43,11 @@ module _ (w n i : ℕ) (ws : List ℕ) (e : n + times w (drop i ws) ≡ times w 
 abbrev pub allowed_of : List ℕ → List ℕ → ℕ → ℕ
 allowed_of all out w = cond (ltb 63 w || eqb (get_or all w 0) 0) 0 (get_or out w 0)
 
-module _ (all out : List ℕ) (w : ℕ) (f : DescriptionFound) (q : f ≡ description_of w) where
-  pub allowed_over : f ≡ found.Outside → 0 ≡ allowed_of all out w
+module _ (all out : List ℕ) (w : ℕ) (f : Option Description) (q : f ≡ description_of w) where
+  pub allowed_over : f ≡ None → 0 ≡ allowed_of all out w
   allowed_over e = rw (lt-ltb 63 w (over_named w f q e)) refl
 
-  module _ (d : Description) (e : f ≡ found.At d) where
+  module _ (d : Description) (e : f ≡ Some d) where
     at_word : (a : List ℕ) (m : ℕ) → m ≡ get_or a d.0 0 → m ≡ get_or a w 0
     at_word a m r = r ∙ ap (λ (x : Description). get_or a x.0 0) (named w f q d e).1
 
@@ -61,20 +60,20 @@ module _ (all out : List ℕ) (w : ℕ) (f : DescriptionFound) (q : f ≡ descri
 
 -- w may be named m times, and k of the words before name it
 module _ (all out before : List ℕ) (w m k : ℕ) (r : m ≡ allowed_of all out w) (s : k ≡ times w before) where
-  pub held_needed : m ≤ k → found.Outside ≡ held_of all (less_all out before) w
+  pub held_needed : m ≤ k → None ≡ held_of all (less_all out before) w
   held_needed b = go (ltb 63 w) (eqb (get_or all w 0) 0) r
     where
-      go : (x y : Bool) → m ≡ cond (x || y) 0 (get_or out w 0) → found.Outside ≡ held_if (x || (y || eqb (get_or (less_all out before) w 0) 0)) w
+      go : (x y : Bool) → m ≡ cond (x || y) 0 (get_or out w 0) → None ≡ held_if (x || (y || eqb (get_or (less_all out before) w 0) 0)) w
       go true y p = refl
       go false true p = refl
       go false false p = rw (eq-eqb (get_or (less_all out before) w 0) 0 (omega (arith, less_all_at before out w))) refl
 
-  pub held_left : k < m → (f : DescriptionFound) → f ≡ description_of w → f ≡ held_of all (less_all out before) w
+  pub held_left : k < m → (f : Option Description) → f ≡ description_of w → f ≡ held_of all (less_all out before) w
   held_left b f q = go (ltb 63 w) (eqb (get_or all w 0) 0) refl r
     where
       go : (x y : Bool) → ltb 63 w ≡ x → m ≡ cond (x || y) 0 (get_or out w 0) → f ≡ held_if (x || (y || eqb (get_or (less_all out before) w 0) 0)) w
       go true y e p = absurd (omega arith)
       go false true e p = absurd (omega arith)
       go false false e p =
-          let z : description_of w ≡ found.At (desc w) = rw (lt-ltb w 64 (omega (arith, ltb-false 63 w e))) refl in
+          let z : description_of w ≡ Some (desc w) = rw (lt-ltb w 64 (omega (arith, ltb-false 63 w e))) refl in
           rw (ne_eqb (get_or (less_all out before) w 0) 0 (λ x. omega (arith, less_all_at before out w))) (q ∙ z)

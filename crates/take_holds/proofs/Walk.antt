@@ -12,23 +12,24 @@ use lib.ListN.{get_or, set, length, take, drop, get_or-eq_default, drop_of_lengt
 use lib.Seq.{sets, drop-cons, take-suc, get_or-set_same, get_or-set_other}
 use borrow.Author.Tests.{lt-ltb, le-ltb, eq-eqb, ne_eqb, ltb-true, eqb-true, eqb-false}
 use Rattle.ids.specs.declared.Description.{Description}
-use Rattle.fd_list.specs.declared.List.{List as Sent}
+use Rattle.fd_list.specs.declared.List.{List as Fds}
 use Rattle.fd_list.specs.Lists.{desc, blank, list_of}
 use Rattle.counts.specs.Counts.{less, less_all, times, any}
 use Rattle.counts.proofs.Laws.{less_all_then}
 use Rattle.holds.specs.declared.Holds.{Holds}
 use Rattle.holds.specs.Holds.{holds_with, unheld}
 use Rattle.take_holds.specs.declared.Taken.{Taken}
-use Rattle.take_holds.specs.declared.TakeAnswer.{TakeAnswer}
-use Rattle.take_holds.specs.declared.TakeAnswer.TheVariants as take
+use Rattle.answer.specs.declared.Refusal.{Refusal}
+use Rattle.std.specs.Prelude.{Result, Ok, Err}
+use Rattle.answer.specs.declared.Refusal.TheVariants.{BadArgument, TooManyFds}
 use Rattle.take_holds.specs.Take.{taken_as, bad_in, bad, take_of}
 
 abbrev pub full : Holds → List ℕ → List Description → ℕ → Taken
-full h left at n = record { answer = take.Taken; list = record { at = at; len = n }; holds = holds_with h.holds left }
+full h left at n = record { list = Ok (record { at = at; len = n }); holds = holds_with h.holds left }
 
 abbrev pub take_on : Holds → List ℕ → List Description → ℕ → List ℕ → Taken
 take_on h left at i [] = full h left at i
-take_on h left at i (d ∷ ds) = cond (unheld h.holds left d) (taken_as take.BadArgument [] h) (take_on h (less left d) (set at i (desc d)) (suc i) ds)
+take_on h left at i (d ∷ ds) = cond (unheld h.holds left d) (taken_as (Err BadArgument) h) (take_on h (less left d) (set at i (desc d)) (suc i) ds)
 
 ltb_ext : (a b c d : ℕ) → (a < b → c < d) → (c < d → a < b) → ltb a b ≡ ltb c d
 ltb_ext a b c d f g = go (dec_lt a b)
@@ -112,26 +113,26 @@ module _ (all left : List ℕ) (d : ℕ) (ds : List ℕ) where
               sym (any_at (bad_in all (less left d) ds) d ds t (omega (arith, ltb-true (get_or (less left d) d 0) (times d ds) u)))
 
 walked : (h : Holds) (left : List ℕ) (at : List Description) (i : ℕ) (ds : List ℕ) →
-    take_on h left at i ds ≡ cond (any (bad_in h.holds left ds) ds) (taken_as take.BadArgument [] h) (full h (less_all left ds) (sets at i (map desc ds)) (i + length ds))
+    take_on h left at i ds ≡ cond (any (bad_in h.holds left ds) ds) (taken_as (Err BadArgument) h) (full h (less_all left ds) (sets at i (map desc ds)) (i + length ds))
 walked h left at i [] = ap (λ (n : ℕ). full h left at n) (sym (add-zero i))
 walked h left at i (d ∷ ds) = go (walked h (less left d) (set at i (desc d)) (suc i) ds) (unheld h.holds left d) refl
   where
-    go : take_on h (less left d) (set at i (desc d)) (suc i) ds ≡ cond (any (bad_in h.holds (less left d) ds) ds) (taken_as take.BadArgument [] h) (full h (less_all (less left d) ds) (sets (set at i (desc d)) (suc i) (map desc ds)) (suc i + length ds)) →
+    go : take_on h (less left d) (set at i (desc d)) (suc i) ds ≡ cond (any (bad_in h.holds (less left d) ds) ds) (taken_as (Err BadArgument) h) (full h (less_all (less left d) ds) (sets (set at i (desc d)) (suc i) (map desc ds)) (suc i + length ds)) →
         (b : Bool) → unheld h.holds left d ≡ b →
-        cond b (taken_as take.BadArgument [] h) (take_on h (less left d) (set at i (desc d)) (suc i) ds)
-        ≡ cond (any (bad_in h.holds left (d ∷ ds)) (d ∷ ds)) (taken_as take.BadArgument [] h) (full h (less_all left (d ∷ ds)) (sets at i (map desc (d ∷ ds))) (i + suc (length ds)))
+        cond b (taken_as (Err BadArgument) h) (take_on h (less left d) (set at i (desc d)) (suc i) ds)
+        ≡ cond (any (bad_in h.holds left (d ∷ ds)) (d ∷ ds)) (taken_as (Err BadArgument) h) (full h (less_all left (d ∷ ds)) (sets at i (map desc (d ∷ ds))) (i + suc (length ds)))
     go w true s = rw (unheld_bad h.holds left d ds s) refl
-    go w false s = rw (go_on h.holds left d ds s) (w ∙ ap (λ (n : ℕ). cond (any (bad_in h.holds (less left d) ds) ds) (taken_as take.BadArgument [] h) (full h (less_all (less left d) ds) (sets (set at i (desc d)) (suc i) (map desc ds)) n)) (let e : suc i + length ds ≡ i + suc (length ds) = omega arith in e))
+    go w false s = rw (go_on h.holds left d ds s) (w ∙ ap (λ (n : ℕ). cond (any (bad_in h.holds (less left d) ds) ds) (taken_as (Err BadArgument) h) (full h (less_all (less left d) ds) (sets (set at i (desc d)) (suc i) (map desc ds)) n)) (let e : suc i + length ds ≡ i + suc (length ds) = omega arith in e))
 
 pub take_is : (h : Holds) (ws : List ℕ) → length ws ≤ 16 → take_on h h.outside blank 0 ws ≡ take_of h ws
 take_is h ws b =
     let e : 0 + length ws ≡ length ws = omega arith in
     walked h h.outside blank 0 ws ∙ rw (e, le-ltb 16 (length ws) b) refl
 
-pub take_long : (h : Holds) (ws : List ℕ) → 16 < length ws → (a : TakeAnswer) → a ≡ cond (any (bad h ws) ws) take.BadArgument take.TooMany → taken_as a [] h ≡ take_of h ws
+pub take_long : (h : Holds) (ws : List ℕ) → 16 < length ws → (a : Refusal) → a ≡ cond (any (bad h ws) ws) BadArgument TooManyFds → Err a ≡ (take_of h ws).list
 take_long h ws b a e = rw (e, lt-ltb 16 (length ws) b) (go (any (bad h ws) ws))
   where
-    go : (t : Bool) → taken_as (cond t take.BadArgument take.TooMany) [] h ≡ cond t (taken_as take.BadArgument [] h) (taken_as take.TooMany [] h)
+    go : (t : Bool) → ◌≡◌ {A = Result Fds Refusal} (Err (cond t BadArgument TooManyFds)) ((cond t (taken_as (Err BadArgument) h) (taken_as (Err TooManyFds) h)).list)
     go true = refl
     go false = refl
 
@@ -151,10 +152,10 @@ module _ (h : Holds) (at : List Description) (i : ℕ) (ws : List ℕ) (W : Take
         ap (λ (ds : List ℕ). take_on h (left_of h ws i) at i ds) (sym e) ∙ w
 
     turn : (t : Bool) → unheld h.holds (left_of h ws i) (get_or ws i 0) ≡ t →
-        cond t (taken_as take.BadArgument [] h) (take_on h (less (left_of h ws i) (get_or ws i 0)) (set at i (desc (get_or ws i 0))) (suc i) (drop (i + 1) ws)) ≡ W
+        cond t (taken_as (Err BadArgument) h) (take_on h (less (left_of h ws i) (get_or ws i 0)) (set at i (desc (get_or ws i 0))) (suc i) (drop (i + 1) ws)) ≡ W
     turn t s = rw (← s) next
 
-    pub take_bad : unheld h.holds (left_of h ws i) (get_or ws i 0) ≡ true → taken_as take.BadArgument [] h ≡ W
+    pub take_bad : unheld h.holds (left_of h ws i) (get_or ws i 0) ≡ true → taken_as (Err BadArgument) h ≡ W
     take_bad s = turn true s
 
     pub take_more : (e : Description) → (unheld h.holds (left_of h ws i) (get_or ws i 0) ≡ false) × (e ≡ desc (get_or ws i 0)) → take_on h (left_of h ws (i + 1)) (set at i e) (i + 1) (drop (i + 1) ws) ≡ W
@@ -164,10 +165,3 @@ module _ (h : Holds) (at : List Description) (i : ℕ) (ws : List ℕ) (W : Take
 
   pub take_end : length ws ≤ i → full h (left_of h ws i) at i ≡ W
   take_end b = ap (λ (ds : List ℕ). take_on h (left_of h ws i) at i ds) (sym (drop_of_length-le ws b)) ∙ w
-
--- a list that was looked at
-pub told : (a : TakeAnswer) (l : Sent) (h : Holds) (W : Taken) → record { answer = a; list = l; holds = h } ≡ W → (a ≡ W.answer) × (l ≡ W.list)
-told a l h W e = (ap (λ (t : Taken). t.answer) e, ap (λ (t : Taken). t.list) e)
-
-pub told_none : (a : TakeAnswer) (l : Sent) (h : Holds) (W : Taken) → l ≡ list_of [] → taken_as a [] h ≡ W → (a ≡ W.answer) × (l ≡ W.list)
-told_none a l h W q e = (ap (λ (t : Taken). t.answer) e, q ∙ ap (λ (t : Taken). t.list) e)

@@ -1,15 +1,16 @@
 -- A list of holds taken from outside holds.
-use Rattle.std.specs.Prelude.{ℕ, Bool, cond, ◌||◌, List, [], ltb, eqb, get_or, length}
+use Rattle.std.specs.Prelude.{ℕ, Bool, cond, ◌||◌, Result, Ok, Err, List, ltb, eqb, get_or, length}
+use Rattle.answer.specs.declared.Refusal.{Refusal}
+use Rattle.answer.specs.declared.Refusal.TheVariants.{BadArgument, TooManyFds}
+use Rattle.fd_list.specs.declared.List.{List as Fds}
 use Rattle.fd_list.specs.Lists.{list_of}
 use Rattle.counts.specs.Counts.{less_all, times, any}
 use Rattle.holds.specs.declared.Holds.{Holds}
 use Rattle.holds.specs.Holds.{holds_with}
 use Rattle.take_holds.specs.declared.Taken.{Taken}
-use Rattle.take_holds.specs.declared.TakeAnswer.{TakeAnswer}
-use Rattle.take_holds.specs.declared.TakeAnswer.TheVariants as take
 
-abbrev pub taken_as : TakeAnswer → List ℕ → Holds → Taken
-taken_as a ds h = record { answer = a; list = list_of ds; holds = h }
+abbrev pub taken_as : Result Fds Refusal → Holds → Taken
+taken_as l h = record { list = l; holds = h }
 
 -- what 205 says of an entry of the list ds: over 63, not open, or listed more often than it has outside holds
 abbrev pub bad_in : List ℕ → List ℕ → List ℕ → ℕ → Bool
@@ -20,6 +21,6 @@ bad h ds d = bad_in h.holds h.outside ds d
 
 abbrev pub take_of : Holds → List ℕ → Taken
 take_of h ds =
-    cond (any (bad h ds) ds) (taken_as take.BadArgument [] h)
-    (cond (ltb 16 (length ds)) (taken_as take.TooMany [] h)
-    (taken_as take.Taken ds (holds_with h.holds (less_all h.outside ds))))
+    cond (any (bad h ds) ds) (taken_as (Err BadArgument) h)
+    (cond (ltb 16 (length ds)) (taken_as (Err TooManyFds) h)
+    (taken_as (Ok (list_of ds)) (holds_with h.holds (less_all h.outside ds))))

@@ -2,35 +2,21 @@
 #![tactic(auto)]
 
 ghost use Rattle.std.specs.Prelude.{◌≡◌, cond, ◌||◌, ltb, eqb, get_or};
+ghost use Rattle.answer.specs.declared.Refusal.TheVariants.{BadArgument, TooManyFds};
 ghost use Rattle.counts.specs.Counts.{times, less_all, any};
 ghost use Rattle.holds.specs.Holds.{holds_with, held_of};
-ghost use Rattle.take_holds.specs.declared.TakeAnswer.TheVariants.{BadArgument, TooMany};
 ghost use Rattle.take_holds.specs.Take.{bad_in, take_of};
 
+use answer::Refusal;
 use fd_list::List;
 use holds::Holds;
-use ids::DescriptionFound;
+use ids::Description;
 
-#[derive(Clone, Copy)]
-pub enum TakeAnswer {
-    Taken,
-    BadArgument,
-    TooMany,
-}
-
-// A list taken. A refusal's list is empty.
+// What taking a list comes to: the list or why it is refused, and the holds that are left.
 #[derive(Clone, Copy)]
 pub struct Taken {
-    pub answer: TakeAnswer,
-    pub list: List,
+    pub list: Result<List, Refusal>,
     pub holds: Holds,
-}
-
-// What a list is refused for, or the list.
-#[derive(Clone, Copy)]
-pub struct Looked {
-    pub answer: TakeAnswer,
-    pub list: List,
 }
 
 // How often a word stands among some. Counting a short list again is cheaper than a copy of the counts to lower.
@@ -38,12 +24,10 @@ fn mentions(words: &[u64], word: u64) -> u64
     ensures { result ≡ times word words.now }
 {
     let mut n = 0;
-    let mut i = 0;
-    while i < words.len() {
-        if words[i] == word {
+    for w in words {
+        if *w == word {
             n += 1;
         }
-        i += 1;
     }
     n
 }
@@ -52,87 +36,55 @@ fn mentions(words: &[u64], word: u64) -> u64
 fn allowed(all: &[u64], outside: &[u64], word: u64) -> u64
     ensures { result ≡ cond (ltb 63 word || eqb (get_or all.now word 0) 0) 0 (get_or outside.now word 0) }
 {
-    let found = ids::description_of(word);
-    match found {
-        DescriptionFound::Outside => 0,
-        DescriptionFound::At(d) => {
-            if counts::count_at(all, d) == 0 {
-                return 0;
-            }
-            counts::count_at(outside, d)
-        }
+    match ids::description_of(word) {
+        Some(d) if counts::count_at(all, d) != 0 => counts::count_at(outside, d),
+        _ => 0,
     }
 }
 
 // The description that a word names, if it is open and has an outside hold that none of the words before it needs.
-fn held_after(all: &[u64], outside: &[u64], before: &[u64], word: u64) -> DescriptionFound
+fn held_after(all: &[u64], outside: &[u64], before: &[u64], word: u64) -> Option<Description>
     ensures { result ≡ held_of all.now (less_all outside.now before.now) word }
 {
     let needed = mentions(before, word);
     if allowed(all, outside, word) <= needed {
-        return DescriptionFound::Outside;
+        return None;
     }
     ids::description_of(word)
 }
 
 // What a list too long to take is refused for. It may have millions of entries, so it is counted once for each description,
 // and not once for each entry. An entry that no description counts is over 63.
-fn long(all: &[u64], outside: &[u64], words: &[u64]) -> TakeAnswer
-    ensures { result ≡ cond (any (bad_in all.now outside.now words.now) words.now) BadArgument TooMany }
+fn long(all: &[u64], outside: &[u64], words: &[u64]) -> Refusal
+    ensures { result ≡ cond (any (bad_in all.now outside.now words.now) words.now) BadArgument TooManyFds }
 {
     let mut uncounted = words.len() as u64;
-    let mut d = 0;
-    while d < 64 {
+    for d in 0..64 {
         let n = mentions(words, d);
         if allowed(all, outside, d) < n {
-            return TakeAnswer::BadArgument;
+            return Refusal::BadArgument;
         }
         uncounted -= n;
-        d += 1;
     }
     if uncounted != 0 {
-        return TakeAnswer::BadArgument;
+        return Refusal::BadArgument;
     }
-    TakeAnswer::TooMany
+    Refusal::TooManyFds
 }
 
 // The list against the counts of all holds and of outside ones: nothing is taken yet.
-pub fn look(all: &[u64], outside: &[u64], words: &[u64]) -> Looked
-    ensures { (result.answer ≡ (take_of (holds_with all.now outside.now) words.now).answer) × (result.list ≡ (take_of (holds_with all.now outside.now) words.now).list) }
+pub fn look(all: &[u64], outside: &[u64], words: &[u64]) -> Result<List, Refusal>
+    ensures { result ≡ (take_of (holds_with all.now outside.now) words.now).list }
 {
     if 16 < words.len() {
-        let refusal = long(all, outside, words);
-        let none = fd_list::empty();
-        return Looked {
-            answer: refusal,
-            list: none,
-        };
+        return Err(long(all, outside, words));
     }
-    let zero = ids::BLANK;
-    let mut at = [zero; 16];
-    let mut i = 0;
-    while i < words.len() {
-        let next = held_after(all, outside, &words[..i], words[i]);
-        match next {
-            DescriptionFound::Outside => {
-                let none = fd_list::empty();
-                return Looked {
-                    answer: TakeAnswer::BadArgument,
-                    list: none,
-                };
-            }
-            DescriptionFound::At(d) => {
-                at[i] = d;
-            }
-        }
-        i += 1;
+    let mut at = [ids::BLANK; 16];
+    for i in 0..words.len() {
+        at[i] = held_after(all, outside, &words[..i], words[i]).ok_or(Refusal::BadArgument)?;
     }
-    let list = List {
-        at: at,
-        len: i as u8,
-    };
-    Looked {
-        answer: TakeAnswer::Taken,
-        list: list,
-    }
+    Ok(List {
+        at,
+        len: words.len() as u8,
+    })
 }

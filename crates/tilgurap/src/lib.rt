@@ -4,11 +4,10 @@
 // the arguments, so that a pointer and its length cross in registers.
 #![tactic(auto)]
 
-ghost use Rattle.std.specs.Prelude.{◌≡◌, ◌≤◌, length};
+ghost use Rattle.std.specs.Prelude.{◌≡◌, ◌≤◌, Err, length};
 ghost use Rattle.std.proofs.lemmas.List.Edits.{sets};
 ghost use Rattle.answer.specs.Numbered.{number_of};
 ghost use Rattle.answer_words.specs.Words.{words_of, Settled, SettledWake};
-ghost use Rattle.error.specs.declared.Result.TheVariants.{Err};
 ghost use Rattle.error.specs.Errors.{demux_of, mux_of, result_answer};
 ghost use Rattle.events.specs.World.{world, table_of};
 ghost use Rattle.events.specs.Event.{host_put, reserve, submit, call, fdwrite, fdread, generic, stdfs, fmap, close, detach, wake, read, write, move, obtain, supply, host_open, host_copy, host_drop, host_ended, on, step};
@@ -24,7 +23,7 @@ ghost use Rattle.schemev2.specs.Entry.{sqe_of, cqe_of, sqe_bytes, cqe_bytes};
 ghost use Rattle.state.specs.State.{fresh_state};
 
 use answer_words::{AnswerWords, StepWords, WakeWords};
-use error::{Error, Result};
+use error::Error;
 use fd_list::List;
 use ids::Tag;
 use reading_step::{OpenedWords, Regular};
@@ -32,6 +31,7 @@ use run::RunEnd;
 use schemev2::{Args, Cqe, Sqe};
 use slot::Reply;
 use state::State;
+use user_args::CallerCtx;
 
 // The number of this interface. It rises with every change of an export, of a struct that crosses or of the state's words, so that a
 // host can tell whether a library is the one that it was written for.
@@ -46,48 +46,42 @@ pub extern "C" fn tilgurap_abi() -> u64
 pub extern "C" fn tilgurap_open(words: &mut [u64; 2060], description: u64) -> StepWords
     ensures { Settled result words.old words.new (host_open description) }
 {
-    let done = host::open(words, description);
-    answer_words::step_words(done)
+    answer_words::step_words(host::open(words, description))
 }
 
 #[unsafe(no_mangle)]
 pub extern "C" fn tilgurap_copy(words: &mut [u64; 2060], description: u64) -> StepWords
     ensures { Settled result words.old words.new (host_copy description) }
 {
-    let done = host::copy(words, description);
-    answer_words::step_words(done)
+    answer_words::step_words(host::copy(words, description))
 }
 
 #[unsafe(no_mangle)]
 pub extern "C" fn tilgurap_drop(words: &mut [u64; 2060], description: u64) -> StepWords
     ensures { Settled result words.old words.new (host_drop description) }
 {
-    let done = host::drop(words, description);
-    answer_words::step_words(done)
+    answer_words::step_words(host::drop(words, description))
 }
 
 #[unsafe(no_mangle)]
 pub extern "C" fn tilgurap_put(words: &mut [u64; 2060], description: u64, handle: u64) -> StepWords
     ensures { Settled result words.old words.new (on (host_put description handle)) }
 {
-    let done = host::put(words, description, handle);
-    answer_words::step_words(done)
+    answer_words::step_words(host::put(words, description, handle))
 }
 
 #[unsafe(no_mangle)]
 pub extern "C" fn tilgurap_ended(words: &mut [u64; 2060], caller: u32) -> StepWords
     ensures { Settled result words.old words.new (host_ended caller) }
 {
-    let done = host::ended(words, caller);
-    answer_words::step_words(done)
+    answer_words::step_words(host::ended(words, caller))
 }
 
 #[unsafe(no_mangle)]
 pub extern "C" fn tilgurap_next_id(words: &mut [u64; 2060], caller: u32) -> StepWords
     ensures { Settled result words.old words.new (on (reserve caller)) }
 {
-    let done = next_id::next_id(words, caller);
-    answer_words::step_words(done)
+    answer_words::step_words(next_id::next_id(words, caller))
 }
 
 #[unsafe(no_mangle)]
@@ -103,8 +97,7 @@ pub extern "C" fn tilgurap_submit(
 ) -> StepWords
     ensures { Settled result words.old words.new (on (submit tag.0 caller opcode flags args pid fds.now)) }
 {
-    let done = submit::submit(words, fds, tag, caller, opcode, flags, args, pid);
-    answer_words::step_words(done)
+    answer_words::step_words(submit::submit(words, fds, tag, caller, opcode, flags, args, pid))
 }
 
 #[unsafe(no_mangle)]
@@ -120,8 +113,14 @@ pub extern "C" fn tilgurap_call(
 ) -> StepWords
     ensures { Settled result words.old words.new (on (call caller opcode args uid gid pid fds.now)) }
 {
-    let done = call::call(words, fds, caller, opcode, args, uid, gid, pid);
-    answer_words::step_words(done)
+    answer_words::step_words(call::call(
+        words,
+        fds,
+        caller,
+        opcode,
+        args,
+        CallerCtx { pid, uid, gid },
+    ))
 }
 
 #[unsafe(no_mangle)]
@@ -138,8 +137,15 @@ pub extern "C" fn tilgurap_kfdwrite(
 ) -> StepWords
     ensures { Settled result words.old words.new (on (fdwrite caller number flags metadata.now uid gid pid fds.now)) }
 {
-    let done = kfd::kfdwrite(words, fds, metadata, caller, number, flags, uid, gid, pid);
-    answer_words::step_words(done)
+    answer_words::step_words(kfd::kfdwrite(
+        words,
+        fds,
+        metadata,
+        caller,
+        number,
+        flags,
+        CallerCtx { pid, uid, gid },
+    ))
 }
 
 #[unsafe(no_mangle)]
@@ -156,8 +162,15 @@ pub extern "C" fn tilgurap_kfdread(
 ) -> StepWords
     ensures { Settled result words.old words.new (on (fdread caller number len flags metadata.now uid gid pid)) }
 {
-    let done = kfd::kfdread(words, metadata, caller, number, len, flags, uid, gid, pid);
-    answer_words::step_words(done)
+    answer_words::step_words(kfd::kfdread(
+        words,
+        metadata,
+        caller,
+        number,
+        len,
+        flags,
+        CallerCtx { pid, uid, gid },
+    ))
 }
 
 #[unsafe(no_mangle)]
@@ -172,8 +185,9 @@ pub extern "C" fn tilgurap_call_generic(
 ) -> StepWords
     ensures { Settled result words.old words.new (on (generic caller pid fds.now base len metadata.now)) }
 {
-    let done = call_generic::call_generic(words, caller, pid, fds, base, len, metadata);
-    answer_words::step_words(done)
+    answer_words::step_words(call_generic::call_generic(
+        words, caller, pid, fds, base, len, metadata,
+    ))
 }
 
 #[unsafe(no_mangle)]
@@ -188,8 +202,9 @@ pub extern "C" fn tilgurap_translate_std_fs_call(
 ) -> StepWords
     ensures { Settled result words.old words.new (on (stdfs caller pid fds.now base len metadata.now)) }
 {
-    let done = call_generic::translate_std_fs_call(words, caller, pid, fds, base, len, metadata);
-    answer_words::step_words(done)
+    answer_words::step_words(call_generic::translate_std_fs_call(
+        words, caller, pid, fds, base, len, metadata,
+    ))
 }
 
 #[unsafe(no_mangle)]
@@ -205,24 +220,28 @@ pub extern "C" fn tilgurap_request_fmap(
 ) -> StepWords
     ensures { Settled result words.old words.new (on (fmap caller id pages flags uid gid pid)) }
 {
-    let done = request_fmap::request_fmap(words, caller, id, pages, flags, uid, gid, pid);
-    answer_words::step_words(done)
+    answer_words::step_words(request_fmap::request_fmap(
+        words,
+        caller,
+        id,
+        pages,
+        flags,
+        CallerCtx { pid, uid, gid },
+    ))
 }
 
 #[unsafe(no_mangle)]
 pub extern "C" fn tilgurap_close(words: &mut [u64; 2060], id: u64) -> StepWords
     ensures { Settled result words.old words.new (on (close id)) }
 {
-    let done = close::close(words, id);
-    answer_words::step_words(done)
+    answer_words::step_words(close::close(words, id))
 }
 
 #[unsafe(no_mangle)]
 pub extern "C" fn tilgurap_detach(words: &mut [u64; 2060], id: u64, pid: u64) -> StepWords
     ensures { Settled result words.old words.new (on (detach id pid)) }
 {
-    let done = close::detach(words, id, pid);
-    answer_words::step_words(done)
+    answer_words::step_words(close::detach(words, id, pid))
 }
 
 #[unsafe(no_mangle)]
@@ -247,8 +266,7 @@ pub extern "C" fn tilgurap_read(words: &mut [u64; 2060], out: &mut [u8], flags: 
     ensures words_after { words.new ≡ words_after words.old (on (read (length out.old) flags)) }
     ensures out_after { out.new ≡ sets out.old 0 (step (plain_of words.old) (on (read (length out.old) flags))).bytes }
 {
-    let answer = read::read(words, out, flags);
-    answer_words::words(answer)
+    answer_words::words(read::read(words, out, flags))
 }
 
 // So many of the lent words hold effects, three to each.
@@ -267,10 +285,8 @@ pub extern "C" fn tilgurap_write(words: &mut [u64; 2060], fx: &mut [u64], bytes:
     ensures words_value { result.words ≡ length (step (plain_of words.old) (on (write (length fx.old) bytes.now))).effects }
 {
     let done = write::write(words, fx, bytes);
-    let answer = done.answer;
-    let said = answer_words::words(answer);
     Completed {
-        answer: said,
+        answer: answer_words::words(done.answer),
         words: done.words,
     }
 }
@@ -283,16 +299,14 @@ pub extern "C" fn tilgurap_call_fdwrite(
 ) -> StepWords
     ensures { Settled result words.old words.new (on (move metadata.now fds.now)) }
 {
-    let done = call_fd::call_fdwrite(words, metadata, fds);
-    answer_words::step_words(done)
+    answer_words::step_words(call_fd::call_fdwrite(words, metadata, fds))
 }
 
 #[unsafe(no_mangle)]
 pub extern "C" fn tilgurap_call_fdread(words: &mut [u64; 2060], metadata: &[u64]) -> StepWords
     ensures { Settled result words.old words.new (on (obtain metadata.now)) }
 {
-    let done = call_fd::call_fdread(words, metadata);
-    answer_words::step_words(done)
+    answer_words::step_words(call_fd::call_fdread(words, metadata))
 }
 
 #[unsafe(no_mangle)]
@@ -305,8 +319,7 @@ pub extern "C" fn tilgurap_provide_mmap(
 ) -> StepWords
     ensures { Settled result words.old words.new (on (supply tag.0 offset base count)) }
 {
-    let done = provide_mmap::provide_mmap(words, tag, offset, base, count);
-    answer_words::step_words(done)
+    answer_words::step_words(provide_mmap::provide_mmap(words, tag, offset, base, count))
 }
 
 #[unsafe(no_mangle)]
@@ -396,8 +409,7 @@ pub extern "C" fn tilgurap_packed(s: State, queue: &[u64; 1024], words: &mut [u6
 pub extern "C" fn tilgurap_status(words: &[u64; 2060], out: &mut [u64; 10])
     ensures { out.new ≡ status_words (table_of (plain_of words.now)) }
 {
-    let all = state_bytes::statuses(words);
-    *out = all;
+    *out = state_bytes::statuses(words);
 }
 
 // An errno as a result word.
@@ -405,7 +417,7 @@ pub extern "C" fn tilgurap_status(words: &[u64; 2060], out: &mut [u64; 10])
 pub extern "C" fn tilgurap_mux_error(errno: i32) -> u64
     ensures { result ≡ mux_of (Err (record { errno = errno })) }
 {
-    Error::mux(Result::Err(Error { errno: errno }))
+    Error::mux(Err(Error { errno }))
 }
 
 // Entries from and to bytes.
@@ -427,16 +439,14 @@ pub extern "C" fn tilgurap_cqe(bytes: &[u8]) -> Cqe
 pub extern "C" fn tilgurap_sqe_bytes(e: Sqe, out: &mut [u8; 64])
     ensures { out.new ≡ sqe_bytes e }
 {
-    let b = encode::sqe_bytes(e);
-    *out = b;
+    *out = encode::sqe_bytes(e);
 }
 
 #[unsafe(no_mangle)]
 pub extern "C" fn tilgurap_cqe_bytes(e: Cqe, out: &mut [u8; 16])
     ensures { out.new ≡ cqe_bytes e }
 {
-    let b = encode::cqe_bytes(e);
-    *out = b;
+    *out = encode::cqe_bytes(e);
 }
 
 // 0, or the number that an entry is refused with before its tag is looked at.
@@ -444,6 +454,5 @@ pub extern "C" fn tilgurap_cqe_bytes(e: Cqe, out: &mut [u8; 16])
 pub extern "C" fn tilgurap_parse_cqe(e: Cqe) -> u64
     ensures { result ≡ number_of (parsed_answer (parsed_of e)) }
 {
-    let p = parse_cqe::parse_cqe(e);
-    p.number()
+    parse_cqe::number(parse_cqe::parse_cqe(e))
 }

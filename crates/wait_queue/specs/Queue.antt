@@ -1,13 +1,14 @@
 -- The queue of submission entries (01, "Queue"; src/sync/wait_queue.rs): a ring of 1,024 words, eight to an entry.
 -- A queue is the place of its oldest entry and how many are unread; its words are lent beside it.
-use Rattle.std.specs.Prelude.{Bool, true, false, cond, List, [], ◌∷◌, ℕ, zero, suc, ◌+◌, ◌-◌, ◌*◌, ◌%◌, leb, get_or}
+use Rattle.std.specs.Prelude.{Bool, true, false, cond, Ok, Err, List, [], ◌∷◌, ℕ, zero, suc, ◌+◌, ◌-◌, ◌*◌, ◌%◌, leb, get_or}
 use Rattle.std.proofs.lemmas.List.Edits.{sets}
-use Rattle.answer.specs.declared.Answer.TheVariants.{Done, QueueFull}
+use Rattle.answer.specs.declared.Accepted.TheVariants.{Done}
+use Rattle.answer.specs.declared.Refusal.TheVariants.{QueueFull}
 use Rattle.le.specs.Le.{bytes_of}
 use Rattle.schemev2.specs.declared.Sqe.{Sqe}
 use Rattle.schemev2.specs.Entry.{sqe_words}
 use Rattle.wait_queue.specs.declared.WaitQueue.{WaitQueue}
-use Rattle.wait_queue.specs.declared.Sent.{Sent}
+use Rattle.wait_queue.specs.declared.QueueLeft.{QueueLeft}
 
 -- word number i of the unread ones
 abbrev pub word_at : WaitQueue → List ℕ → ℕ → ℕ
@@ -23,11 +24,11 @@ abbrev pub unread : WaitQueue → List ℕ → List ℕ
 unread q ws = bytes_of (words_from q ws 0 (q.len * 8))
 
 -- `send`: 203 at 128 unread
-abbrev pub sent_if : Bool → WaitQueue → Sent
-sent_if true q = record { answer = QueueFull; queue = q }
-sent_if false q = record { answer = Done; queue = record { first = q.first; len = q.len + 1 } }
+abbrev pub sent_if : Bool → WaitQueue → QueueLeft
+sent_if true q = record { answer = Err QueueFull; queue = q }
+sent_if false q = record { answer = Ok Done; queue = record { first = q.first; len = q.len + 1 } }
 
-abbrev pub sent_of : WaitQueue → Sent
+abbrev pub sent_of : WaitQueue → QueueLeft
 sent_of q = sent_if (leb 128 q.len) q
 
 -- where the next entry's words go

@@ -12,9 +12,9 @@ pub struct WaitQueue {
     pub len: u64,
 }
 
-// What a send answers and leaves, for the definitions.
+// What a send or a read answers, and the queue that it leaves.
 #[derive(Clone, Copy)]
-pub struct Sent {
+pub struct QueueLeft {
     pub answer: Answer,
     pub queue: WaitQueue,
 }

@@ -5,29 +5,23 @@
 ghost use Rattle.std.specs.Prelude.{◌≡◌, min, ◌*◌};
 ghost use Rattle.wait_queue_receive.specs.Receive.{empty_of, received_of};
 
-use answer::Answer;
-use wait_queue::WaitQueue;
-
-#[derive(Clone, Copy)]
-pub struct Received {
-    pub answer: Answer,
-    pub queue: WaitQueue,
-}
+use answer::{Accepted, Answer, Refusal};
+use wait_queue::{QueueLeft, WaitQueue};
 
 // What an empty queue answers: only bit 0x00040000 of the flags counts (O_NONBLOCK, syscall/src/flag.rs, line 189).
 fn empty(room: usize, flags: u32) -> Answer
     ensures { result ≡ empty_of room flags }
 {
     if flags / 0x4_0000 % 2 == 0 {
-        return Answer::WouldWait;
+        return Ok(Accepted::WouldWait);
     }
     if room == 0 {
-        return Answer::Bytes(0);
+        return Ok(Accepted::Bytes(0));
     }
     if room < 64 {
-        return Answer::Invalid;
+        return Err(Refusal::Invalid);
     }
-    Answer::Again
+    Err(Refusal::Again)
 }
 
 // How many bytes of so many entries are copied into so much room. The product is made only where it fits.
@@ -41,20 +35,20 @@ pub fn copied(room: usize, len: u64) -> usize
 }
 
 // Whole entries that are copied are removed, a part entry comes again.
-pub fn decide(q: WaitQueue, room: usize, flags: u32) -> Received
+pub fn decide(q: WaitQueue, room: usize, flags: u32) -> QueueLeft
     ensures { result ≡ received_of q room flags }
 {
     let len = q.len;
     if len == 0 {
-        return Received {
+        return QueueLeft {
             answer: empty(room, flags),
             queue: q,
         };
     }
     let n = copied(room, len);
     let gone = (n / 64) as u64;
-    Received {
-        answer: Answer::Bytes(n as u64),
+    QueueLeft {
+        answer: Ok(Accepted::Bytes(n as u64)),
         queue: WaitQueue {
             first: (q.first % 128 + gone) % 128,
             len: len - gone,

@@ -1,21 +1,18 @@
 // 01's values for a read: one entry queued, length 100; two queued, length 100; and what an empty queue answers.
 #![tactic(auto)]
 
-use answer::Answer;
+use answer::Accepted;
 use schemev2::{Args, Sqe};
 use std::io;
-use wait_queue_receive::Received;
+use wait_queue::QueueLeft;
 
 // The answer, and how many entries are left.
-fn show(rt: &impl Print, received: Received) -> io::Result<()> {
+fn show(rt: &impl Print, received: QueueLeft) -> io::Result<()> {
     let left = received.queue.len;
     match received.answer {
-        Answer::Bytes(n) => println!(rt; "bytes {n}, left {left}"),
-        Answer::WouldWait => println!(rt; "would wait, left {left}"),
-        refused => {
-            let number = answer_words::words(refused).value;
-            println!(rt; "refused {number}, left {left}")
-        }
+        Ok(Accepted::Bytes(n)) => println!(rt; "bytes {n}, left {left}"),
+        Ok(_) => println!(rt; "would wait, left {left}"),
+        Err(refusal) => println!(rt; "refused {}, left {left}", refusal.number()),
     }
 }
 

@@ -9,14 +9,15 @@ ghost use Rattle.slot.specs.Slots.{phase_of};
 ghost use Rattle.events.specs.Wake.{response_from, held_in, cancel_entry, wakeable};
 ghost use Rattle.wake_decision.specs.Wake.{decided_of};
 
-use answer::Answer;
+use answer::Refusal;
 use fd_list::List;
-use ids::{DescriptionFound, SlotNo};
+use ids::SlotNo;
+use opcode::Opcode;
 use schemev2::{Args, Sqe};
 use slot::{Phase, Reply, Slot};
 
 // What a wake does: nothing, marks the call killed, queues a Cancel, hands the reply over.
-#[derive(Clone, Copy)]
+#[derive(Clone, Copy, Debug, PartialEq, Eq)]
 pub enum Turn {
     Stay,
     Interrupt,
@@ -24,23 +25,11 @@ pub enum Turn {
     HandOver,
 }
 
-#[derive(Clone, Copy)]
-pub struct Decided {
-    pub answer: Answer,
-    pub turn: Turn,
-}
-
 // Its own caller, neither ended nor returned.
 fn is_wakeable(v: Slot, caller: u32) -> bool
     ensures { result ≡ wakeable v caller }
 {
-    if v.caller != caller {
-        return false;
-    }
-    if v.ended {
-        return false;
-    }
-    !v.returned
+    v.caller == caller && !v.ended && !v.returned
 }
 
 // The holds that a reply brings, which become outside holds.
@@ -54,72 +43,40 @@ pub fn holds_in(r: Reply, fds: List) -> List
     if 2 < kind {
         return fds;
     }
-    let found = ids::description_of(r.word);
-    match found {
-        DescriptionFound::At(d) => fd_list::single(d),
-        DescriptionFound::Outside => fd_list::empty(),
+    match ids::description_of(r.word) {
+        Some(d) => fd_list::single(d),
+        None => fd_list::empty(),
     }
 }
 
 // The decision on the tag's slot, with so many entries unread.
-pub fn decide(v: Slot, caller: u32, killed: u64, unread: u64) -> Decided
+pub fn decide(v: Slot, caller: u32, killed: u64, unread: u64) -> Result<Turn, Refusal>
     ensures { result ≡ decided_of (phase_of v) (wakeable v caller) (eqb killed 1) v.canceling (leb 128 unread) }
 {
-    let p = slot::phase_of(v);
-    match p {
-        Phase::Vacant => Decided {
-            answer: Answer::BadDescriptor,
-            turn: Turn::Stay,
-        },
-        Phase::Placeholder => Decided {
-            answer: Answer::BadDescriptor,
-            turn: Turn::Stay,
-        },
-        Phase::Fmap => Decided {
-            answer: Answer::BadDescriptor,
-            turn: Turn::Stay,
-        },
+    match slot::phase_of(v) {
+        Phase::Vacant => Err(Refusal::BadDescriptor),
+        Phase::Placeholder => Err(Refusal::BadDescriptor),
+        Phase::Fmap => Err(Refusal::BadDescriptor),
         Phase::Waiting => {
             if !is_wakeable(v, caller) {
-                return Decided {
-                    answer: Answer::NotYours,
-                    turn: Turn::Stay,
-                };
+                return Err(Refusal::NotYours);
             }
             if killed == 1 {
-                return Decided {
-                    answer: Answer::Interrupted,
-                    turn: Turn::Interrupt,
-                };
+                return Ok(Turn::Interrupt);
             }
             if v.canceling {
-                return Decided {
-                    answer: Answer::Blocked,
-                    turn: Turn::Stay,
-                };
+                return Ok(Turn::Stay);
             }
             if 128 <= unread {
-                return Decided {
-                    answer: Answer::QueueFull,
-                    turn: Turn::Stay,
-                };
+                return Err(Refusal::QueueFull);
             }
-            return Decided {
-                answer: Answer::Blocked,
-                turn: Turn::Cancel,
-            };
+            Ok(Turn::Cancel)
         }
         Phase::Responded => {
             if !is_wakeable(v, caller) {
-                return Decided {
-                    answer: Answer::NotYours,
-                    turn: Turn::Stay,
-                };
+                return Err(Refusal::NotYours);
             }
-            return Decided {
-                answer: Answer::Replied,
-                turn: Turn::HandOver,
-            };
+            Ok(Turn::HandOver)
         }
     }
 }
@@ -128,14 +85,11 @@ pub fn decide(v: Slot, caller: u32, killed: u64, unread: u64) -> Decided
 pub fn cancel_entry(n: SlotNo) -> Sqe
     ensures { result ≡ cancel_entry n.0 }
 {
-    let op = opcode::cancel();
-    let flags = flag::sqe_oneway();
-    let a = Args(0, 0, 0, 0, 0, 0);
     Sqe {
-        opcode: op,
-        sqe_flags: flags,
+        opcode: Opcode::Cancel.raw(),
+        sqe_flags: flag::sqe_oneway(),
         tag: n.0 as u32,
-        args: a,
+        args: Args(0, 0, 0, 0, 0, 0),
         caller: 0,
     }
 }

@@ -1,4 +1,5 @@
 -- An entry on words is its decision carried out. Assumes nothing.
+use Rattle.std.specs.Prelude.{Result}
 use Prim.Native.Nat.{ℕ, min, ◌<◌}
 use mathlib.Core.Path.{◌≡◌, refl, sym, ap, ap₂, ◌∙◌}
 use mathlib.Core.List.{List}
@@ -9,6 +10,7 @@ use Rattle.ids.specs.declared.Handle.{Handle}
 use Rattle.ids.specs.declared.SlotNo.{SlotNo}
 use Rattle.ids.specs.Ids.{slot_of}
 use Rattle.parse_cqe.specs.declared.ParsedCqe.{ParsedCqe}
+use Rattle.parse_cqe.specs.declared.CqeError.{CqeError}
 use Rattle.parse_cqe.specs.Parsed.{parsed_of}
 use Rattle.schemev2.specs.declared.Cqe.{Cqe}
 use Rattle.slot.specs.declared.Act.{Act}
@@ -25,7 +27,7 @@ use Rattle.packed.proofs.Fit.{entry_fits}
 use Rattle.carry_out.specs.Held.{held_stores}
 use Rattle.plan.specs.declared.Plan.{Plan}
 use Rattle.wish.specs.Wishes.{handle_in}
-use Rattle.plan.specs.Plans.{effects_by, decision_by, Plans}
+use Rattle.plan.specs.Plans.{effects_by, number_by, decision_by, Plans}
 use Rattle.step.proofs.Tests.{slot_of_in, put_of, vacate_of}
 use Rattle.write.specs.Writing.{decision_at, Enters}
 
@@ -41,16 +43,16 @@ then_acted ws ys xs d n e q = q ∙ ap (λ (l : List ℕ). stored_all l (act_sto
 
 pub entered :
     (ws xs fx gx : List ℕ) (at : ℕ) (e : Cqe) (size : length ws ≡ 2060) → e.extra_raw.0 < 256
-    → (q : ParsedCqe) → q ≡ parsed_of e → (k : SlotNo) → k ≡ slot_of (record { 0 = e.tag }) → (v : Slot) → v ≡ slot_in (plain_of ws) k.0
+    → (q : Result ParsedCqe CqeError) → q ≡ parsed_of e → (k : SlotNo) → k ≡ slot_of (record { 0 = e.tag }) → (v : Slot) → v ≡ slot_in (plain_of ws) k.0
     → (h : Handle) → h.0 ≡ handle_in q → (x : ℕ) → x ≡ held_at (handles_of (plain_of ws)) h.0
     → (p : Plan) → Plans p (handle_in q) x (λ g n. decision_of q v g n)
     → (j : ℕ) → j ≡ length (effects_by p (holds_of (plain_of ws))) → gx ≡ sets fx at (effects_by p (holds_of (plain_of ws)))
     → xs ≡ stored_all ws (decided_stores k.0 (decision_by p (holds_of (plain_of ws)) (handles_of (plain_of ws))))
-    → Enters ws xs fx gx at e p.number j
+    → Enters ws xs fx gx at e (number_by p.refusal) j
 entered ws xs fx gx at e size small q eq k ek v ev h eh x ex p is j ej eg es =
     let w : World = plain_of ws in
     let here : v ≡ slot_in w e.tag = ev ∙ ap (λ (y : SlotNo). slot_in w y.0) ek ∙ slot_of_in w e.tag in
-    let d : decision_by p (holds_of w) (handles_of w) ≡ decision_at w e = is (holds_of w) (handles_of w) (ap (held_at (handles_of w)) (sym eh) ∙ sym ex) ∙ ap₂ (λ (y : ParsedCqe) (z : Slot). decision_of y z (holds_of w) (handles_of w)) eq here in
+    let d : decision_by p (holds_of w) (handles_of w) ≡ decision_at w e = is (holds_of w) (handles_of w) (ap (held_at (handles_of w)) (sym eh) ∙ sym ex) ∙ ap₂ (λ (y : Result ParsedCqe CqeError) (z : Slot). decision_of y z (holds_of w) (handles_of w)) eq here in
     let s : xs ≡ stored_all ws (entry_stores w e) =
     es
     ∙ ap₂ (λ (n : ℕ) (y : Decision). stored_all ws (decided_stores n y)) (ap (λ (y : SlotNo). y.0) ek) d

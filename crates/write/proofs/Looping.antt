@@ -1,4 +1,5 @@
 -- One turn of a write's loop on words: what is left to do from here is the whole. Assumes nothing.
+use Rattle.std.specs.Prelude.{Result, Ok, Err}
 use Prim.Native.Nat.{ℕ, suc, ◌+◌, ◌-◌, ◌*◌, ◌/◌, ◌<◌, ◌≤◌}
 use mathlib.Core.Path.{◌≡◌, refl, sym, ap, ap₂, ◌∙◌, subst}
 use mathlib.Core.Logic.{◌⊎◌, inl, inr}
@@ -16,6 +17,7 @@ use Rattle.handles.specs.Handles.{held_at, emptied}
 use Rattle.holds.specs.declared.Holds.{Holds}
 use Rattle.parse_cqe.specs.declared.ParsedCqe.{ParsedCqe}
 use Rattle.parse_cqe.specs.declared.ParsedCqe.TheVariants as parsed
+use Rattle.parse_cqe.specs.declared.CqeError.{CqeError}
 use Rattle.parse_cqe.specs.Parsed.{parsed_of}
 use Rattle.word_put.proofs.Stores.{sets_then}
 use Rattle.schemev2.specs.declared.Cqe.{Cqe}
@@ -32,54 +34,7 @@ use Rattle.events.specs.Event.{on, write, step}
 use Rattle.layout.specs.Layout.{plain_of}
 use Rattle.layout.specs.Store.{Store, stored, stored_all}
 use Rattle.packed.specs.Stores.{entry_stores, gone_on, write_stores}
-use Rattle.write.specs.Writing.{is_refusal, decision_at, Enters, Writes}
-
--- a decision's number is 0 or a refusal's
-abbrev Fits : Decision → Type 0
-Fits d = (d.number ≡ 0) ⊎ (is_refusal d.number ≡ true)
-
-served_fits : (b : Bool) (v : Slot) (t : ℕ) (o : Offer) (h : Holds) (n : Handles) → Fits (served_by b v t o h n)
-served_fits true v t o h n = inl refl
-served_fits false v t o h n = inl refl
-
-respond_fits :
-    (p : Phase) (turn : ℕ → Decision) (v : Slot) (t : ℕ) (o : Offer) (h : Holds) (n : Handles) → Fits (turn 77) → Fits (turn 22) → Fits (respond_by p turn v t o h n)
-respond_fits Vacant turn v t o h n x y = x
-respond_fits Placeholder turn v t o h n x y = x
-respond_fits Waiting turn v t o h n x y = served_fits v.ended v t o h n
-respond_fits Responded turn v t o h n x y = y
-respond_fits Fmap turn v t o h n x y = y
-
--- the first row that is due, or what has passed
-handle_fits : (b : Bool) (v : Slot) (t k : ℕ) (h : Holds) (n : Handles) → Fits (cond b (refused_of v h n 22) (by_descriptor v t k h n))
-handle_fits true v t k h n = inr refl
-handle_fits false v t k h n = respond_fits (phase_of v) _ v t (one (in_handle n k)) h (emptied n k) (inr refl) (inr refl)
-
-obtain_fits : (a b : Bool) (v : Slot) (k : ℕ) (h : Holds) (n : Handles) → Fits (cond a (refused_of v h n 22) (cond b (refused_of v h n 2) (obtained v k h n)))
-obtain_fits true b v k h n = inr refl
-obtain_fits false true v k h n = inr refl
-obtain_fits false false v k h n = inl refl
-
-fits : (p : ParsedCqe) (v : Slot) (h : Holds) (n : Handles) → Fits (decision_of p v h n)
-fits (parsed.TriggerFevent number flags) v h n = inl refl
-fits (parsed.RegularResponse t r x) v h n = respond_fits (phase_of v) (refused_of v h n) v t.0 _ h n (inr refl) (inr refl)
-fits (parsed.ResponseWithFd t k) v h n = handle_fits (eqb (held_at n k.0) 0) v t.0 k.0 h n
-fits (parsed.ResponseWithMultipleFds t c) v h n = respond_fits (phase_of v) (refused_of v h n) v t.0 _ h n (inr refl) (inr refl)
-fits (parsed.ObtainFd t flags k) v h n =
-    obtain_fits (is_vacant (phase_of v)) (not (is_waiting (phase_of v)) || eqb (length (numbers v.fds)) 0) v k.0 h n
-fits (parsed.RespondAndNotifyOnDetach t r x) v h n = respond_fits (phase_of v) (refused_of v h n) v t.0 _ h n (inr refl) (inr refl)
-fits parsed.UnknownKind v h n = inr refl
-fits parsed.UnknownEventFlags v h n = inr refl
-fits parsed.UnknownObtainFlags v h n = inr refl
-
--- a number that is not 0 refuses
-pub refused_by : (ws xs fx gx : List ℕ) (at : ℕ) (e : Cqe) (k j : ℕ) → Enters ws xs fx gx at e k j → (k ≡ 0 → ⊥) → is_refusal k ≡ true
-refused_by ws xs fx gx at e k j a z =
-    go (subst (λ (y : ℕ). (y ≡ 0) ⊎ (is_refusal y ≡ true)) (sym a.number) (fits (parsed_of e) (slot_in (plain_of ws) e.tag) (holds_of (plain_of ws)) (handles_of (plain_of ws))))
-  where
-    go : (k ≡ 0) ⊎ (is_refusal k ≡ true) → is_refusal k ≡ true
-    go (inl y) = absurd (z y)
-    go (inr y) = y
+use Rattle.write.specs.Writing.{decision_at, Enters, Writes}
 
 stored_append : (ss : List Store) (ws : List ℕ) (ts : List Store) → stored_all ws (ss ++ ts) ≡ stored_all (stored_all ws ss) ts
 stored_append [] ws ts = refl

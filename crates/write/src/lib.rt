@@ -1,13 +1,15 @@
 // `write` (src/scheme/user.rs, lines 743 to 755): completions, entry after entry up to the first refusal.
 #![tactic(auto)]
 
-ghost use Rattle.std.specs.Prelude.{◌≡◌, true, ◌<◌, ◌≤◌, length};
+ghost use Rattle.std.specs.Prelude.{◌≡◌, ◌<◌, ◌≤◌, length};
 ghost use Rattle.schemev2.specs.Entry.{cqe_of};
 ghost use Rattle.events.specs.Outcome.{said};
 ghost use Rattle.events.specs.Complete.{stopped};
-ghost use Rattle.write.specs.Writing.{is_refusal, Enters, Writes};
+ghost use Rattle.answer.specs.Numbered.{refusal_number};
+ghost use Rattle.plan.specs.Plans.{number_by};
+ghost use Rattle.write.specs.Writing.{Enters, Writes};
 
-use answer::Answer;
+use answer::{Accepted, Answer, Refusal};
 use ids::Tag;
 use schemev2::{Cqe, ExtraRaw};
 
@@ -27,10 +29,10 @@ fn cqe_at(s: &[u8]) -> Cqe
     }
 }
 
-// 0 for an accepted entry, else the refusal's number; so many words of effects.
+// Why an entry is refused, if it is; so many words of effects.
 #[derive(Clone, Copy)]
 struct Entered {
-    number: u64,
+    refusal: Option<Refusal>,
     words: usize,
 }
 
@@ -41,7 +43,7 @@ fn is_byte(x: u8)
 
 // One entry, on the slot that its tag names.
 fn entry(s: &mut [u64; 2060], e: Cqe, fx: &mut [u64], at: usize) -> Entered
-    ensures enters { Enters s.old s.new fx.old fx.new at e result.number result.words }
+    ensures enters { Enters s.old s.new fx.old fx.new at e (number_by result.refusal) result.words }
     ensures words_bound { result.words ≤ 102 }
 {
     layout::sized(s);
@@ -56,26 +58,20 @@ fn entry(s: &mut [u64; 2060], e: Cqe, fx: &mut [u64], at: usize) -> Entered
     let j = carry_out::carry_out(s, p, fx, at);
     carry_out::act_on(s, n, p);
     Entered {
-        number: p.number,
+        refusal: p.refusal,
         words: j,
     }
 }
 
 // A refusal after a good entry returns the bytes so far, a first one its number.
-fn stop(done: usize, number: u64) -> Answer
-    requires { (is_refusal number ≡ true) × (done < 0x800_0000_0000_0000) }
-    ensures { said result ≡ stopped done number }
+fn stop(done: usize, refusal: Refusal) -> Answer
+    requires { done < 0x800_0000_0000_0000 }
+    ensures { said result ≡ stopped done (refusal_number refusal) }
 {
     if 0 < done {
-        return Answer::Bytes(16 * done as u64);
+        return Ok(Accepted::Bytes(16 * done as u64));
     }
-    if number == 77 {
-        return Answer::BadDescriptor;
-    }
-    if number == 22 {
-        return Answer::Invalid;
-    }
-    Answer::NotFound
+    Err(refusal)
 }
 
 // So many of the lent words hold effects, three to each.
@@ -91,27 +87,24 @@ pub fn write(s: &mut [u64; 2060], fx: &mut [u64], bytes: &[u8]) -> Written
     let n = bytes.len() / 16;
     if fx.len() / 54 < n {
         return Written {
-            answer: Answer::ShortWords,
+            answer: Err(Refusal::ShortWords),
             words: 0,
         };
     }
-    let mut i = 0;
-    let mut j = 0;
-    while i < n {
+    let mut words = 0;
+    for i in 0..n {
         let e = cqe_at(&bytes[16 * i..]);
-        let done = entry(s, e, fx, j);
-        j += done.words;
-        let number = done.number;
-        if number != 0 {
+        let done = entry(s, e, fx, words);
+        words += done.words;
+        if let Some(refusal) = done.refusal {
             return Written {
-                answer: stop(i, number),
-                words: j,
+                answer: stop(i, refusal),
+                words,
             };
         }
-        i += 1;
     }
     Written {
-        answer: Answer::Bytes(16 * n as u64),
-        words: j,
+        answer: Ok(Accepted::Bytes(16 * n as u64)),
+        words,
     }
 }

@@ -1,10 +1,19 @@
 -- What `call_fd::call_fdwrite` leaves open. Assumes nothing.
-use Rattle.layout.specs.Layout.{plain_of}
-use Rattle.events.specs.World.{holds_of}
-use Rattle.event_cases.proofs.Taken.{taken_good}
 use mathlib.Core.Path.{refl, sym, ◌∙◌}
-use Rattle.call_fd.proofs.Cases.{good_list, went}
+use borrow.Author.Rules.{rules}
+use Rattle.events.specs.Outcome.{success}
+use Rattle.events.specs.Event.{on, move}
+use Rattle.std.specs.Prelude.{false}
+use Rattle.step.proofs.Rows.{down}
+use Rattle.call_fd.proofs.Cases.{list_refused, list_taken, good_list, went}
 use Rattle.call_fd.proofs.call_fdwrite.Goals as goal
 
-pub returns-in-Taken : goal.returns-in-Taken
-returns-in-Taken c = let a = c.args in let w = plain_of a.s.now in let g = taken_good (holds_of w) a.fds.now (sym c.look-looked.ensures.0 ∙ c.in-Taken.is) in went a.s.now a.metadata.now a.fds.now g.0 g.1 _ _ _ (c.moved.ensures a.fds.now (good_list a.s.now a.metadata.now a.fds.now g.0 g.1 _ (c.look-looked.ensures.1 ∙ g.2)) refl)
+pub returns-in_err-list : goal.returns-in_err-list
+returns-in_err-list c = let a = c.args in
+    down a.s.now a.s.now (on (move a.metadata.now a.fds.now)) (success 0 0 false) _ c.in_err-list.field-0.0 (search rules)
+    (list_refused a.s.now a.metadata.now a.fds.now _ (sym c.in_err-list.was ∙ c.look.ensures))
+
+pub returns : goal.returns
+returns c = let a = c.args in
+    let g = list_taken a.s.now a.metadata.now a.fds.now _ (sym c.in_ok-list.was ∙ c.look.ensures) in
+    went a.s.now a.metadata.now a.fds.now g.0 g.1 _ _ _ (c.moved.ensures a.fds.now (good_list a.s.now a.metadata.now a.fds.now g.0 g.1 _ g.2) refl)

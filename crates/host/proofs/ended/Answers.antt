@@ -1,6 +1,7 @@
 -- What `host::ended` leaves open. Assumes nothing.
-use Rattle.std.proofs.Common.{ap, ◌∙◌, arith}
-use Rattle.events.specs.Outcome.{said}
+use Rattle.std.proofs.Common.{◌∙◌, arith}
+use Rattle.answer.specs.declared.Accepted.TheVariants.{Done}
+use Rattle.step.proofs.Rows.{told}
 use Rattle.layout.specs.Layout.{plain_of}
 use Rattle.host.proofs.Marking.{marked_more, same_behind, all_marked}
 use Rattle.host.proofs.ended.Goals as goal
@@ -19,4 +20,4 @@ loop-i-preserved c =
 pub returns : goal.returns
 returns c =
     let l = c.loop-i in
-    all_marked c.args.caller c.args.s.now l.s l.i _ _ (omega arith) l.invariant.rest (ap said c.answered.ensures.answer_value) c.answered.ensures.effect_value
+    all_marked c.args.caller c.args.s.now l.s l.i _ _ (omega arith) l.invariant.rest (told _ Done c.answered.ensures.answer_value) c.answered.ensures.effect_value

@@ -1,6 +1,8 @@
 -- What `plan::handle_parsed` leaves open. Assumes nothing.
+use mathlib.Core.Path.{ap, ◌∙◌}
+use Rattle.std.specs.Prelude.{Some}
 use Rattle.plan.proofs.Laws.{asked}
 use Rattle.plan.proofs.handle_parsed.Goals as goal
 
-pub returns-in-Reply : goal.returns-in-Reply
-returns-in-Reply c = let a = c.args in let k = c.handle_in-fd in let w = c.wished-w in asked a.p a.v a.held k.result k.ensures w.result w.ensures _ c.in-Reply.is c.reply.result (c.reply.ensures a.held)
+pub returns-in-Some-Reply : goal.returns-in-Some-Reply
+returns-in-Some-Reply c = let a = c.args in let k = c.handle_in-fd in let w = c.wished in asked a.p a.v a.held k.result k.ensures w.result w.ensures _ (c.in-Some-Reply.is ∙ ap Some c.in-Some-Reply.field-0-is) c.reply.result (c.reply.ensures a.held)

@@ -1,8 +1,7 @@
 -- Each test is one of the definition's.
 use Rattle.std.proofs.Common.{◌≡◌, ℕ, ◌≤◌, Bool, true, false, ◌&&◌, ◌||◌, cond, List, get_or, leb, eqb, refl, sym, ap, ◌∙◌, rules, arith}
 use Rattle.std.proofs.lemmas.Bool.Decides.{nat_tests}
-use Rattle.std.proofs.lemmas.Grind.{common_steps}
-use Rattle.record.specs.Record.{first_table, second_table, flag_table, number_table, user_table, size_of, is_event}
+use Rattle.record.specs.Record.{first_table, second_table, flag_table, number_table, user_table, size_of}
 use Rattle.record_next.proofs.is_event.Goals as goal
 
 -- a field is within its most, which is 0 where the event lacks it

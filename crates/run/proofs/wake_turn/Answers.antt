@@ -8,5 +8,5 @@ use Rattle.run.proofs.wake_turn.Goals as goal
 
 pub returns-clause-told : goal.returns-clause-told
 returns-clause-told c = let a = c.args in
-    let d = looked_before _ _ _ _ c.wake-done.result.answer _ (slot_in (plain_of a.s.now) a.r.words.0) c.stored_reply-kept.ensures c.wake-done.ensures in
+    let d = looked_before _ _ _ _ c.wake-done.result _ (slot_in (plain_of a.s.now) a.r.words.0) c.stored_reply-kept.ensures c.wake-done.ensures in
     let p = c.put_woken.ensures in wake_told a.s.now _ a.r _ _ a.out.now _ _ (let z : length a.s.now ≡ 2060 = search rules in z) d p.out_after p.value

@@ -1,5 +1,5 @@
 -- What is left to spend, and to walk, is told of one more event.
-use Rattle.std.proofs.Common.{Option, unwrap_or, ◌≡◌, ◌<◌, ◌≤◌, ◌+◌, ℕ, List, length, drop, sym, ap, ◌∙◌, arith, rules}
+use Rattle.std.proofs.Common.{Option, List, unwrap_or, ◌≡◌, ◌<◌, ◌≤◌, ◌+◌, ℕ, length, drop, sym, ap, ◌∙◌, arith, rules}
 use Rattle.word_put.proofs.Stores.{part_is}
 use Rattle.record.specs.Record.{record_of, next_of}
 use Rattle.run_room.specs.Room.{room_of}
@@ -22,11 +22,11 @@ loop-size-preserved c =
     let size = c.in-Some.size in
     let part = part_is bs l.at in
     let es : size ≡ next_of (drop l.at bs) = c.in-Some.ensures.value ∙ ap next_of part in
-    let ek : c.room-needed.result ≡ room_of (record_of (drop l.at bs)) = c.room-needed.ensures.value ∙ ap room_of (c.record_at.ensures ∙ ap record_of part) in
+    let ek : c.room_at-needed.result ≡ room_of (record_of (drop l.at bs)) = c.room_at-needed.ensures.value ∙ ap (λ (xs : List ℕ). room_of (record_of xs)) part in
     let more : 0 < size = c.in-Some.ensures.some in
     record {
       in_range = place_on bs l.at size es l.invariant.in_range;
-      spent = spent_on bs c.args.most l.at c.room-needed.result size es more ek l.left c.spend-left.result l.invariant.spent c.spend-left.ensures;
+      spent = spent_on bs c.args.most l.at c.room_at-needed.result size es more ek l.left c.spend-left.result l.invariant.spent c.spend-left.ensures;
       same_end = left_on bs l.at size l.invariant.same_end es (λ z. omega (arith, z, more));
     }
 

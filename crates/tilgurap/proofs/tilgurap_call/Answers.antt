@@ -2,4 +2,4 @@
 use Rattle.tilgurap.proofs.tilgurap_call.Goals as goal
 
 pub returns : goal.returns
-returns c = c.step_words.ensures _ _ _ c.call-done.ensures
+returns c = c.step_words.ensures _ _ _ c.call.ensures

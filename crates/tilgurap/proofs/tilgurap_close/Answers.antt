@@ -2,4 +2,4 @@
 use Rattle.tilgurap.proofs.tilgurap_close.Goals as goal
 
 pub returns : goal.returns
-returns c = c.step_words.ensures _ _ _ c.close-done.ensures
+returns c = c.step_words.ensures _ _ _ c.close.ensures

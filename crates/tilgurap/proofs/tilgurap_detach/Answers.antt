@@ -2,4 +2,4 @@
 use Rattle.tilgurap.proofs.tilgurap_detach.Goals as goal
 
 pub returns : goal.returns
-returns c = c.step_words.ensures _ _ _ c.detach-done.ensures
+returns c = c.step_words.ensures _ _ _ c.detach.ensures

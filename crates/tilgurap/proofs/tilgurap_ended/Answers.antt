@@ -2,4 +2,4 @@
 use Rattle.tilgurap.proofs.tilgurap_ended.Goals as goal
 
 pub returns : goal.returns
-returns c = c.step_words.ensures _ _ _ c.ended-done.ensures
+returns c = c.step_words.ensures _ _ _ c.ended.ensures

@@ -2,4 +2,4 @@
 use Rattle.tilgurap.proofs.tilgurap_kfdwrite.Goals as goal
 
 pub returns : goal.returns
-returns c = c.step_words.ensures _ _ _ c.kfdwrite-done.ensures
+returns c = c.step_words.ensures _ _ _ c.kfdwrite.ensures

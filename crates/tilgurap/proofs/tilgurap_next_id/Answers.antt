@@ -2,4 +2,4 @@
 use Rattle.tilgurap.proofs.tilgurap_next_id.Goals as goal
 
 pub returns : goal.returns
-returns c = c.step_words.ensures _ _ _ c.next_id-done.ensures
+returns c = c.step_words.ensures _ _ _ c.next_id.ensures

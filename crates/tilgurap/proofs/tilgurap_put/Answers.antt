@@ -2,4 +2,4 @@
 use Rattle.tilgurap.proofs.tilgurap_put.Goals as goal
 
 pub returns : goal.returns
-returns c = c.step_words.ensures _ _ _ c.put-done.ensures
+returns c = c.step_words.ensures _ _ _ c.put.ensures
