@@ -73,7 +73,6 @@ pub fn wake(
         }
         Turn::HandOver => {
             let out = wake_decision::holds_in(v.reply, v.fds);
-            layout::sized(s);
             hold_words::to_outside(s, out);
             slot_store::vacate(s, n);
             Ok(step::answered(Accepted::Replied))

@@ -19,7 +19,6 @@ use slot::Act;
 fn move_handle(s: &mut [u64; 2060], p: Plan)
     ensures { s.new ≡ stored s.old (handlesStore (handles_by p.change (handles_of (plain_of s.old))).at) }
 {
-    layout::sized(s);
     if let Some(change) = p.change {
         handle_words::set_handle(s, change.handle, change.held);
     }
@@ -43,7 +42,6 @@ pub fn carry_out(s: &mut [u64; 2060], p: Plan, fx: &mut [u64], at: usize) -> usi
     ensures fx_after { fx.new ≡ sets fx.old at (effects_by p (holds_of (plain_of s.old))) }
     ensures s_after { s.new ≡ stored_all s.old (held_stores (decision_by p (holds_of (plain_of s.old)) (handles_of (plain_of s.old)))) }
 {
-    layout::sized(s);
     // where `at` is past the end, the end: nothing is stored from there on either
     let at = at.min(fx.len());
     let first = p.first;

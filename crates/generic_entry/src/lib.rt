@@ -11,10 +11,7 @@ use schemev2::{Args, Sqe};
 pub fn word_or_zero(words: &[u64], i: usize) -> u64
     ensures { result ≡ get_or words.now i 0 }
 {
-    if words.len() <= i {
-        return 0;
-    }
-    words[i]
+    words.get(i).copied().unwrap_or(0)
 }
 
 // With two fds the second is the last argument and MULTIPLE_IDS is set; with one, metadata goes on to it.
@@ -26,23 +23,20 @@ pub fn entry(op: u8, tag: u32, pid: u64, fds: &[u64], base: u64, len: u64, metad
     let n = word_or_zero(metadata, 1);
     if fds.len() == 2 {
         let second = word_or_zero(fds, 1);
-        let flags = flag::sqe_multiple_ids();
-        let a = Args(first, base, len, m, n, second);
         return Sqe {
             opcode: op,
-            sqe_flags: flags,
-            tag: tag,
-            args: a,
+            sqe_flags: flag::sqe_multiple_ids(),
+            tag,
+            args: Args(first, base, len, m, n, second),
             caller: pid,
         };
     }
     let o = word_or_zero(metadata, 2);
-    let a = Args(first, base, len, m, n, o);
     Sqe {
         opcode: op,
         sqe_flags: 0,
-        tag: tag,
-        args: a,
+        tag,
+        args: Args(first, base, len, m, n, o),
         caller: pid,
     }
 }
@@ -51,11 +45,5 @@ pub fn entry(op: u8, tag: u32, pid: u64, fds: &[u64], base: u64, len: u64, metad
 pub fn is_wrong_kind(kind: u64) -> bool
     ensures { result ≡ wrong_kind kind }
 {
-    if kind < 1 {
-        return true;
-    }
-    if kind == 9 {
-        return true;
-    }
-    16 < kind
+    !matches!(kind, 1..=8 | 10..=16)
 }

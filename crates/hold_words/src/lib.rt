@@ -21,10 +21,8 @@ use ids::Description;
 pub fn look(s: &[u64; 2060], fds: &[u64]) -> Result<List, Refusal>
     ensures { result ≡ (take_of (holds_of (plain_of s.now)) fds.now).list }
 {
-    layout::sized(s);
-    let t = &s[..];
-    let all = &t[layout::ALL..layout::OUTSIDE];
-    let out = &t[layout::OUTSIDE..layout::SCHEME];
+    let all = &s[layout::ALL..layout::OUTSIDE];
+    let out = &s[layout::OUTSIDE..layout::SCHEME];
     take_holds::look(all, out, fds)
 }
 
@@ -32,10 +30,8 @@ pub fn look(s: &[u64; 2060], fds: &[u64]) -> Result<List, Refusal>
 pub fn held(s: &[u64; 2060], word: u64) -> Option<Description>
     ensures { result ≡ held_of (holds_of (plain_of s.now)).holds (holds_of (plain_of s.now)).outside word }
 {
-    layout::sized(s);
-    let t = &s[..];
-    let all = &t[layout::ALL..layout::OUTSIDE];
-    let out = &t[layout::OUTSIDE..layout::SCHEME];
+    let all = &s[layout::ALL..layout::OUTSIDE];
+    let out = &s[layout::OUTSIDE..layout::SCHEME];
     holds::held_outside(all, out, word)
 }
 
@@ -43,9 +39,7 @@ pub fn held(s: &[u64; 2060], word: u64) -> Option<Description>
 pub fn holds_of(s: &[u64; 2060], d: Description) -> u64
     ensures { result ≡ get_or (holds_of (plain_of s.now)).holds d.0 0 }
 {
-    layout::sized(s);
-    let t = &s[..];
-    let all = &t[layout::ALL..layout::OUTSIDE];
+    let all = &s[layout::ALL..layout::OUTSIDE];
     counts::count_at(all, d)
 }
 
@@ -61,62 +55,32 @@ fn counts_at(outer: bool) -> usize
 }
 
 // Each of these changes the counts of outside holds, or those of all.
-fn lower_in(s: &mut [u64], outer: bool, d: Description)
-    requires { length s.old ≡ 2060 }
+fn lower_in(s: &mut [u64; 2060], outer: bool, d: Description)
     ensures { s.new ≡ stored s.old (counts_store outer (less (counts_of outer (plain_of s.old)) d.0)) }
 {
     let at = counts_at(outer);
     counts::lower(&mut s[at..at + 64], d);
 }
 
-fn raise_in(s: &mut [u64], outer: bool, d: Description)
-    requires { length s.old ≡ 2060 }
+fn raise_in(s: &mut [u64; 2060], outer: bool, d: Description)
     ensures { s.new ≡ stored s.old (counts_store outer (more (counts_of outer (plain_of s.old)) d.0)) }
 {
     let at = counts_at(outer);
     counts::higher(&mut s[at..at + 64], d);
 }
 
-// The counts of outside holds, for a list.
-fn take_in(s: &mut [u64], l: List)
-    requires { length s.old ≡ 2060 }
-    ensures { s.new ≡ stored s.old (outsideStore (less_all (holds_of (plain_of s.old)).outside (numbers l))) }
-{
-    counts::lower_all(&mut s[layout::OUTSIDE..layout::SCHEME], l);
-}
-
-fn give_back_in(s: &mut [u64], l: List)
-    requires { length s.old ≡ 2060 }
-    ensures { s.new ≡ stored s.old (outsideStore (more_all (holds_of (plain_of s.old)).outside (numbers l))) }
-{
-    counts::raise_all(&mut s[layout::OUTSIDE..layout::SCHEME], l);
-}
-
 // A list's holds leave the outside ones.
 pub fn take(s: &mut [u64; 2060], l: List)
     ensures { s.new ≡ stored s.old (outsideStore (less_all (holds_of (plain_of s.old)).outside (numbers l))) }
 {
-    layout::sized(s);
-    take_in(s, l);
+    counts::lower_all(&mut s[layout::OUTSIDE..layout::SCHEME], l);
 }
 
 // A list's holds become outside holds.
 pub fn to_outside(s: &mut [u64; 2060], l: List)
     ensures { s.new ≡ stored s.old (outsideStore (more_all (holds_of (plain_of s.old)).outside (numbers l))) }
 {
-    layout::sized(s);
-    give_back_in(s, l);
-}
-
-// Where holds inside the layer are dropped.
-fn drop_in(s: &mut [u64], l: List, follows: bool, fx: &mut [u64], at: usize) -> usize
-    requires { length s.old ≡ 2060 }
-    ensures value { result ≡ length (only follows (lasts (holds_of (plain_of s.old)).holds (numbers l))) }
-    ensures s_after { s.new ≡ stored s.old (allStore (less_all (holds_of (plain_of s.old)).holds (numbers l))) }
-    ensures fx_after { fx.new ≡ sets fx.old at (closes (only follows (lasts (holds_of (plain_of s.old)).holds (numbers l)))) }
-    ensures upper_bound { result ≤ 16 }
-{
-    closes::drop_all(&mut s[layout::ALL..layout::OUTSIDE], l, follows, fx, at)
+    counts::raise_all(&mut s[layout::OUTSIDE..layout::SCHEME], l);
 }
 
 // A list's holds dropped, the closes that follow stored in the lent words from `at` on; says how many closes these are.
@@ -126,8 +90,7 @@ pub fn drop_all(s: &mut [u64; 2060], l: List, follows: bool, fx: &mut [u64], at:
     ensures fx_after { fx.new ≡ sets fx.old at (closes (only follows (lasts (holds_of (plain_of s.old)).holds (numbers l)))) }
     ensures upper_bound { result ≤ 16 }
 {
-    layout::sized(s);
-    drop_in(s, l, follows, fx, at)
+    closes::drop_all(&mut s[layout::ALL..layout::OUTSIDE], l, follows, fx, at)
 }
 
 // A list's holds dropped, with no close.
@@ -142,7 +105,6 @@ pub fn discard(s: &mut [u64; 2060], l: List)
 pub fn lower_outside(s: &mut [u64; 2060], d: Description)
     ensures { s.new ≡ stored s.old (outsideStore (less (holds_of (plain_of s.old)).outside d.0)) }
 {
-    layout::sized(s);
     lower_in(s, true, d);
 }
 
@@ -150,7 +112,6 @@ pub fn lower_outside(s: &mut [u64; 2060], d: Description)
 pub fn lower(s: &mut [u64; 2060], d: Description)
     ensures { s.new ≡ stored s.old (allStore (less (holds_of (plain_of s.old)).holds d.0)) }
 {
-    layout::sized(s);
     lower_in(s, false, d);
 }
 
@@ -158,7 +119,6 @@ pub fn lower(s: &mut [u64; 2060], d: Description)
 pub fn raise_outside(s: &mut [u64; 2060], d: Description)
     ensures { s.new ≡ stored s.old (outsideStore (more (holds_of (plain_of s.old)).outside d.0)) }
 {
-    layout::sized(s);
     raise_in(s, true, d);
 }
 
@@ -166,6 +126,5 @@ pub fn raise_outside(s: &mut [u64; 2060], d: Description)
 pub fn raise(s: &mut [u64; 2060], d: Description)
     ensures { s.new ≡ stored s.old (allStore (more (holds_of (plain_of s.old)).holds d.0)) }
 {
-    layout::sized(s);
     raise_in(s, false, d);
 }

@@ -17,7 +17,6 @@ use step::Step;
 pub fn open(s: &mut [u64; 2060], description: u64) -> Result<Step, Refusal>
     ensures { Does s.old s.new (host_open description) (answer_of result) (effects_of result) }
 {
-    layout::sized(s);
     let d = ids::description_of(description).ok_or(Refusal::BadArgument)?;
     if hold_words::holds_of(s, d) != 0 {
         return Err(Refusal::BadArgument);
@@ -31,7 +30,6 @@ pub fn open(s: &mut [u64; 2060], description: u64) -> Result<Step, Refusal>
 pub fn copy(s: &mut [u64; 2060], description: u64) -> Result<Step, Refusal>
     ensures { Does s.old s.new (host_copy description) (answer_of result) (effects_of result) }
 {
-    layout::sized(s);
     let d = hold_words::held(s, description).ok_or(Refusal::BadArgument)?;
     let is_full = hold_words::holds_of(s, d) == 65535;
     if is_full {
@@ -46,7 +44,6 @@ pub fn copy(s: &mut [u64; 2060], description: u64) -> Result<Step, Refusal>
 pub fn drop(s: &mut [u64; 2060], description: u64) -> Result<Step, Refusal>
     ensures { Does s.old s.new (host_drop description) (answer_of result) (effects_of result) }
 {
-    layout::sized(s);
     let d = hold_words::held(s, description).ok_or(Refusal::BadArgument)?;
     hold_words::lower_outside(s, d);
     hold_words::lower(s, d);
@@ -57,7 +54,6 @@ pub fn drop(s: &mut [u64; 2060], description: u64) -> Result<Step, Refusal>
 pub fn put(s: &mut [u64; 2060], description: u64, handle: u64) -> Result<Step, Refusal>
     ensures { Does s.old s.new (on (host_put description handle)) (answer_of result) (effects_of result) }
 {
-    layout::sized(s);
     let d = hold_words::held(s, description).ok_or(Refusal::BadArgument)?;
     if 63 < handle {
         return Err(Refusal::BadArgument);

@@ -2,8 +2,6 @@
 // only those that read and store the words use one.
 #![tactic(auto)]
 
-ghost use Rattle.std.specs.Prelude.{◌≡◌, length};
-
 // So many words to a slot, from 0 on; then the chain of vacated slots, with one for each.
 pub const SLOT: usize = 12;
 
@@ -24,8 +22,3 @@ pub const UNREAD: usize = 970;
 pub const HANDLES: usize = 972;
 
 pub const QUEUE: usize = 1036;
-
-// As many words as there are: what the type says, under a name that callers' proofs cite.
-pub fn sized(s: &[u64; 2060])
-    ensures { length s.now ≡ 2060 }
-{}

@@ -36,19 +36,11 @@ struct Entered {
     words: usize,
 }
 
-// What a byte's type says.
-fn is_byte(x: u8)
-    ensures { x < 256 }
-{}
-
 // One entry, on the slot that its tag names.
 fn entry(s: &mut [u64; 2060], e: Cqe, fx: &mut [u64], at: usize) -> Entered
     ensures enters { Enters s.old s.new fx.old fx.new at e (number_by result.refusal) result.words }
     ensures words_bound { result.words ≤ 102 }
 {
-    layout::sized(s);
-    let extra = e.extra_raw;
-    is_byte(extra.0);
     let asked = parse_cqe::parse_cqe(e);
     let n = ids::slot_of(Tag(e.tag as u64));
     let v = slot_load::load(s, n);

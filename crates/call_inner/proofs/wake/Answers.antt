@@ -21,4 +21,4 @@ pub returns-in-HandOver : goal.returns-in-HandOver
 returns-in-HandOver c = let a = c.args in
     let d = c.answered-in-HandOver.ensures in
     quiet a.s.now _ (on (wake a.tag.0 a.caller a.killed a.base a.count)) (response_of (slot_in (plain_of a.s.now) a.tag.0)) _ Replied d.answer_value d.effect_value
-    (handed a.s.now a.tag a.caller a.killed a.base a.count c.if-killed-gt1.false _ c.slot_of-n.ensures _ c.load-v.ensures _ c.unread-unread.ensures _ c.decide.ensures c.holds_in-out.result _ _ (c.in_ok-decide.was ∙ ap Ok c.in-HandOver.is) (c.holds_in-out.ensures (holds_of (plain_of a.s.now)) (plain_fits a.s.now c.sized.ensures).outside) c.to_outside.ensures c.vacate.ensures)
+    (handed a.s.now a.tag a.caller a.killed a.base a.count c.if-killed-gt1.false _ c.slot_of-n.ensures _ c.load-v.ensures _ c.unread-unread.ensures _ c.decide.ensures c.holds_in-out.result _ _ (c.in_ok-decide.was ∙ ap Ok c.in-HandOver.is) (c.holds_in-out.ensures (holds_of (plain_of a.s.now)) (plain_fits a.s.now c.told-s).outside) c.to_outside.ensures c.vacate.ensures)

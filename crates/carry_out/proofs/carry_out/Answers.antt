@@ -14,7 +14,7 @@ pub returns-clause-value : goal.returns-clause-value
 returns-clause-value c = let a = c.args in
     let ws : List ℕ = a.s.now in
     let p : Plan = a.p in
-    let size : length ws ≡ 2060 = c.sized.ensures in
+    let size : length ws ≡ 2060 = c.told-s in
     let at : ℕ = c.min-at.result in
     let e = c.drop_all-c.ensures in
     let g = c.drop_all-d.ensures in
@@ -27,7 +27,7 @@ pub returns-clause-fx_after : goal.returns-clause-fx_after
 returns-clause-fx_after c = let a = c.args in
     let ws : List ℕ = a.s.now in
     let p : Plan = a.p in
-    let size : length ws ≡ 2060 = c.sized.ensures in
+    let size : length ws ≡ 2060 = c.told-s in
     let at : ℕ = c.min-at.result in
     let e = c.drop_all-c.ensures in
     let g = c.drop_all-d.ensures in
@@ -40,7 +40,7 @@ pub returns-clause-s_after : goal.returns-clause-s_after
 returns-clause-s_after c = let a = c.args in
     let ws : List ℕ = a.s.now in
     let p : Plan = a.p in
-    let size : length ws ≡ 2060 = c.sized.ensures in
+    let size : length ws ≡ 2060 = c.told-s in
     let at : ℕ = c.min-at.result in
     let e = c.drop_all-c.ensures in
     let g = c.drop_all-d.ensures in

@@ -12,10 +12,10 @@ use Rattle.host.proofs.Cases.{drops_none, drops}
 use Rattle.host.proofs.drop.Goals as goal
 
 pub returns : goal.returns
-returns c = let a = c.args in drops a.s.now c.sized.ensures a.description _ c.held.ensures _ (found _ _ _ _ c.ok_or.ensures.value c.in_ok-d.was) _ _ _ _ c.lower_outside.ensures c.lower.ensures (told _ Done c.answered.ensures.answer_value) c.answered.ensures.effect_value
+returns c = let a = c.args in drops a.s.now c.told-s a.description _ c.held.ensures _ (found _ _ _ _ c.ok_or.ensures.value c.in_ok-d.was) _ _ _ _ c.lower_outside.ensures c.lower.ensures (told _ Done c.answered.ensures.answer_value) c.answered.ensures.effect_value
 
 pub returns-in_err-d : goal.returns-in_err-d
 returns-in_err-d c = let a = c.args in
     let m = missed _ _ _ _ c.ok_or.ensures.value c.in_err-d.was in
     let z : c.from_residual.result ≡ Err c.in_err-d.field-0.0 = search rules in
-    down a.s.now a.s.now (host_drop a.description) (success 0 0 false) _ BadArgument (z ∙ ap Err m.1) (drops_none a.s.now c.sized.ensures a.description _ c.held.ensures m.0 _ _ refl refl)
+    down a.s.now a.s.now (host_drop a.description) (success 0 0 false) _ BadArgument (z ∙ ap Err m.1) (drops_none a.s.now c.told-s a.description _ c.held.ensures m.0 _ _ refl refl)

@@ -12,13 +12,13 @@ use Rattle.host.proofs.Cases.{no_description, open_already, opens}
 use Rattle.host.proofs.open.Goals as goal
 
 pub returns-then-holds_of-ne0 : goal.returns-then-holds_of-ne0
-returns-then-holds_of-ne0 c = let a = c.args in open_already a.s.now c.sized.ensures a.description _ c.description_of.ensures _ (found _ _ _ _ c.ok_or.ensures.value c.in_ok-d.was) _ c.holds_of.ensures c.if-holds_of-ne0.true _ _ refl refl
+returns-then-holds_of-ne0 c = let a = c.args in open_already a.s.now c.told-s a.description _ c.description_of.ensures _ (found _ _ _ _ c.ok_or.ensures.value c.in_ok-d.was) _ c.holds_of.ensures c.if-holds_of-ne0.true _ _ refl refl
 
 pub returns : goal.returns
-returns c = let a = c.args in opens a.s.now c.sized.ensures a.description _ c.description_of.ensures _ (found _ _ _ _ c.ok_or.ensures.value c.in_ok-d.was) _ c.holds_of.ensures c.if-holds_of-ne0.false _ _ _ _ c.raise_outside.ensures c.raise.ensures (told _ Done c.answered.ensures.answer_value) c.answered.ensures.effect_value
+returns c = let a = c.args in opens a.s.now c.told-s a.description _ c.description_of.ensures _ (found _ _ _ _ c.ok_or.ensures.value c.in_ok-d.was) _ c.holds_of.ensures c.if-holds_of-ne0.false _ _ _ _ c.raise_outside.ensures c.raise.ensures (told _ Done c.answered.ensures.answer_value) c.answered.ensures.effect_value
 
 pub returns-in_err-d : goal.returns-in_err-d
 returns-in_err-d c = let a = c.args in
     let m = missed _ _ _ _ c.ok_or.ensures.value c.in_err-d.was in
     let z : c.from_residual.result ≡ Err c.in_err-d.field-0.0 = search rules in
-    down a.s.now a.s.now (host_open a.description) (success 0 0 false) _ BadArgument (z ∙ ap Err m.1) (no_description a.s.now c.sized.ensures a.description _ c.description_of.ensures m.0 _ _ refl refl)
+    down a.s.now a.s.now (host_open a.description) (success 0 0 false) _ BadArgument (z ∙ ap Err m.1) (no_description a.s.now c.told-s a.description _ c.description_of.ensures m.0 _ _ refl refl)
