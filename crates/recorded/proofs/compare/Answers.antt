@@ -1,3 +1,4 @@
+-- What `recorded::compare` leaves open. Assumes nothing.
 use Rattle.std.proofs.Common.{length}
 use Rattle.recorded.proofs.Laws.{compared_is}
 use Rattle.recorded.proofs.compare.Goals as goal

@@ -1,3 +1,4 @@
+-- What `recorded::replay` leaves open. Assumes nothing.
 use Rattle.std.proofs.Common.{◌≡◌, true, length, rules}
 use Rattle.le.specs.Le.{word}
 use Rattle.recorded.proofs.Laws.{as_compared}

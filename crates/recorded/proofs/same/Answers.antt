@@ -1,3 +1,4 @@
+-- What `recorded::same` leaves open. Assumes nothing.
 use Rattle.std.proofs.Common.{ℕ, ◌==◌, ◌∙◌, rules, tests}
 use Rattle.std.specs.List.{zip}
 use Rattle.std.proofs.lemmas.Iterator.{YieldsList-from_slice, YieldsList-from_zip}
