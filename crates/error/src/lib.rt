@@ -22,6 +22,16 @@ const ERROR_1: u32 = 0xffff_ffff;
 
 const ERROR_132: u32 = 0xffff_ff7c;
 
+// `-n`, with the lowest value apart, as 01 asks for: it has no counterpart and stays what it is.
+fn negated(n: i32) -> i32
+    ensures { result ≡ neg_i32 n }
+{
+    if n == -0x8000_0000 {
+        return n;
+    }
+    -n
+}
+
 // `n as usize`: the sign is extended.
 fn as_usize(n: i32) -> u64
     ensures { result ≡ as_usize n }
@@ -50,7 +60,7 @@ impl Error {
     fn word(self) -> u64
         ensures { result ≡ as_usize (neg_i32 self.errno) }
     {
-        as_usize(self.errno.wrapping_neg())
+        as_usize(negated(self.errno))
     }
 
     pub fn mux(res: Result) -> u64
