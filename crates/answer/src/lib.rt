@@ -1,5 +1,5 @@
-// What an event answers: one case for each outcome, for all events. Each case's number and value in 01 stand in one table, `said_with`
-// (events/specs/Outcome.antt).
+// What an event answers: one case for each outcome, for all events. In 01's terms they stand in two tables: `refusal_number`
+// (specs/Numbered.antt) for the refusals, `said_with` (events/specs/Outcome.antt) for each kind of answer and its value.
 #![tactic(auto)]
 
 ghost use Rattle.std.specs.Prelude.{◌≡◌};

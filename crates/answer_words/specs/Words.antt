@@ -1,5 +1,5 @@
 -- An answer as the words that are handed to a host: from the answer to each of them, what it does not use is 0.
-use Rattle.std.specs.Prelude.{ℕ, ◌≡◌, false, List, [], ◌∷◌}
+use Rattle.std.specs.Prelude.{ℕ, ◌≡◌, false, List, []}
 use Rattle.effect.specs.Effect.{effect_of, crossed}
 use Rattle.fd_list.specs.declared.List.{List as Fds}
 use Rattle.fd_list.specs.Lists.{list_of}
@@ -48,12 +48,6 @@ fds_of (no k) = list_of []
 fds_of wait = list_of []
 fds_of blocked = list_of []
 fds_of (reply r) = list_of (many_in r)
-
--- the words of an answer and of its effects
-pub record StepSays (r : StepWords) (a : Answer) (fx : List ℕ) : Type 0 where
-  pub answer : r.answer ≡ words_of a
-  pub effect : r.effect ≡ effect_of fx
-  pub effects : crossed r.effect ≡ fx
 
 -- an event with at most one effect: answer, effect and every word of the state are settled
 pub record Settled (r : StepWords) (ws xs : List ℕ) (e : Event) : Type 0 where

@@ -2,11 +2,12 @@
 #![tactic(auto)]
 
 ghost use Rattle.std.specs.Prelude.{◌≡◌, false, List as Words, ℕ};
-ghost use Rattle.events.specs.Outcome.{Response, reply as replied, said_with};
+ghost use Rattle.effect.specs.Effect.{effect_of, crossed};
+ghost use Rattle.events.specs.Outcome.{Response, reply as replied, said_with, said};
 ghost use Rattle.events.specs.Event.{Event};
 ghost use Rattle.events.specs.Wake.{response_from};
 ghost use Rattle.step.specs.Does.{answer_of, answer_with, effects_of, Does};
-ghost use Rattle.answer_words.specs.Words.{words_of, reply_of, fds_of, StepSays, Settled, SettledWake};
+ghost use Rattle.answer_words.specs.Words.{words_of, reply_of, fds_of, Settled, SettledWake};
 
 use answer::{Accepted, Answer, Refusal};
 use effect::EffectWords;
@@ -105,45 +106,76 @@ fn list_words(r: Reply, fds: List) -> List
     fd_list::without(fds, 0)
 }
 
-// The answer and the effect of what an event's function returns.
-fn parts(done: Result<Step, Refusal>) -> StepWords
-    ensures { (r : Response) → StepSays result (answer_with r done) (effects_of done) }
+// An effect as it is handed over: kind 0 is none, whatever words stand beside it.
+fn effect_words(e: EffectWords) -> EffectWords
+    ensures { (result ≡ effect_of (crossed e)) × (crossed result ≡ crossed e) }
+{
+    if e.kind == 0 {
+        return EffectWords {
+            kind: 0,
+            a: 0,
+            b: 0,
+        };
+    }
+    e
+}
+
+// Of any answer and any effect, whichever function they come from.
+pub fn said_words(answer: Answer, effect: EffectWords) -> StepWords
+    ensures { (ws xs : Words ℕ) (e : Event) → Does ws xs e (said answer) (crossed effect) → Settled result ws xs e }
+{
+    StepWords {
+        answer: words(answer),
+        effect: effect_words(effect),
+    }
+}
+
+// The reply and its list count where one was handed over.
+pub fn woken_words(answer: Answer, effect: EffectWords, r: Reply, fds: List) -> WakeWords
+    ensures { (ws xs : Words ℕ) (v : Event) → Does ws xs v (said_with (response_from r fds) answer) (crossed effect) → SettledWake result ws xs v }
+{
+    let told = words(answer);
+    let fx = effect_words(effect);
+    if told.kind == 4 {
+        return WakeWords {
+            answer: told,
+            reply: reply_words(r, fds),
+            fds: list_words(r, fds),
+            effect: fx,
+        };
+    }
+    WakeWords {
+        answer: told,
+        reply: lone(0, 0),
+        fds: fd_list::empty(),
+        effect: fx,
+    }
+}
+
+// What an event's function returns: its answer, and its effect as it crosses.
+fn answer_in(done: Result<Step, Refusal>) -> Answer
+    ensures { (r : Response) → said_with r result ≡ answer_with r done }
+{
+    done.map(|step| step.accepted)
+}
+
+fn effect_in(done: Result<Step, Refusal>) -> EffectWords
+    ensures { crossed result ≡ effects_of done }
 {
     match done {
-        Ok(step) => StepWords {
-            answer: words(Ok(step.accepted)),
-            effect: effect::words(step.effect),
-        },
-        Err(refusal) => StepWords {
-            answer: words(Err(refusal)),
-            effect: effect::words(None),
-        },
+        Ok(step) => effect::words(step.effect),
+        Err(_) => effect::words(None),
     }
 }
 
 pub fn step_words(done: Result<Step, Refusal>) -> StepWords
     ensures { (ws xs : Words ℕ) (e : Event) → Does ws xs e (answer_of done) (effects_of done) → Settled result ws xs e }
 {
-    parts(done)
+    said_words(answer_in(done), effect_in(done))
 }
 
-// The reply and its list count where one was handed over.
 pub fn wake_words(done: Result<Step, Refusal>, r: Reply, fds: List) -> WakeWords
     ensures { (ws xs : Words ℕ) (v : Event) → Does ws xs v (answer_with (response_from r fds) done) (effects_of done) → SettledWake result ws xs v }
 {
-    let told = parts(done);
-    if told.answer.kind == 4 {
-        return WakeWords {
-            answer: told.answer,
-            reply: reply_words(r, fds),
-            fds: list_words(r, fds),
-            effect: told.effect,
-        };
-    }
-    WakeWords {
-        answer: told.answer,
-        reply: lone(0, 0),
-        fds: fd_list::empty(),
-        effect: told.effect,
-    }
+    woken_words(answer_in(done), effect_in(done), r, fds)
 }

@@ -1,15 +1,15 @@
 -- A wake by its tests; k is the slot number of the tag n. Assumes nothing.
 use Prim.Native.Nat.{ℕ, zero, suc, min, ◌<◌, ◌≤◌}
 use mathlib.Core.Path.{◌≡◌, refl, sym, ap, ap₂, ◌∙◌, subst}
-use mathlib.Core.Bool.{Bool, true, false, cond, false≢true}
+use mathlib.Core.Bool.{Bool, true, false, cond}
 use mathlib.Core.List.{List, [], ◌∷◌}
 use native.Mathlib.Omega.{arith}
 use lib.Dec.{eqb, leb, ltb}
 use lib.ListN.{get_or}
 use borrow.Author.Tests.{lt-ltb, le-ltb, ltb-true}
-use Rattle.std.specs.Prelude.{Result, Ok, Err}
+use Rattle.std.specs.Prelude.{Result}
+use Rattle.answer.specs.declared.Accepted.{Accepted}
 use Rattle.answer.specs.declared.Refusal.{Refusal}
-use Rattle.answer.specs.Numbered.{refusal_number}
 use Rattle.counts.specs.Counts.{more_all}
 use Rattle.fd_list.specs.declared.List.{List as Fds}
 use Rattle.fd_list.specs.Lists.{numbers, list_of}
@@ -26,7 +26,7 @@ use Rattle.slot.specs.declared.Slot.{Slot}
 use Rattle.slot.specs.Slots.{phase_of, vacant_slot, canceled_of, interrupted_of}
 use Rattle.table.specs.Table.{no_slot}
 use Rattle.events.specs.World.{World, table_of, holds_of, queue_of, slot_in, phase_in, queue_full}
-use Rattle.events.specs.Outcome.{Answer, Response, Outcome, outcome, no, blocked, reply, refuse, checked, readable}
+use Rattle.events.specs.Outcome.{Answer, Response, Outcome, outcome, said_with, no, blocked, reply, refuse, checked, readable}
 use Rattle.events.specs.Wake.{response_by, response_from, response_of, held_in, cancel_entry, handed_over, interrupted, blocked_by, waited_by, woken_by, wakeable, wake_rows}
 use Rattle.events.specs.Event.{Event, on, wake, step}
 use Rattle.layout.specs.Layout.{plain_of}
@@ -36,6 +36,7 @@ use Rattle.step.specs.declared.Step.{Step}
 use Rattle.step.specs.Does.{answer_with, Does}
 use Rattle.step.proofs.Rows.{turned}
 use Rattle.step.proofs.Tests.{slot_of_in}
+use Rattle.wake_decision.specs.declared.Decided.{Decided}
 use Rattle.wake_decision.specs.declared.Turn.{Turn}
 use Rattle.wake_decision.specs.declared.Turn.TheVariants.{Stay, Interrupt, Cancel, HandOver}
 use Rattle.wake_decision.specs.Wake.{decided_of}
@@ -43,19 +44,17 @@ use Rattle.call_inner.specs.declared.Stored.{Stored}
 use Rattle.call_inner.specs.Stored.{list_beside, kept_in}
 
 -- what each turn comes to, and what it stores
-abbrev said : Result Turn Refusal → World → ℕ → PageSpan → Outcome
-said (Ok Stay) w n span = outcome blocked [] w
-said (Ok Interrupt) w n span = interrupted w n span
-said (Ok Cancel) w n span = blocked_by false false w n
-said (Ok HandOver) w n span = handed_over w n
-said (Err k) w n span = refuse w (refusal_number k)
+abbrev said : Turn → Result Accepted Refusal → World → ℕ → PageSpan → Response → Outcome
+said Stay a w n span r = outcome (said_with r a) [] w
+said Interrupt a w n span r = interrupted w n span
+said Cancel a w n span r = blocked_by false false w n
+said HandOver a w n span r = handed_over w n
 
-abbrev stores : Result Turn Refusal → World → ℕ → PageSpan → List Store
-stores (Err k) w n span = []
-stores (Ok Stay) w n span = []
-stores (Ok Interrupt) w n span = put n (interrupted_of (slot_in w n) span) ∷ []
-stores (Ok Cancel) w n span = put n (canceled_of (slot_in w n)) ∷ send (cancel_entry n) ∷ []
-stores (Ok HandOver) w n span = outside (outside_of (holds_of w) (held_in (response_of (slot_in w n)))).outside ∷ vacate n ∷ []
+abbrev stores : Turn → World → ℕ → PageSpan → List Store
+stores Stay w n span = []
+stores Interrupt w n span = put n (interrupted_of (slot_in w n) span) ∷ []
+stores Cancel w n span = put n (canceled_of (slot_in w n)) ∷ send (cancel_entry n) ∷ []
+stores HandOver w n span = outside (outside_of (holds_of w) (held_in (response_of (slot_in w n)))).outside ∷ vacate n ∷ []
 
 -- the definitions, by the tests that the decision makes
 abbrev waited_as : Bool → Bool → Bool → World → ℕ → PageSpan → Outcome
@@ -80,12 +79,12 @@ woken_ss Waiting k c f w n span = waited_ss k c f w n span
 woken_ss Responded k c f w n span = outside (outside_of (holds_of w) (held_in (response_of (slot_in w n)))).outside ∷ vacate n ∷ []
 woken_ss Fmap k c f w n span = []
 
-module _ (w : World) (n : ℕ) (span : PageSpan) where
-  record Same (d : Result Turn Refusal) (o : Outcome) (ss : List Store) : Type 0 where
-    outcome : said d w n span ≡ o
-    stored : stores d w n span ≡ ss
+module _ (w : World) (n : ℕ) (span : PageSpan) (r : Response) where
+  record Same (d : Decided) (o : Outcome) (ss : List Store) : Type 0 where
+    outcome : said d.turn d.answer w n span r ≡ o
+    stored : stores d.turn w n span ≡ ss
 
-  both : (d : Result Turn Refusal) → Same d (said d w n span) (stores d w n span)
+  both : (d : Decided) → Same d (said d.turn d.answer w n span r) (stores d.turn w n span)
   both d = record { outcome = refl; stored = refl }
 
   decided_is :
@@ -133,6 +132,12 @@ low w n z = go (ltb n 64) refl z
     go true e z = omega (arith, ltb-true n 64 e)
     go false e z = absurd (z refl)
 
+abbrev stays : Turn → ℕ
+stays Stay = 0
+stays Interrupt = 1
+stays Cancel = 2
+stays HandOver = 3
+
 module _ (ws : List ℕ) (n : Tag) (c killed base count : ℕ) where
   abbrev span : PageSpan
   span = record { base = base; count = count }
@@ -149,75 +154,72 @@ module _ (ws : List ℕ) (n : Tag) (c killed base count : ℕ) where
       turned ws e (wake_rows (ltb 1 killed) (phase_in w n.0) (wakeable (slot_in w n.0) c)) (woken_by (phase_in w n.0) w n.0 killed span) (woken_stores (phase_in w n.0) w n.0 killed span) refl refl 205
       (rw b refl)
 
-  module _ (x : killed ≤ 1) (k : SlotNo) (is : k ≡ slot_of n) (v : Slot) (at : v ≡ slot_in w k.0) (unread : ℕ) (ul : unread ≡ (queue_of w).len) (d : Result Turn Refusal) (ed : d ≡ decided_of (phase_of v) (wakeable v c) (eqb killed 1) v.canceling (leb 128 unread)) where
+  module _ (x : killed ≤ 1) (k : SlotNo) (is : k ≡ slot_of n) (v : Slot) (at : v ≡ slot_in w k.0) (unread : ℕ) (ul : unread ≡ (queue_of w).len) (d : Decided) (ed : d ≡ decided_of (phase_of v) (wakeable v c) (eqb killed 1) v.canceling (leb 128 unread)) where
     here : v ≡ slot_in w n.0
     here = at ∙ ap (λ (y : SlotNo). slot_in w y.0) is ∙ slot_of_in w n.0
 
-    abbrev told : Result Turn Refusal
+    abbrev told : Decided
     told = decided_of (phase_in w n.0) (wakeable (slot_in w n.0) c) (eqb killed 1) (slot_in w n.0).canceling (queue_full w)
 
     told_is : d ≡ told
     told_is = ed ∙ λ i. decided_of (phase_of (here i)) (wakeable (here i) c) (eqb killed 1) (here i).canceling (leb 128 (ul i))
 
-    abbrev Rows : Outcome → List Store → Type 0
-    Rows o ss = Same w n.0 span told o ss
+    module _ (r : Response) where
+      abbrev Rows : Outcome → List Store → Type 0
+      Rows o ss = Same w n.0 span r told o ss
 
-    same :
-        Rows (checked (refuse w) (wake_rows false (phase_in w n.0) (wakeable (slot_in w n.0) c)) (woken_as (phase_in w n.0) (eqb killed 1) (slot_in w n.0).canceling (queue_full w) w n.0 span))
-        (unless (wake_rows false (phase_in w n.0) (wakeable (slot_in w n.0) c)) (woken_ss (phase_in w n.0) (eqb killed 1) (slot_in w n.0).canceling (queue_full w) w n.0 span))
-    same = decided_is w n.0 span (phase_in w n.0) (wakeable (slot_in w n.0) c) (eqb killed 1) (slot_in w n.0).canceling (queue_full w)
+      same :
+          Rows (checked (refuse w) (wake_rows false (phase_in w n.0) (wakeable (slot_in w n.0) c)) (woken_as (phase_in w n.0) (eqb killed 1) (slot_in w n.0).canceling (queue_full w) w n.0 span))
+          (unless (wake_rows false (phase_in w n.0) (wakeable (slot_in w n.0) c)) (woken_ss (phase_in w n.0) (eqb killed 1) (slot_in w n.0).canceling (queue_full w) w n.0 span))
+      same = decided_is w n.0 span r (phase_in w n.0) (wakeable (slot_in w n.0) c) (eqb killed 1) (slot_in w n.0).canceling (queue_full w)
 
-    whole : said told w n.0 span ≡ step w e
-    whole =
-        same.outcome
-        ∙ ap₂ (λ (b : Bool) (o : Outcome). checked (refuse w) (wake_rows b (phase_in w n.0) (wakeable (slot_in w n.0) c)) o) (sym (le-ltb 1 killed x)) (woken_is w n.0 killed span (phase_in w n.0))
+      whole : said told.turn told.answer w n.0 span r ≡ step w e
+      whole =
+          same.outcome
+          ∙ ap₂ (λ (b : Bool) (o : Outcome). checked (refuse w) (wake_rows b (phase_in w n.0) (wakeable (slot_in w n.0) c)) o) (sym (le-ltb 1 killed x)) (woken_is w n.0 killed span (phase_in w n.0))
 
-    all_stores : stores told w n.0 span ≡ stores_of w e
-    all_stores =
-        same.stored
-        ∙ ap₂ (λ (b : Bool) (ss : List Store). unless (wake_rows b (phase_in w n.0) (wakeable (slot_in w n.0) c)) ss) (sym (le-ltb 1 killed x)) (woken_ss_lem w n.0 killed span (phase_in w n.0))
+      all_stores : stores told.turn w n.0 span ≡ stores_of w e
+      all_stores =
+          same.stored
+          ∙ ap₂ (λ (b : Bool) (ss : List Store). unless (wake_rows b (phase_in w n.0) (wakeable (slot_in w n.0) c)) ss) (sym (le-ltb 1 killed x)) (woken_ss_lem w n.0 killed span (phase_in w n.0))
 
-    does : (t : Result Turn Refusal) → d ≡ t → (xs : List ℕ) (a : Answer) (fx : List ℕ) → a ≡ (said t w n.0 span).answer → fx ≡ (said t w n.0 span).effects → xs ≡ stored_all ws (stores t w n.0 span) → Does ws xs e a fx
-    does t et xs a fx ea ef ex =
-        let q : said t w n.0 span ≡ step w e = ap (λ (u : Result Turn Refusal). said u w n.0 span) (sym et ∙ told_is) ∙ whole in
-        let z : stores t w n.0 span ≡ stores_of w e = ap (λ (u : Result Turn Refusal). stores u w n.0 span) (sym et ∙ told_is) ∙ all_stores in
-        record { answer = ea ∙ ap (λ (o : Outcome). o.answer) q; effects = ef ∙ ap (λ (o : Outcome). o.effects) q; words = ex ∙ ap (stored_all ws) z }
+      does : (t : Turn) → d.turn ≡ t → (xs : List ℕ) (a : Answer) (fx : List ℕ) → a ≡ (said t d.answer w n.0 span r).answer → fx ≡ (said t d.answer w n.0 span r).effects → xs ≡ stored_all ws (stores t w n.0 span) → Does ws xs e a fx
+      does t et xs a fx ea ef ex =
+          let q : said t d.answer w n.0 span r ≡ step w e = ap (λ (u : Turn). said u d.answer w n.0 span r) (sym et) ∙ ap (λ (u : Decided). said u.turn u.answer w n.0 span r) told_is ∙ whole in
+          let z : stores t w n.0 span ≡ stores_of w e = ap (λ (u : Turn). stores u w n.0 span) (sym et) ∙ ap (λ (u : Decided). stores u.turn w n.0 span) told_is ∙ all_stores in
+          record { answer = ea ∙ ap (λ (o : Outcome). o.answer) q; effects = ef ∙ ap (λ (o : Outcome). o.effects) q; words = ex ∙ ap (stored_all ws) z }
 
-    pub refused : (j : Refusal) → d ≡ Err j → Does ws ws e (no (refusal_number j)) []
-    refused j et = does (Err j) et ws (no (refusal_number j)) [] refl refl refl
-
-    pub stay : d ≡ Ok Stay → Does ws ws e blocked []
-    stay et = does (Ok Stay) et ws blocked [] refl refl refl
+    pub stay : (r : Response) (a : Answer) (fx : List ℕ) → d.turn ≡ Stay → a ≡ said_with r d.answer → fx ≡ [] → Does ws ws e a fx
+    stay r a fx et ea ef = does r Stay et ws a fx ea ef refl
 
     -- a slot that something is done to is within the 64
-    abbrev is_refused : Result Turn Refusal → Bool
-    is_refused (Ok t) = false
-    is_refused (Err j) = true
-
-    not_vacant : (t : Turn) → d ≡ Ok t → k.0 ≡ n.0
-    not_vacant t et =
+    not_vacant : (t : Turn) → d.turn ≡ t → (stays t ≡ 0 → ⊥) → k.0 ≡ n.0
+    not_vacant t et z =
         ap (λ (y : SlotNo). y.0) is
         ∙ low w n.0
-        (λ q. false≢true (ap is_refused (sym et ∙ told_is ∙ ap (λ (p : Phase). decided_of p (wakeable (slot_in w n.0) c) (eqb killed 1) (slot_in w n.0).canceling (queue_full w)) q)))
+        (λ q. z (ap stays (sym et ∙ ap (λ (u : Decided). u.turn) told_is ∙ ap (λ (p : Phase). (decided_of p (wakeable (slot_in w n.0) c) (eqb killed 1) (slot_in w n.0).canceling (queue_full w)).turn) q)))
 
-    pub killed_now : (u : Slot) (xs : List ℕ) → d ≡ Ok Interrupt → u ≡ interrupted_of v span → xs ≡ stored ws (put k.0 u) → Does ws xs e (no 4) []
-    killed_now u xs et eu ex =
-        does (Ok Interrupt) et xs (no 4) [] refl refl (ex ∙ ap₂ (λ (m : ℕ) (y : Slot). stored ws (put m y)) (not_vacant Interrupt et) (eu ∙ ap (λ (y : Slot). interrupted_of y span) here))
+    pub killed_now :
+        (r : Response) (a : Answer) (fx : List ℕ) (u : Slot) (xs : List ℕ) → d.turn ≡ Interrupt → a ≡ no 4 → fx ≡ [] → u ≡ interrupted_of v span → xs ≡ stored ws (put k.0 u)
+        → Does ws xs e a fx
+    killed_now r a fx u xs et ea ef eu ex =
+        let j = not_vacant Interrupt et (λ q. omega (arith, q)) in
+        does r Interrupt et xs a fx ea ef (ex ∙ ap₂ (λ (m : ℕ) (y : Slot). stored ws (put m y)) j (eu ∙ ap (λ (y : Slot). interrupted_of y span) here))
 
     pub blocked_now :
-        (a : Answer) (fx : List ℕ) (u : Slot) (g : Sqe) (xs : List ℕ) → d ≡ Ok Cancel → a ≡ blocked → fx ≡ readable w → u ≡ canceled_of v → g ≡ cancel_entry k.0
+        (r : Response) (a : Answer) (fx : List ℕ) (u : Slot) (g : Sqe) (xs : List ℕ) → d.turn ≡ Cancel → a ≡ blocked → fx ≡ readable w → u ≡ canceled_of v → g ≡ cancel_entry k.0
         → xs ≡ stored_all ws (put k.0 u ∷ send g ∷ []) → Does ws xs e a fx
-    blocked_now a fx u g xs et ea ef eu eg ex =
-        let j = not_vacant Cancel et in
-        does (Ok Cancel) et xs a fx ea ef (ex ∙ λ i. stored_all ws (put (j i) ((eu ∙ ap canceled_of here) i) ∷ send ((eg ∙ ap cancel_entry j) i) ∷ []))
+    blocked_now r a fx u g xs et ea ef eu eg ex =
+        let j = not_vacant Cancel et (λ q. omega (arith, q)) in
+        does r Cancel et xs a fx ea ef (ex ∙ λ i. stored_all ws (put (j i) ((eu ∙ ap canceled_of here) i) ∷ send ((eg ∙ ap cancel_entry j) i) ∷ []))
 
     pub handed :
-        (o : Fds) (xs ys : List ℕ) → d ≡ Ok HandOver → outside_of (holds_of w) (numbers o) ≡ outside_of (holds_of w) (held_in (response_of v))
-        → xs ≡ stored ws (outside (more_all (holds_of w).outside (numbers o))) → ys ≡ stored xs (vacate k.0) → Does ws ys e (reply (response_of (slot_in w n.0))) []
-    handed o xs ys et eo ex ey =
-        let j = not_vacant HandOver et in
+        (a : Answer) (fx : List ℕ) (o : Fds) (xs ys : List ℕ) → d.turn ≡ HandOver → a ≡ reply (response_of (slot_in w n.0)) → fx ≡ [] → outside_of (holds_of w) (numbers o) ≡ outside_of (holds_of w) (held_in (response_of v))
+        → xs ≡ stored ws (outside (more_all (holds_of w).outside (numbers o))) → ys ≡ stored xs (vacate k.0) → Does ws ys e a fx
+    handed a fx o xs ys et ea ef eo ex ey =
+        let j = not_vacant HandOver et (λ q. omega (arith, q)) in
         let h : more_all (holds_of w).outside (numbers o) ≡ (outside_of (holds_of w) (held_in (response_of (slot_in w n.0)))).outside = ap (λ (z : Holds). z.outside) eo ∙ ap (λ (y : Slot). (outside_of (holds_of w) (held_in (response_of y))).outside) here in
-        does (Ok HandOver) et ys (reply (response_of (slot_in w n.0))) [] refl refl
+        does (response_of v) HandOver et ys a fx ea ef
         (ey ∙ λ i. stored ((ex ∙ ap (λ (z : List ℕ). stored ws (outside z)) h) i) (vacate (j i)))
 
 -- a slot's reply, by its kind

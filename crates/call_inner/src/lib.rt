@@ -59,8 +59,9 @@ pub fn wake(
     let n = ids::slot_of(tag);
     let v = slot_load::load(s, n);
     let unread = queue_words::unread(s);
-    match wake_decision::decide(v, caller, killed, unread)? {
-        Turn::Stay => Ok(step::answered(Accepted::Blocked)),
+    let decided = wake_decision::decide(v, caller, killed, unread);
+    match decided.turn {
+        Turn::Stay => Ok(step::answered(decided.answer?)),
         Turn::Interrupt => {
             let w = slot::interrupted(v, PageSpan { base, count });
             slot_store::put(s, n, w);

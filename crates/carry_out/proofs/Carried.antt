@@ -14,9 +14,8 @@ use Rattle.closes.specs.Closes.{closing, only, closes}
 use Rattle.closes.proofs.Laws.{closes_length}
 use Rattle.counts.specs.Counts.{lasts, less_all}
 use Rattle.counts.proofs.Laws.{less_all_length}
-use Rattle.effect.specs.Effect.{effect_words}
+use Rattle.effect.specs.Effect.{crossed}
 use Rattle.fd_list.specs.Lists.{numbers}
-use Rattle.slot.specs.declared.PageSpan.{PageSpan}
 use Rattle.word_put.proofs.Stores.{sets_then, sets_past}
 use Rattle.events.specs.World.{World, holds_of, handles_of}
 use Rattle.events.specs.Entry.{closes_of, unmap_of}
@@ -107,7 +106,7 @@ module _ (ws : List ℕ) (size : length ws ≡ 2060) (p : Plan) where
   -- the effects, one run after the other
   module _ (fx : List ℕ) (at : ℕ) where
     abbrev E : List ℕ
-    E = effect_words p.first
+    E = crossed p.first
 
     abbrev U : List ℕ
     U = unmap_of (eqb p.span.count 0) p.span

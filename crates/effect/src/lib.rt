@@ -56,17 +56,17 @@ pub fn words(e: Option<Effect>) -> EffectWords
     }
 }
 
-// The three words of an effect, where there is one, from word `at` on; says how many words these are.
-pub fn put(e: Option<Effect>, fx: &mut [u64], at: usize) -> usize
-    ensures value { result ≡ length (effect_words e) }
+// The three words of an effect, where it is one, from word `at` on; says how many words these are.
+pub fn put(e: EffectWords, fx: &mut [u64], at: usize) -> usize
+    ensures value { result ≡ length (crossed e) }
     ensures upper_bound { result ≤ 3 }
-    ensures fx_after { fx.new ≡ sets fx.old at (effect_words e) }
+    ensures fx_after { fx.new ≡ sets fx.old at (crossed e) }
 {
-    if e.is_none() {
+    let kind = e.kind;
+    if kind == 0 {
         return 0;
     }
-    let w = words(e);
-    word_put::put3(fx, at, w.kind, w.a, w.b);
+    word_put::put3(fx, at, kind, e.a, e.b);
     3
 }
 

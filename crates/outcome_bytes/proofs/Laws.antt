@@ -1,13 +1,12 @@
 -- The parts of what is told of an event, one behind the other. Assumes nothing.
 use Prim.Native.Nat.{ℕ, zero, suc, ◌+◌, ◌*◌, ◌<◌, ◌≤◌}
 use mathlib.Core.Path.{◌≡◌, refl, sym, ap, ◌∙◌, subst}
-use mathlib.Core.Bool.{Bool, false, cond}
+use mathlib.Core.Bool.{false}
 use mathlib.Core.List.{List, [], ◌∷◌, ◌++◌, append_assoc, append-nil}
 use native.Mathlib.Omega.{arith}
 use lib.ListN.{length, length-append}
 use lib.Seq.{sets}
-use borrow.Author.Tests.{eq-eqb, ne_eqb}
-use Rattle.std.specs.Prelude.{Option, Some, None, Result, Ok, Err}
+use Rattle.std.specs.Prelude.{Option, Some, Result}
 use Rattle.answer.specs.declared.Accepted.{Accepted}
 use Rattle.answer.specs.declared.Refusal.{Refusal}
 use Rattle.effect.specs.declared.Effect.{Effect}
@@ -20,7 +19,7 @@ use Rattle.slot.specs.declared.Reply.{Reply}
 use Rattle.status.specs.Status.{bit}
 use Rattle.answer_words.specs.declared.AnswerWords.{AnswerWords}
 use Rattle.answer_words.specs.Words.{words_of}
-use Rattle.answer_words.proofs.Laws.{with_reply}
+use Rattle.answer_words.proofs.Laws.{with_reply, step_reply}
 use Rattle.events.specs.Outcome.{Response, success, many, Answer, ok, no, wait, blocked, reply, said}
 use Rattle.events.specs.Wake.{response_by, response_from}
 use Rattle.step.specs.declared.Step.{Step}
@@ -146,9 +145,8 @@ module _ (w : AnswerWords) (x : Answer) (p : w ≡ words_of x) where
   blank_words e h = ap (λ (y : AnswerWords). y.kind ∷ y.value ∷ 0 ∷ 0 ∷ []) (p ∙ ap words_of h) ∙ ap answer_words (sym h)
 
 pub reply_words : (w : AnswerWords) (r : Response) (s : Result Step Refusal) → w ≡ words_of (answer_with r s) → w.kind ≡ 4 → answer_words (reply r) ≡ answer_words (answer_with r s)
-reply_words w r s p e = ap answer_words (sym (with_reply r s w p e))
+reply_words w r s p e = ap answer_words (sym (step_reply r w s p e))
 
 -- no event but a wake hands a reply over
 pub blank : (w : AnswerWords) (a : Result Accepted Refusal) → w ≡ words_of (said a) → w.kind ≡ 4 → (w.kind ∷ w.value ∷ 0 ∷ 0 ∷ []) ≡ answer_words (said a)
-blank w (Ok x) p e = blank_words w (said (Ok x)) p e (with_reply (success 0 0 false) (Ok (record { accepted = x; effect = None })) w p e)
-blank w (Err k) p e = blank_words w (said (Err k)) p e (with_reply (success 0 0 false) (Err k) w p e)
+blank w a p e = blank_words w (said a) p e (with_reply (success 0 0 false) a w p e)

@@ -15,12 +15,12 @@ use Rattle.answer.specs.Numbered.{refusal_number}
 use Rattle.closes.specs.declared.Reason.TheVariants.{Replied, Ended, Refused, Unusable}
 use Rattle.closes.specs.Closes.{closing, only, closes}
 use Rattle.counts.specs.Counts.{lasts}
-use Rattle.effect.specs.declared.Effect.TheVariants.{Wake}
+use Rattle.effect.specs.declared.EffectWords.{EffectWords}
 use Rattle.fd_list.specs.declared.List.{List as Fds}
 use Rattle.fd_list.specs.Lists.{desc, named, numbers, list_of, rest_of}
 use Rattle.fd_list.proofs.Laws.{picked}
 use Rattle.handles.specs.declared.Handles.{Handles}
-use Rattle.handles.specs.Handles.{handles_with, held_at, is_free, into, emptied, obtain_by, obtain_in, obtain_lasts}
+use Rattle.handles.specs.Handles.{handles_with, held_at, is_free, emptied, obtain_by, obtain_in, obtain_lasts}
 use Rattle.holds.specs.declared.Holds.{Holds}
 use Rattle.ids.specs.declared.Description.{Description}
 use Rattle.ids.specs.declared.Handle.{Handle}
@@ -31,9 +31,7 @@ use Rattle.reply_parts.specs.declared.Offer.{Offer}
 use Rattle.reply_parts.specs.declared.Offer.TheVariants as offer
 use Rattle.reply_parts.specs.declared.Parts.{Parts}
 use Rattle.reply_parts.specs.Parts.{offered, parts_of}
-use Rattle.slot.specs.declared.Act.{Act}
 use Rattle.slot.specs.declared.Act.TheVariants.{Leave, Store, Vacate}
-use Rattle.slot.specs.declared.PageSpan.{PageSpan}
 use Rattle.slot.specs.declared.Phase.{Phase}
 use Rattle.slot.specs.declared.Phase.TheVariants.{Vacant, Placeholder, Waiting, Responded, Fmap}
 use Rattle.slot.specs.declared.Slot.{Slot}
@@ -70,7 +68,7 @@ module _ (v : Slot) (t : ℕ) (o : Offer) (p : Parts) (is : p ≡ parts_of v (of
   gone = numbers p.gone
 
   abbrev lost : Slot → Bool → Plan
-  lost u f = record { refusal = None; act = Vacate; slot = u; first = None; span = v.span; gone = p.gone; own = p.own; closing = f; change = None }
+  lost u f = record { refusal = None; act = Vacate; slot = u; first = record { kind = 0; a = 0; b = 0 }; span = v.span; gone = p.gone; own = p.own; closing = f; change = None }
 
   lost_fx : (h : Holds) (f : Bool) → f ≡ closing Ended → effects_by (lost vacant_slot f) h ≡ (unmap_of (eqb v.span.count 0) v.span ++ closes_of Replied h gone) ++ closes_of Ended (dropped h gone) (numbers p.own)
   lost_fx h f r =
@@ -84,12 +82,14 @@ module _ (v : Slot) (t : ℕ) (o : Offer) (p : Parts) (is : p ≡ parts_of v (of
       (λ i. decided 0 Vacate (eu i) (dropped (dropped h gone) (numbers p.own)) n (lost_fx h f r i))
       ∙ ap (λ (x : Parts). lost_of v (numbers x.gone) (numbers x.own) h n) is
 
-  abbrev kept : Slot → Plan
-  kept u = record { refusal = None; act = Store; slot = u; first = Some (Wake v.caller t); span = v.span; gone = p.gone; own = no_fds; closing = false; change = None }
+  abbrev kept : Slot → EffectWords → Plan
+  kept u f = record { refusal = None; act = Store; slot = u; first = f; span = v.span; gone = p.gone; own = no_fds; closing = false; change = None }
 
-  pub stored_is : (u : Slot) → u ≡ responded_of v p.reply p.kept → (h : Holds) (n : Handles) → decision_by (kept u) h n ≡ served_by false v t (offered o) h n
-  stored_is u eu h n =
-      ap (λ (x : Slot). decision_by (kept x) h n) eu
+  pub stored_is :
+      (u : Slot) (f : EffectWords) → u ≡ responded_of v p.reply p.kept → f ≡ record { kind = 1; a = v.caller; b = t } → (h : Holds) (n : Handles)
+      → decision_by (kept u f) h n ≡ served_by false v t (offered o) h n
+  stored_is u f eu ef h n =
+      ap₂ (λ (x : Slot) (y : EffectWords). decision_by (kept x y) h n) eu ef
       ∙ ap (λ (x : List ℕ). decided 0 Store (responded_of v p.reply p.kept) (dropped h gone) n (1 ∷ v.caller ∷ t ∷ (unmap_of (eqb v.span.count 0) v.span ++ x))) (append-nil (closes_of Replied h gone))
       ∙ ap (λ (x : Parts). stored_of v t x.reply x.kept (numbers x.gone) h n) is
 
@@ -228,7 +228,7 @@ module _ (v : Slot) (k : Handle) (x : ℕ) where
       left = eu ∙ ap (with_fds_of v) el
 
       abbrev gained : Fds → Bool → Option Change → Plan
-      gained own g c = record { refusal = None; act = Store; slot = u; first = None; span = no_span; gone = no_fds; own = own; closing = g; change = c }
+      gained own g c = record { refusal = None; act = Store; slot = u; first = record { kind = 0; a = 0; b = 0 }; span = no_span; gone = no_fds; own = own; closing = g; change = c }
 
       pub obtain_free : leb k.0 63 && eqb x 0 ≡ true → Ob (gained no_fds false (Some (record { handle = k; held = d.0 + 1 })))
       obtain_free w h n z =

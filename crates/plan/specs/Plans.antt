@@ -5,7 +5,7 @@ use Rattle.answer.specs.Numbered.{refusal_number}
 use Rattle.closes.specs.declared.Reason.TheVariants.{Replied}
 use Rattle.closes.specs.Closes.{only, closes}
 use Rattle.counts.specs.Counts.{lasts}
-use Rattle.effect.specs.Effect.{effect_words}
+use Rattle.effect.specs.Effect.{crossed}
 use Rattle.fd_list.specs.Lists.{numbers}
 use Rattle.handles.specs.declared.Handles.{Handles}
 use Rattle.handles.specs.Handles.{handles_with, held_at}
@@ -34,7 +34,7 @@ replied_of offer.Listed v t k h n = respond_of v t listed h n
 -- the effects: a wake or an event, the span, the closes of the list that goes, those of the reply's own
 abbrev pub effects_by : Plan → Holds → List ℕ
 effects_by p h =
-    effect_words p.first
+    crossed p.first
     ++ (unmap_of (eqb p.span.count 0) p.span
     ++ (closes_of Replied h (numbers p.gone)
     ++ closes (only p.closing (lasts (dropped h (numbers p.gone)).holds (numbers p.own)))))
@@ -60,7 +60,7 @@ nothing_of v =
       refusal = None;
       act = Leave;
       slot = v;
-      first = None;
+      first = record { kind = 0; a = 0; b = 0 };
       span = record { base = 0; count = 0 };
       gone = no_fds;
       own = no_fds;

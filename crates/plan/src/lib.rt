@@ -11,7 +11,7 @@ ghost use Rattle.plan.specs.Plans.{Holding, replied_of, nothing_of, Plans};
 
 use answer::Refusal;
 use closes::Reason;
-use effect::Effect;
+use effect::{Effect, EffectWords};
 use fd_list::List;
 use ids::Handle;
 use parse_cqe::{CqeError, ParsedCqe};
@@ -34,7 +34,7 @@ pub struct Plan {
     pub refusal: Option<Refusal>,
     pub act: Act,
     pub slot: Slot,
-    pub first: Option<Effect>,
+    pub first: EffectWords,
     pub span: PageSpan,
     pub gone: List,
     pub own: List,
@@ -51,7 +51,7 @@ fn nothing(v: Slot) -> Plan
         refusal: None,
         act: Act::Leave,
         slot: v,
-        first: None,
+        first: effect::words(None),
         span: PageSpan { base: 0, count: 0 },
         gone: none,
         own: none,
@@ -94,10 +94,10 @@ fn respond(v: Slot, tag: u64, offer: Offer) -> Plan
             let reply = q.reply;
             Plan {
                 act: Act::Store,
-                first: Some(Effect::Wake {
+                first: effect::words(Some(Effect::Wake {
                     caller: v.caller,
                     tag,
-                }),
+                })),
                 span: v.span,
                 gone: q.gone,
                 ..nothing(slot::responded(v, reply, q.kept))
@@ -190,7 +190,7 @@ pub fn handle_parsed(p: Result<ParsedCqe, CqeError>, v: Slot, held: u64) -> Plan
     let fd = wish::handle_in(p);
     match wish::wished(p, held) {
         Some(Wish::Event(number, flags)) => Plan {
-            first: Some(Effect::Event { number, flags }),
+            first: effect::words(Some(Effect::Event { number, flags })),
             ..nothing(v)
         },
         Some(Wish::Reply(tag, offer)) => reply(v, tag, offer, fd),

@@ -7,9 +7,9 @@ ghost use Rattle.holds.specs.declared.Holds.{Holds};
 ghost use Rattle.holds.specs.Holds.{outside_of};
 ghost use Rattle.slot.specs.Slots.{phase_of};
 ghost use Rattle.events.specs.Wake.{response_from, held_in, cancel_entry, wakeable};
-ghost use Rattle.wake_decision.specs.Wake.{decided_of};
+ghost use Rattle.wake_decision.specs.Wake.{does, decided_of};
 
-use answer::Refusal;
+use answer::{Accepted, Answer, Refusal};
 use fd_list::List;
 use ids::SlotNo;
 use opcode::Opcode;
@@ -23,6 +23,18 @@ pub enum Turn {
     Interrupt,
     Cancel,
     HandOver,
+}
+
+#[derive(Clone, Copy)]
+pub struct Decided {
+    pub answer: Answer,
+    pub turn: Turn,
+}
+
+fn does(answer: Answer, turn: Turn) -> Decided
+    ensures { result ≡ does answer turn }
+{
+    Decided { answer, turn }
 }
 
 // Its own caller, neither ended nor returned.
@@ -50,33 +62,33 @@ pub fn holds_in(r: Reply, fds: List) -> List
 }
 
 // The decision on the tag's slot, with so many entries unread.
-pub fn decide(v: Slot, caller: u32, killed: u64, unread: u64) -> Result<Turn, Refusal>
+pub fn decide(v: Slot, caller: u32, killed: u64, unread: u64) -> Decided
     ensures { result ≡ decided_of (phase_of v) (wakeable v caller) (eqb killed 1) v.canceling (leb 128 unread) }
 {
     match slot::phase_of(v) {
-        Phase::Vacant => Err(Refusal::BadDescriptor),
-        Phase::Placeholder => Err(Refusal::BadDescriptor),
-        Phase::Fmap => Err(Refusal::BadDescriptor),
+        Phase::Vacant => does(Err(Refusal::BadDescriptor), Turn::Stay),
+        Phase::Placeholder => does(Err(Refusal::BadDescriptor), Turn::Stay),
+        Phase::Fmap => does(Err(Refusal::BadDescriptor), Turn::Stay),
         Phase::Waiting => {
             if !is_wakeable(v, caller) {
-                return Err(Refusal::NotYours);
+                return does(Err(Refusal::NotYours), Turn::Stay);
             }
             if killed == 1 {
-                return Ok(Turn::Interrupt);
+                return does(Err(Refusal::Interrupted), Turn::Interrupt);
             }
             if v.canceling {
-                return Ok(Turn::Stay);
+                return does(Ok(Accepted::Blocked), Turn::Stay);
             }
             if 128 <= unread {
-                return Err(Refusal::QueueFull);
+                return does(Err(Refusal::QueueFull), Turn::Stay);
             }
-            Ok(Turn::Cancel)
+            does(Ok(Accepted::Blocked), Turn::Cancel)
         }
         Phase::Responded => {
             if !is_wakeable(v, caller) {
-                return Err(Refusal::NotYours);
+                return does(Err(Refusal::NotYours), Turn::Stay);
             }
-            Ok(Turn::HandOver)
+            does(Ok(Accepted::Replied), Turn::HandOver)
         }
     }
 }

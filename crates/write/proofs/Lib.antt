@@ -1,3 +1,4 @@
 pub mod Entries
-pub mod Small
 pub mod Looping
+pub mod Refused
+pub mod Small

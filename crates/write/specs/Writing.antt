@@ -1,4 +1,4 @@
--- What an entry of a write comes to, and a write.
+-- What an entry of a write comes to, the numbers that refuse one, and a write.
 use Rattle.std.specs.Prelude.{ℕ, ◌≡◌, Bool, List, [], ◌∷◌, eqb, length}
 use Rattle.std.proofs.lemmas.List.Edits.{sets}
 use Rattle.counts.specs.Counts.{any}
@@ -13,6 +13,12 @@ use Rattle.layout.specs.Layout.{plain_of}
 use Rattle.layout.specs.Store.{stored_all}
 use Rattle.packed.specs.Stores.{entry_stores}
 use Rattle.packed.specs.Step.{words_after}
+
+abbrev pub refusals : List ℕ
+refusals = 77 ∷ 22 ∷ 2 ∷ []
+
+abbrev pub is_refusal : ℕ → Bool
+is_refusal k = any (eqb k) refusals
 
 -- the decision on an entry
 abbrev pub decision_at : World → Cqe → Decision

@@ -1,13 +1,13 @@
 // `write` (src/scheme/user.rs, lines 743 to 755): completions, entry after entry up to the first refusal.
 #![tactic(auto)]
 
-ghost use Rattle.std.specs.Prelude.{◌≡◌, ◌<◌, ◌≤◌, length};
+ghost use Rattle.std.specs.Prelude.{◌≡◌, ◌<◌, ◌≤◌, true, length, IfSome};
 ghost use Rattle.schemev2.specs.Entry.{cqe_of};
 ghost use Rattle.events.specs.Outcome.{said};
 ghost use Rattle.events.specs.Complete.{stopped};
 ghost use Rattle.answer.specs.Numbered.{refusal_number};
 ghost use Rattle.plan.specs.Plans.{number_by};
-ghost use Rattle.write.specs.Writing.{Enters, Writes};
+ghost use Rattle.write.specs.Writing.{is_refusal, Enters, Writes};
 
 use answer::{Accepted, Answer, Refusal};
 use ids::Tag;
@@ -39,6 +39,7 @@ struct Entered {
 // One entry, on the slot that its tag names.
 fn entry(s: &mut [u64; 2060], e: Cqe, fx: &mut [u64], at: usize) -> Entered
     ensures enters { Enters s.old s.new fx.old fx.new at e (number_by result.refusal) result.words }
+    ensures refused { IfSome result.refusal (λ r. is_refusal (refusal_number r) ≡ true) }
     ensures words_bound { result.words ≤ 102 }
 {
     let asked = parse_cqe::parse_cqe(e);

@@ -6,3 +6,6 @@ use Rattle.plan.proofs.handle_parsed.Goals as goal
 
 pub returns-in-Some-Reply : goal.returns-in-Some-Reply
 returns-in-Some-Reply c = let a = c.args in let k = c.handle_in-fd in let w = c.wished in asked a.p a.v a.held k.result k.ensures w.result w.ensures _ (c.in-Some-Reply.is ∙ ap Some c.in-Some-Reply.field-0-is) c.reply.result (c.reply.ensures a.held)
+
+pub returns-in-None : goal.returns-in-None
+returns-in-None c = let a = c.args in let k = c.handle_in-fd in let w = c.wished in asked a.p a.v a.held k.result k.ensures w.result w.ensures _ c.in-None.is c.refused.result (λ z. c.refused.ensures k.result.0 a.held)

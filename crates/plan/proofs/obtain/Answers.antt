@@ -1,0 +1,7 @@
+-- What `plan::obtain` leaves open. Assumes nothing.
+use mathlib.Core.Path.{sym, ◌∙◌}
+use Rattle.plan.proofs.Laws.{obtain_vacant}
+use Rattle.plan.proofs.obtain.Goals as goal
+
+pub returns-in-Vacant : goal.returns-in-Vacant
+returns-in-Vacant c = let a = c.args in obtain_vacant a.v a.fd a.held c.refused.result (sym c.phase_of.ensures ∙ c.in-Vacant.is) c.refused.ensures
