@@ -2,8 +2,8 @@
 """What is read from the code of the static library: each exported function's stack need, and that no step copies or clears 1,024
 bytes or more at once, by a call of memcpy, memmove or memset or by one instruction, with a constant size, as a copy of the state or of
 a part of it is. The stack need is that of the frames on the deepest way of calls, with return addresses; for C's own functions 64
-bytes are reckoned. Fails where a function needs more than the host's documentation (rust/tilgurap/src/lib.rs) says, and where it
-cannot tell.
+bytes are reckoned. And that it needs nothing from outside but the two functions that include/tilgurap.h names. Fails where a function
+needs more than the host's documentation (rust/tilgurap/src/lib.rs) says, where the library needs another name, and where it cannot tell.
 
     tests/shipped.py [LIBRARY]
 """
@@ -17,6 +17,8 @@ import sys
 RUN, STATE, STEP = 48 * 1024, 16 * 1024, 1024
 LIMITS = {"tilgurap_run": RUN, "tilgurap_fresh": STATE, "tilgurap_plain": STATE, "tilgurap_packed": STATE}
 FOREIGN = 64
+# what the header says that a host brings
+OUTSIDE = {"memcpy", "memset"}
 LARGE = 1024
 
 
@@ -122,6 +124,16 @@ def functions(library):
     return found
 
 
+def wanted(library):
+    """The names that the library needs from outside."""
+    listing = subprocess.run(["nm", "-g", library], capture_output=True, text=True, check=True).stdout
+    names = [line.split()[-2:] for line in listing.split("\n") if len(line.split()) >= 2]
+    own = {name for kind, name in names if kind not in "Uwv"}
+    if not any(name.startswith("tilgurap_") for name in own):
+        sys.exit(f"shipped: nm finds no exported function in {library}")
+    return {name for kind, name in names if kind in "Uwv"} - own
+
+
 def main():
     library = sys.argv[1] if len(sys.argv) > 1 else "target/staticlib/libtilgurap.a"
     if not shutil.which("objdump"):
@@ -155,7 +167,12 @@ def main():
             said += f", and copies of {large} bytes"
         wrong |= need(name) > limit or bool(large)
         print(said)
-    sys.exit(wrong)
+    if not shutil.which("nm"):
+        print("skipped: names from outside, since there is no nm")
+    more = sorted(wanted(library) - OUTSIDE) if shutil.which("nm") else []
+    if more:
+        print(f"{library} needs from outside: {' '.join(more)}")
+    sys.exit(wrong or bool(more))
 
 
 main()

@@ -7,12 +7,15 @@ ghost use Rattle.events.specs.World.{table_of, holds_of, handles_of};
 ghost use Rattle.layout.specs.Layout.{chain_place, head_place, scheme_place, queue_place, part as part_of, plain_of};
 ghost use Rattle.layout.specs.Store.{stored, outside as outsideStore, all as allStore, handles as handlesStore};
 
-// Words into others, from place `at` on.
+// Words into others, from place `at` on. Not by `copy_from_slice`, of which a memmove stays in the library where both are lent: a host
+// brings memcpy and memset alone.
 fn copy(to: &mut [u64], at: usize, from: &[u64])
     requires { at + length from.now ≤ length to.old }
     ensures { to.new ≡ sets to.old at from.now }
 {
-    to[at..at + from.len()].copy_from_slice(from);
+    for (i, w) in from.iter().enumerate() {
+        to[at + i] = *w;
+    }
 }
 
 // The 64 words from `at` on.
@@ -54,11 +57,10 @@ pub fn handles(s: &[u64; 2060]) -> [u64; 64]
 }
 
 // The queue's words, copied out.
-#[tactic(auto, unfolding(layout::specs::Layout::plain_of, layout::specs::Layout::part))]
 pub fn queue(s: &[u64; 2060], to: &mut [u64; 1024])
     ensures { to.new ≡ (plain_of s.now).words }
 {
-    to.copy_from_slice(&s[layout::QUEUE..]);
+    copy(to, 0, &s[layout::QUEUE..]);
 }
 
 // And each of them stored; words that have no meaning become 0.
