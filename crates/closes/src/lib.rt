@@ -69,8 +69,13 @@ pub fn drop_all(a: &mut [u64], l: List, follows: bool, fx: &mut [u64], at: usize
     ensures fx_after { fx.new ≡ sets fx.old at (closes (only follows (lasts a.old (numbers l)))) }
     ensures upper_bound { result ≤ 16 }
 {
+    // as in `counts::raise_all`
+    if fd_list::size(l) == 0 {
+        return 0;
+    }
+    let list = l;
     let mut k = 0;
-    for d in fd_list::named(&l) {
+    for d in fd_list::named(&list) {
         k = drop_step(a, *d, follows, fx, at, k);
     }
     k

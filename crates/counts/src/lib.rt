@@ -42,11 +42,16 @@ pub fn higher(a: &mut [u64], d: Description)
     }
 }
 
-// One hold more for each entry of a list. This and the next stay two: a call that is passed `higher` or `lower` would be as long.
+// One hold more for each entry of a list. This and the next stay two: a call that is passed `higher` or `lower` would be as long. Most
+// lists are empty, and only another is put where a slice of it can be taken.
 pub fn raise_all(a: &mut [u64], l: List)
     ensures { a.new ≡ more_all a.old (numbers l) }
 {
-    for d in fd_list::named(&l) {
+    if fd_list::size(l) == 0 {
+        return;
+    }
+    let list = l;
+    for d in fd_list::named(&list) {
         higher(a, *d);
     }
 }
@@ -55,7 +60,11 @@ pub fn raise_all(a: &mut [u64], l: List)
 pub fn lower_all(a: &mut [u64], l: List)
     ensures { a.new ≡ less_all a.old (numbers l) }
 {
-    for d in fd_list::named(&l) {
+    if fd_list::size(l) == 0 {
+        return;
+    }
+    let list = l;
+    for d in fd_list::named(&list) {
         lower(a, *d);
     }
 }

@@ -36,6 +36,23 @@ record_of bs =
       words = nine_of bs;
     }
 
+-- its head alone, which tells its size and whether it is an event
+abbrev pub no_words : Nine
+no_words = record { 0 = 0; 1 = 0; 2 = 0; 3 = 0; 4 = 0; 5 = 0; 6 = 0; 7 = 0; 8 = 0 }
+
+abbrev pub head_of : List ℕ → Record
+head_of bs =
+    record {
+      kind = byte bs 0;
+      first = byte bs 1;
+      second = byte bs 2;
+      flags = byte bs 3;
+      number = half bs 4;
+      uid = half bs 8;
+      gid = half bs 12;
+      words = no_words;
+    }
+
 -- by kind: how many words, and the most that each field may hold
 abbrev pub word_table : List ℕ
 word_table = 0 ∷ 1 ∷ 1 ∷ 1 ∷ 2 ∷ 0 ∷ 0 ∷ 9 ∷ 8 ∷ 3 ∷ 3 ∷ 4 ∷ 1 ∷ 2 ∷ 4 ∷ 1 ∷ 1 ∷ 0 ∷ 0 ∷ 4 ∷ 3 ∷ 4 ∷ []

@@ -4,7 +4,7 @@
 ghost use Rattle.std.specs.Prelude.{◌≡◌, ◌≤◌, ◌↔◌, IfSome, IsSome, get_or};
 ghost use Rattle.std.proofs.lemmas.List.Edits.{sets};
 ghost use Rattle.record.specs.Kinds.{kind_of, number_of};
-ghost use Rattle.record.specs.Record.{word_table, nine_of, record_of, tail_of, first_by, first_at, second_at, tail_at, size_of, words_at};
+ghost use Rattle.record.specs.Record.{word_table, nine_of, record_of, head_of, tail_of, first_by, first_at, second_at, tail_at, size_of, words_at};
 
 // The kinds of events, by their numbers in a record.
 #[derive(Clone, Copy, PartialEq, Eq, Debug)]
@@ -130,6 +130,32 @@ pub fn record_at(s: &[u8]) -> Record
         return fields(&s[..88]);
     }
     fields(s)
+}
+
+// In the order of `fields`.
+fn head(s: &[u8]) -> Record
+    ensures { result ≡ head_of s.now }
+{
+    Record {
+        number: le::half(s, 4),
+        uid: le::half(s, 8),
+        gid: le::half(s, 12),
+        kind: le::byte(s, 0),
+        first: le::byte(s, 1),
+        second: le::byte(s, 2),
+        flags: le::byte(s, 3),
+        words: Nine(0, 0, 0, 0, 0, 0, 0, 0, 0),
+    }
+}
+
+// The record at the start of a slice without its words: its size, and whether it is an event, is told by its first 16 bytes.
+pub fn head_at(s: &[u8]) -> Record
+    ensures { result ≡ head_of s.now }
+{
+    if 16 <= s.len() {
+        return head(&s[..16]);
+    }
+    head(s)
 }
 
 // How many words stand before the lists.

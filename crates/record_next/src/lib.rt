@@ -97,6 +97,6 @@ pub fn next(s: &[u8]) -> Option<usize>
     ensures value { unwrap_or result 0 ≡ next_of s.now }
     ensures some { IfSome result (λ size. 0 < size) }
 {
-    let r = record::record_at(s);
+    let r = record::head_at(s);
     is_event(r, s.len()).then_some(record::size(r))
 }
