@@ -2,7 +2,7 @@
 use Prim.Native.Nat.{ℕ}
 use mathlib.Core.Path.{◌≡◌, refl, sym, ap, ◌∙◌}
 use mathlib.Core.Bool.{Bool, true, false, cond, ◌||◌, true≢false}
-use mathlib.Core.List.{List, [], ◌∷◌}
+use mathlib.Core.List.{List, []}
 use native.Mathlib.Omega.{arith}
 use lib.ListN.{length}
 use borrow.Author.Tests.{ltb-false}
@@ -90,7 +90,7 @@ module _ (w : World) (op : ℕ) (ds : List ℕ) where
           let z : a ≡ record { opcode = op; list = list_of ds } = cc in
           (ex, ey, ap (λ (b : Asked). b.opcode) z, ap (λ (b : Asked). b.list) z)
 
-  asked_no : (r : Refusal) → Err r ≡ asked_of w op ds → (rest : List Row) → Due (ask_rows w op ds rest) (refusal_number r)
+  pub asked_no : (r : Refusal) → Err r ≡ asked_of w op ds → (rest : List Row) → Due (ask_rows w op ds rest) (refusal_number r)
   asked_no r is rest = go (bad_opcode op || bad_list w ds) (long_list ds) refl refl is
     where
       go : (x y : Bool) → bad_opcode op || bad_list w ds ≡ x → long_list ds ≡ y → Err r ≡ by x y → Due (ask_rows w op ds rest) (refusal_number r)

@@ -1,2 +1,3 @@
 pub mod Laws
+pub mod Loop
 pub mod Steps

@@ -10,6 +10,9 @@ use Rattle.ids.specs.declared.Description.{Description}
 use Rattle.fd_list.specs.declared.List.{List as Sent}
 use Rattle.fd_list.specs.Lists.{desc, num, named, numbers, blank, list_of, without_of}
 
+pub length_mapped : (X Y : Type 0) (f : X → Y) (l : List X) (n : ℕ) → length (map f l) ≡ n → length l ≡ n
+length_mapped X Y f l n p = sym (length-map l f) ∙ p
+
 pub numbers_length : (l : Sent) → length (numbers l) ≡ min l.len (length l.at)
 numbers_length l = length-map (named l) num ∙ length-take l.len l.at
 

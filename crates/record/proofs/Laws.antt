@@ -2,13 +2,13 @@
 use Prim.Native.Nat.{ℕ, zero, suc, ◌+◌, ◌<◌, ◌≤◌}
 use mathlib.Core.Path.{◌≡◌, refl, sym, ap, ◌∙◌}
 use mathlib.Core.Bool.{Bool, true, false, cond, true≢false, ◌&&◌}
-use mathlib.Core.List.{List, [], ◌∷◌}
+use mathlib.Core.List.{List, [], ◌∷◌, ◌++◌}
 use native.Mathlib.Omega.{arith}
 use native.Mathlib.Decide.{dec_lt}
 use native.Mathlib.Numerals.{add-one}
 use lib.Dec.{eqb, leb}
-use lib.ListN.{length, set, get_or, drop, length-append, length-drop}
-use lib.Seq.{sets}
+use lib.ListN.{length, set, get_or, take, drop, length-append, length-drop}
+use lib.Seq.{sets, take-suc, take-length}
 use borrow.Author.Tests.{eq-eqb, ne_eqb, eqb-false, leb-true}
 use Rattle.word_put.proofs.Stores.{sets_then}
 use Rattle.record.specs.Record.{each, is_event, next_of, record_of, size_of, first_table, second_table, flag_table, number_table, user_table, walk}
@@ -92,3 +92,19 @@ module _ {A : Type 0} (stop : List ℕ → A) (more : List ℕ → A → A) wher
       enough (length bs) (suc (length bs)) bs (omega arith) (omega arith)
       ∙ ap (λ (b : Bool). on b (length bs) bs) (ne_eqb (next_of bs) 0 e)
       ∙ ap (more bs) (enough (length bs) (length (drop (next_of bs) bs)) (drop (next_of bs) bs) (omega (arith, length-drop (next_of bs) bs)) (omega arith))
+
+-- no event is shorter than 16 bytes
+pub next_short : (bs : List ℕ) → length bs < 16 → 0 ≡ next_of bs
+next_short bs h = go (dec_lt 0 (next_of bs))
+  where
+    go : Dec (0 < next_of bs) → 0 ≡ next_of bs
+    go (yes p) = absurd (let z : ⊥ = omega (arith, h, all_there bs p) in z)
+    go (no p) = omega (arith, p)
+
+-- the elements of a list are each of them
+pub each_take : (ws : List ℕ) (n : ℕ) → n ≤ length ws → each (λ i. get_or ws i 0) n ≡ take n ws
+each_take ws zero h = refl
+each_take ws (suc n) h = ap (λ (l : List ℕ). l ++ (get_or ws n 0 ∷ [])) (each_take ws n (omega (arith, h))) ∙ sym (take-suc ws n 0 h)
+
+pub each_all : (ws : List ℕ) → each (λ i. get_or ws i 0) (length ws) ≡ ws
+each_all ws = each_take ws (length ws) (omega arith) ∙ take-length ws

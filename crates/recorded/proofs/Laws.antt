@@ -1,5 +1,5 @@
 -- The loops' laws, and what it means that a run is as recorded. Assumes nothing.
-use Rattle.std.proofs.Common.{◌≡◌, ℕ, zero, suc, ◌+◌, ◌-◌, ◌≤◌, Bool, true, false, cond, ◌&&◌, eqb, ◌==◌, leb, List, [], ◌∷◌, length, take, drop, sym, refl, ap, ◌∙◌, ap₂, true≢false, arith, length-drop, take_all, drop-drop, take_at, eqb-true}
+use Rattle.std.proofs.Common.{◌≡◌, ℕ, zero, suc, ◌+◌, ◌-◌, ◌≤◌, Bool, true, false, cond, ◌&&◌, eqb, ◌==◌, leb, List, [], ◌∷◌, length, take, drop, sym, refl, ap, ◌∙◌, ap₂, true≢false, arith, length-drop, take_all, drop-drop, take_at, eq-eqb, ne_eqb, eqb-true}
 use lib.Seq.{sets, sets-eq}
 use Rattle.std.specs.List.{zip, prefix_len}
 use Rattle.record.specs.Record.{next_of, event_at, walk, Decoded, stops, before, decoded}
@@ -134,3 +134,22 @@ pub as_compared :
 as_compared scheme scheme' lent most ev told c b es ec eb e =
     recorded_is scheme lent most ev told
     (sym (ap (λ (x : Compared). as_recorded_of x (length ev) (length told)) (ec ∙ ap (λ (n : ℕ). compared_of n lent most ev told) es)) ∙ sym eb ∙ e)
+
+-- the tests of `as_recorded`, one after the other
+module _ (c : Compared) (n m : ℕ) where
+  abbrev tests : Bool → Bool → Bool → Bool
+  tests x y z = x && (y && (z && eqb c.same m))
+
+  pub not_number : (c.end.number ≡ 0 → ⊥) → false ≡ as_recorded_of c n m
+  not_number p = sym (ap (λ (x : Bool). tests x (eqb c.end.place n) (eqb c.end.written m)) (ne_eqb c.end.number 0 p))
+
+  pub not_place : c.end.number ≡ 0 → (c.end.place ≡ n → ⊥) → false ≡ as_recorded_of c n m
+  not_place p q = sym (ap₂ (λ (x y : Bool). tests x y (eqb c.end.written m)) (eq-eqb c.end.number 0 p) (ne_eqb c.end.place n q))
+
+  pub not_written : c.end.number ≡ 0 → c.end.place ≡ n → (c.end.written ≡ m → ⊥) → false ≡ as_recorded_of c n m
+  not_written p q r =
+      sym (λ i. tests (eq-eqb c.end.number 0 p i) (eq-eqb c.end.place n q i) (ne_eqb c.end.written m r i))
+
+  pub all_but_same : c.end.number ≡ 0 → c.end.place ≡ n → c.end.written ≡ m → eqb c.same m ≡ as_recorded_of c n m
+  all_but_same p q r =
+      sym (λ i. tests (eq-eqb c.end.number 0 p i) (eq-eqb c.end.place n q i) (eq-eqb c.end.written m r i))

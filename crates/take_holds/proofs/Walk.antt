@@ -12,15 +12,14 @@ use lib.ListN.{get_or, set, length, take, drop, get_or-eq_default, drop_of_lengt
 use lib.Seq.{sets, drop-cons, take-suc, get_or-set_same, get_or-set_other}
 use borrow.Author.Tests.{lt-ltb, le-ltb, eq-eqb, ne_eqb, ltb-true, eqb-true, eqb-false}
 use Rattle.ids.specs.declared.Description.{Description}
-use Rattle.fd_list.specs.declared.List.{List as Fds}
-use Rattle.fd_list.specs.Lists.{desc, blank, list_of}
+use Rattle.fd_list.specs.Lists.{desc, blank}
 use Rattle.counts.specs.Counts.{less, less_all, times, any}
 use Rattle.counts.proofs.Laws.{less_all_then}
 use Rattle.holds.specs.declared.Holds.{Holds}
 use Rattle.holds.specs.Holds.{holds_with, unheld}
 use Rattle.take_holds.specs.declared.Taken.{Taken}
 use Rattle.answer.specs.declared.Refusal.{Refusal}
-use Rattle.std.specs.Prelude.{Result, Ok, Err}
+use Rattle.std.specs.Prelude.{Ok, Err}
 use Rattle.answer.specs.declared.Refusal.TheVariants.{BadArgument, TooManyFds}
 use Rattle.take_holds.specs.Take.{taken_as, bad_in, bad, take_of}
 
@@ -129,12 +128,15 @@ take_is h ws b =
     let e : 0 + length ws ≡ length ws = omega arith in
     walked h h.outside blank 0 ws ∙ rw (e, le-ltb 16 (length ws) b) refl
 
-pub take_long : (h : Holds) (ws : List ℕ) → 16 < length ws → (a : Refusal) → a ≡ cond (any (bad h ws) ws) BadArgument TooManyFds → Err a ≡ (take_of h ws).list
+pub take_long : (h : Holds) (ws : List ℕ) → 16 < length ws → (a : Refusal) → a ≡ cond (any (bad h ws) ws) BadArgument TooManyFds → taken_as (Err a) h ≡ take_of h ws
 take_long h ws b a e = rw (e, lt-ltb 16 (length ws) b) (go (any (bad h ws) ws))
   where
-    go : (t : Bool) → ◌≡◌ {A = Result Fds Refusal} (Err (cond t BadArgument TooManyFds)) ((cond t (taken_as (Err BadArgument) h) (taken_as (Err TooManyFds) h)).list)
+    go : (t : Bool) → taken_as (Err (cond t BadArgument TooManyFds)) h ≡ cond t (taken_as (Err BadArgument) h) (taken_as (Err TooManyFds) h)
     go true = refl
     go false = refl
+
+pub take_long_list : (h : Holds) (ws : List ℕ) → 16 < length ws → (a : Refusal) → a ≡ cond (any (bad h ws) ws) BadArgument TooManyFds → Err a ≡ (take_of h ws).list
+take_long_list h ws b a e = ap (λ (t : Taken). t.list) (take_long h ws b a e)
 
 -- what the first i words leave of the outside counts
 abbrev pub left_of : Holds → List ℕ → ℕ → List ℕ
