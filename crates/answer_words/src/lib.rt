@@ -136,18 +136,22 @@ pub fn woken_words(answer: Answer, effect: EffectWords, r: Reply, fds: List) -> 
 {
     let told = words(answer);
     let fx = effect_words(effect);
-    if told.kind == 4 {
-        return WakeWords {
-            answer: told,
-            reply: reply_words(r, fds),
-            fds: list_words(r, fds),
-            effect: fx,
-        };
-    }
+    let handed_over = told.kind == 4;
+    // each chosen apart: a choice between two whole structs copies the bytes between their fields too, in words that overlap
+    let reply = if handed_over {
+        reply_words(r, fds)
+    } else {
+        lone(0, 0)
+    };
+    let list = if handed_over {
+        list_words(r, fds)
+    } else {
+        fd_list::empty()
+    };
     WakeWords {
         answer: told,
-        reply: lone(0, 0),
-        fds: fd_list::empty(),
+        reply,
+        fds: list,
         effect: fx,
     }
 }

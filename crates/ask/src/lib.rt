@@ -27,6 +27,8 @@ pub fn ask(s: &[u64; 2060], opcode: u64, fds: &[u64]) -> Result<Asked, Refusal>
             list: fd_list::empty(),
         });
     }
-    let list = hold_words::look(s, &fds[..])?;
+    let Some(list) = hold_words::listed(s, &fds[..]) else {
+        return Err(hold_words::refused(s, fds));
+    };
     Ok(Asked { opcode, list })
 }

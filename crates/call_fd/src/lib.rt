@@ -62,7 +62,9 @@ pub fn call_fdwrite(s: &mut [u64; 2060], metadata: &[u64], fds: &[u64]) -> Resul
     moved(s, metadata, list, fds.len())
 }
 
-// `ObtainFd`, verb 0: the call's list becomes outside holds.
+// `ObtainFd`, verb 0: the call's list becomes outside holds. Inlined where it is exported: what it returns would else be stored in
+// parts and read back. In a run `dispatch::obtain` keeps it a function.
+#[inline(always)]
 pub fn call_fdread(s: &mut [u64; 2060], metadata: &[u64]) -> Result<Step, Refusal>
     ensures { Does s.old s.new (on (obtain metadata.now)) (answer_of result) (effects_of result) }
 {

@@ -43,6 +43,8 @@ pub fn stored_reply(s: &[u64; 2060], tag: Tag) -> Stored
     }
 }
 
+// Inlined at both callers: what it returns would else be stored in parts and read back.
+#[inline(always)]
 pub fn wake(
     s: &mut [u64; 2060],
     tag: Tag,

@@ -7,7 +7,7 @@ ghost use Rattle.closes.specs.Closes.{only, closes};
 ghost use Rattle.counts.specs.Counts.{less, more, less_all, more_all, lasts};
 ghost use Rattle.fd_list.specs.Lists.{numbers};
 ghost use Rattle.holds.specs.Holds.{held_of};
-ghost use Rattle.take_holds.specs.Take.{take_of};
+ghost use Rattle.take_holds.specs.Take.{take_of, listed_of, refusal_of};
 ghost use Rattle.events.specs.World.{holds_of};
 ghost use Rattle.layout.specs.Layout.{all_place, outside_place, plain_of};
 ghost use Rattle.layout.specs.Store.{stored, outside as outsideStore, all as allStore};
@@ -24,6 +24,23 @@ pub fn look(s: &[u64; 2060], fds: &[u64]) -> Result<List, Refusal>
     let all = &s[layout::ALL..layout::OUTSIDE];
     let out = &s[layout::OUTSIDE..layout::SCHEME];
     take_holds::look(all, out, fds)
+}
+
+// The two apart: the list where it can be taken, and what it is refused for where it cannot.
+pub fn listed(s: &[u64; 2060], fds: &[u64]) -> Option<List>
+    ensures { result ≡ listed_of (take_of (holds_of (plain_of s.now)) fds.now).list }
+{
+    let all = &s[layout::ALL..layout::OUTSIDE];
+    let out = &s[layout::OUTSIDE..layout::SCHEME];
+    take_holds::listed(all, out, fds)
+}
+
+pub fn refused(s: &[u64; 2060], fds: &[u64]) -> Refusal
+    ensures { result ≡ refusal_of (holds_of (plain_of s.now)) fds.now }
+{
+    let all = &s[layout::ALL..layout::OUTSIDE];
+    let out = &s[layout::OUTSIDE..layout::SCHEME];
+    take_holds::refused(all, out, fds)
 }
 
 // The description that a word names, if it is open and has an outside hold.

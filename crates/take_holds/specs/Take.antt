@@ -1,5 +1,5 @@
 -- A list of holds taken from outside holds.
-use Rattle.std.specs.Prelude.{ℕ, Bool, cond, ◌||◌, Result, Ok, Err, List, ltb, eqb, get_or, length}
+use Rattle.std.specs.Prelude.{ℕ, Bool, cond, ◌||◌, Result, Ok, Err, Option, Some, None, List, ltb, eqb, get_or, length}
 use Rattle.answer.specs.declared.Refusal.{Refusal}
 use Rattle.answer.specs.declared.Refusal.TheVariants.{BadArgument, TooManyFds}
 use Rattle.fd_list.specs.declared.List.{List as Fds}
@@ -24,3 +24,12 @@ take_of h ds =
     cond (any (bad h ds) ds) (taken_as (Err BadArgument) h)
     (cond (ltb 16 (length ds)) (taken_as (Err TooManyFds) h)
     (taken_as (Ok (list_of ds)) (holds_with h.holds (less_all h.outside ds))))
+
+-- the list where it can be taken
+abbrev pub listed_of : Result Fds Refusal → Option Fds
+listed_of (Ok l) = Some l
+listed_of (Err r) = None
+
+-- what a list is refused for that cannot be taken; of one that can, a BadArgument for which nobody asks
+abbrev pub refusal_of : Holds → List ℕ → Refusal
+refusal_of h ds = cond (ltb 16 (length ds)) (cond (any (bad h ds) ds) BadArgument TooManyFds) BadArgument

@@ -5,7 +5,7 @@ ghost use Rattle.std.specs.Prelude.{◌≡◌, cond, ◌||◌, ltb, eqb, get_or}
 ghost use Rattle.answer.specs.declared.Refusal.TheVariants.{BadArgument, TooManyFds};
 ghost use Rattle.counts.specs.Counts.{times, less_all, any};
 ghost use Rattle.holds.specs.Holds.{holds_with, held_of};
-ghost use Rattle.take_holds.specs.Take.{bad_in, take_of};
+ghost use Rattle.take_holds.specs.Take.{bad_in, take_of, listed_of, refusal_of};
 
 use answer::Refusal;
 use fd_list::List;
@@ -72,19 +72,40 @@ fn long(all: &[u64], outside: &[u64], words: &[u64]) -> Refusal
     Refusal::TooManyFds
 }
 
-// The list against the counts of all holds and of outside ones: nothing is taken yet.
-pub fn look(all: &[u64], outside: &[u64], words: &[u64]) -> Result<List, Refusal>
-    ensures { result ≡ (take_of (holds_with all.now outside.now) words.now).list }
+// The list against the counts of all holds and of outside ones, where it can be taken: nothing is taken yet. An `Option`, since in a
+// `Result` a refusal shares the list's first byte, and the list is then copied in pieces that overlap.
+pub fn listed(all: &[u64], outside: &[u64], words: &[u64]) -> Option<List>
+    ensures { result ≡ listed_of (take_of (holds_with all.now outside.now) words.now).list }
 {
     if 16 < words.len() {
-        return Err(long(all, outside, words));
+        return None;
     }
     let mut at = [ids::BLANK; 16];
     for i in 0..words.len() {
-        at[i] = held_after(all, outside, &words[..i], words[i]).ok_or(Refusal::BadArgument)?;
+        at[i] = held_after(all, outside, &words[..i], words[i])?;
     }
-    Ok(List {
+    Some(List {
         at,
         len: words.len() as u8,
     })
+}
+
+// What a list that cannot be taken is refused for.
+pub fn refused(all: &[u64], outside: &[u64], words: &[u64]) -> Refusal
+    ensures { result ≡ refusal_of (holds_with all.now outside.now) words.now }
+{
+    if 16 < words.len() {
+        return long(all, outside, words);
+    }
+    Refusal::BadArgument
+}
+
+// The two in one: the list, or what it is refused for.
+pub fn look(all: &[u64], outside: &[u64], words: &[u64]) -> Result<List, Refusal>
+    ensures { result ≡ (take_of (holds_with all.now outside.now) words.now).list }
+{
+    match listed(all, outside, words) {
+        Some(list) => Ok(list),
+        None => Err(refused(all, outside, words)),
+    }
 }
