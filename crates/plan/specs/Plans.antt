@@ -1,10 +1,11 @@
 -- A completion entry as a plan on one slot and numbers: the decision that it comes to, whatever the counts and the handles are.
-use Rattle.std.specs.Prelude.{ℕ, suc, ◌≡◌, false, Option, Some, None, List, ◌++◌, eqb, set}
+use Rattle.std.specs.Prelude.{ℕ, suc, ◌≡◌, Bool, false, ◌||◌, ◌&&◌, Option, Some, None, List, ◌++◌, eqb, ltb, set}
 use Rattle.answer.specs.declared.Refusal.{Refusal}
 use Rattle.answer.specs.Numbered.{refusal_number}
 use Rattle.closes.specs.declared.Reason.TheVariants.{Replied}
 use Rattle.closes.specs.Closes.{only, closes}
 use Rattle.counts.specs.Counts.{lasts}
+use Rattle.effect.specs.declared.EffectWords.{EffectWords}
 use Rattle.effect.specs.Effect.{crossed}
 use Rattle.fd_list.specs.Lists.{numbers}
 use Rattle.handles.specs.declared.Handles.{Handles}
@@ -30,6 +31,10 @@ abbrev pub replied_of : Offer → Slot → ℕ → ℕ → Holds → Handles →
 replied_of (offer.Regular r e b) v t k h n = respond_of v t (result r e b) h n
 replied_of (offer.Fd w) v t k h n = by_descriptor v t k h n
 replied_of offer.Listed v t k h n = respond_of v t listed h n
+
+-- what a plan's first effect can be: none, a wake of a caller, which has 32 bits, or an event
+abbrev pub is_first_effect : EffectWords → Bool
+is_first_effect e = (eqb e.kind 0 && (eqb e.a 0 && eqb e.b 0)) || ((eqb e.kind 1 && ltb e.a 0x1_0000_0000) || eqb e.kind 4)
 
 -- the effects: a wake or an event, the span, the closes of the list that goes, those of the reply's own
 abbrev pub effects_by : Plan → Holds → List ℕ

@@ -2,12 +2,12 @@
 // src/scheme/user.rs, lines 792 to 848 and 920 to 1008): nothing is done yet.
 #![tactic(auto)]
 
-ghost use Rattle.std.specs.Prelude.{◌≡◌, ℕ, suc, ◌&&◌, leb, eqb};
+ghost use Rattle.std.specs.Prelude.{◌≡◌, true, ℕ, suc, ◌&&◌, leb, eqb};
 ghost use Rattle.answer.specs.Numbered.{refusal_number};
 ghost use Rattle.events.specs.Entry.{refused_of, one, respond_of, by_descriptor, obtain_entry_of, decision_of};
 ghost use Rattle.reply_parts.specs.Parts.{offered};
 ghost use Rattle.wish.specs.Wishes.{handle_in};
-ghost use Rattle.plan.specs.Plans.{Holding, replied_of, nothing_of, Plans};
+ghost use Rattle.plan.specs.Plans.{Holding, replied_of, nothing_of, is_first_effect, Plans};
 
 use answer::Refusal;
 use closes::Reason;
@@ -62,7 +62,8 @@ fn nothing(v: Slot) -> Plan
 
 // Nothing changes.
 fn refused(v: Slot, refusal: Refusal) -> Plan
-    ensures { (k x : ℕ) → Plans result k x (λ h n. refused_of v h n (refusal_number refusal)) }
+    ensures plans { (k x : ℕ) → Plans result k x (λ h n. refused_of v h n (refusal_number refusal)) }
+    ensures first { is_first_effect result.first ≡ true }
 {
     Plan {
         refusal: Some(refusal),
@@ -72,7 +73,8 @@ fn refused(v: Slot, refusal: Refusal) -> Plan
 
 // `respond`, by the slot's phase.
 fn respond(v: Slot, tag: u64, offer: Offer) -> Plan
-    ensures { (k x : ℕ) → Plans result k x (λ h n. respond_of v tag (offered offer) h n) }
+    ensures plans { (k x : ℕ) → Plans result k x (λ h n. respond_of v tag (offered offer) h n) }
+    ensures first { is_first_effect result.first ≡ true }
 {
     match slot::phase_of(v) {
         Phase::Vacant => refused(v, Refusal::BadDescriptor),
@@ -109,7 +111,8 @@ fn respond(v: Slot, tag: u64, offer: Offer) -> Plan
 // What responding came to, with the description out of handle `fd`: it is emptied, whatever the tag says; refused by its tag, the
 // hold is dropped.
 fn from_handle(r: Plan, v: Slot, fd: Handle, word: u64) -> Plan
-    ensures { (t x : ℕ) → x ≡ suc word → ((j y : ℕ) → Plans r j y (λ h n. respond_of v t (one word) h n)) → Plans result fd.0 x (λ h n. by_descriptor v t fd.0 h n) }
+    ensures plans { (t x : ℕ) → x ≡ suc word → ((j y : ℕ) → Plans r j y (λ h n. respond_of v t (one word) h n)) → Plans result fd.0 x (λ h n. by_descriptor v t fd.0 h n) }
+    ensures first { is_first_effect r.first ≡ true → is_first_effect result.first ≡ true }
 {
     let empty = Some(Change {
         handle: fd,
@@ -129,7 +132,8 @@ fn from_handle(r: Plan, v: Slot, fd: Handle, word: u64) -> Plan
 
 // A reply of any kind.
 fn reply(v: Slot, tag: u64, offer: Offer, fd: Handle) -> Plan
-    ensures { (x : ℕ) → Holding offer x → Plans result fd.0 x (λ h n. replied_of offer v tag fd.0 h n) }
+    ensures plans { (x : ℕ) → Holding offer x → Plans result fd.0 x (λ h n. replied_of offer v tag fd.0 h n) }
+    ensures first { is_first_effect result.first ≡ true }
 {
     let r = respond(v, tag, offer);
     match offer {
@@ -148,7 +152,8 @@ fn is_free(fd: Handle, held: u64) -> bool
 
 // The first of a waiting call's list goes into handle `fd`; where that is full or over 63, its hold is dropped.
 fn obtain(v: Slot, fd: Handle, held: u64) -> Plan
-    ensures { Plans result fd.0 held (λ h n. obtain_entry_of v fd.0 h n) }
+    ensures plans { Plans result fd.0 held (λ h n. obtain_entry_of v fd.0 h n) }
+    ensures first { is_first_effect result.first ≡ true }
 {
     match slot::phase_of(v) {
         Phase::Vacant => refused(v, Refusal::Invalid),
@@ -185,7 +190,8 @@ fn obtain(v: Slot, fd: Handle, held: u64) -> Plan
 
 // `handle_parsed`: v stands at the entry's tag, and the handle that it names holds `held`.
 pub fn handle_parsed(p: Result<ParsedCqe, CqeError>, v: Slot, held: u64) -> Plan
-    ensures { Plans result (handle_in p) held (λ h n. decision_of p v h n) }
+    ensures plans { Plans result (handle_in p) held (λ h n. decision_of p v h n) }
+    ensures first { is_first_effect result.first ≡ true }
 {
     let fd = wish::handle_in(p);
     match wish::wished(p, held) {
@@ -196,5 +202,34 @@ pub fn handle_parsed(p: Result<ParsedCqe, CqeError>, v: Slot, held: u64) -> Plan
         Some(Wish::Reply(tag, offer)) => reply(v, tag, offer, fd),
         Some(Wish::Obtain) => obtain(v, fd, held),
         None => refused(v, Refusal::Invalid),
+    }
+}
+
+#[cfg(test)]
+mod tests {
+    use super::*;
+    use ids::Tag;
+
+    // A reply wakes its call's caller, an event entry is told as an event, and what is refused tells nothing.
+    #[test]
+    fn first_effect(rt: HostRuntime) {
+        let call = slot::waiting(100, fd_list::empty());
+        let reply = Ok(ParsedCqe::RegularResponse {
+            tag: Tag(5),
+            res: Ok(0),
+            extra0: 0,
+        });
+        let event = Ok(ParsedCqe::TriggerFevent {
+            number: 7,
+            flags: 2,
+        });
+        for (entry, want) in [
+            (reply, [1, 100, 5]),
+            (event, [4, 7, 2]),
+            (Err(CqeError::UnknownKind), [0, 0, 0]),
+        ] {
+            let first = handle_parsed(entry, call, 0).first;
+            assert_eq!(rt; [first.kind, first.a, first.b], want);
+        }
     }
 }

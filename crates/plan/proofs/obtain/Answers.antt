@@ -3,5 +3,5 @@ use mathlib.Core.Path.{sym, ◌∙◌}
 use Rattle.plan.proofs.Laws.{obtain_vacant}
 use Rattle.plan.proofs.obtain.Goals as goal
 
-pub returns-in-Vacant : goal.returns-in-Vacant
-returns-in-Vacant c = let a = c.args in obtain_vacant a.v a.fd a.held c.refused.result (sym c.phase_of.ensures ∙ c.in-Vacant.is) c.refused.ensures
+pub returns-in-Vacant-clause-plans : goal.returns-in-Vacant-clause-plans
+returns-in-Vacant-clause-plans c = let a = c.args in obtain_vacant a.v a.fd a.held c.refused.result (sym c.phase_of.ensures ∙ c.in-Vacant.is) c.refused.ensures.plans
